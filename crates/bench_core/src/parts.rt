@@ -9,7 +9,7 @@ use crate::rows::{key_of, sort_of};
 use anyhow::Result;
 use mvo_chain::{Chains, VersionNo};
 use mvo_hash::{HashIndex, Heads};
-use mvo_range::{Place, RangeIndex};
+use mvo_range::{RangeIndex, SortPlace};
 use mvo_types::{Row, Rows, Stamp, TxId};
 use mvo_versions::Versions;
 use mvo_word::Word;
@@ -155,7 +155,7 @@ fn add_links(look: &Look<'_>, index: &mut HashIndex) -> Result<(), AllocError> {
 fn order(look: Look<'_>) -> Result<()> {
     let mut order = RangeIndex::new(look.alloc());
     for key in 0..look.rows {
-        order.add(Place::new(key_of(key), sort_of(key)), 1)?;
+        order.add(SortPlace::new(key_of(key), sort_of(key)), 1)?;
     }
     look.tell(&order)
 }
@@ -163,7 +163,7 @@ fn order(look: Look<'_>) -> Result<()> {
 fn rising(look: Look<'_>) -> Result<()> {
     let mut order = RangeIndex::new(look.alloc());
     for key in 0..look.rows {
-        order.add(Place::new(key_of(key), key), 1)?;
+        order.add(SortPlace::new(key_of(key), key), 1)?;
     }
     look.tell(&order)
 }
@@ -173,10 +173,10 @@ fn built(look: Look<'_>) -> Result<()> {
     look.tell(&order)
 }
 
-fn places(look: &Look<'_>) -> Result<Vec<(Place, u32)>, AllocError> {
+fn places(look: &Look<'_>) -> Result<Vec<(SortPlace, u32)>, AllocError> {
     let mut places = Vec::with_capacity(look.alloc(), look.rows as usize)?;
     for key in 0..look.rows {
-        places.push((Place::new(key_of(key), key), 1))?;
+        places.push((SortPlace::new(key_of(key), key), 1))?;
     }
     Ok(places)
 }

@@ -8,7 +8,7 @@ use Rattle.std.specs.contracts.fs.File as File
 use Rattle.std.specs.contracts.fs.FileRead.TheImpl as reads
 use Rattle.std.specs.contracts.fs.FileWrite.TheImpl as writes
 use Rattle.std.specs.contracts.fs.FileSeek.TheImpl as seeks
-use Rattle.mvo_disk.specs.contracts.record.Record as Record
+use Rattle.mvo_disk.specs.contracts.disk_history.DiskHistory as Record
 use Rattle.mvo_disk.specs.contracts.folder.Folder as Folder
 use Rattle.mvo_disk.specs.contracts.dir_disk.DirDisk as DirDisk
 

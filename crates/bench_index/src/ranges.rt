@@ -1,6 +1,6 @@
 use crate::watch::{mixed, pick, tell};
 use anyhow::Result;
-use mvo_range::{Place, RangeIndex};
+use mvo_range::{RangeIndex, SortPlace};
 use std::alloc::{AllocError, Global};
 use std::collections::BTreeMap;
 use std::rt::Clock;
@@ -10,15 +10,15 @@ const WALKS: u64 = 20_000;
 
 const STEPS: usize = 100;
 
-const LAST: Place = Place {
+const LAST: SortPlace = SortPlace {
     table: 3,
     sort: u64::MAX,
     key: u64::MAX,
 };
 
-fn place_of(index: u64) -> Place {
+fn place_of(index: u64) -> SortPlace {
     let number = mixed(index);
-    Place {
+    SortPlace {
         table: 3,
         sort: number >> 8,
         key: number,
@@ -89,7 +89,7 @@ fn build<R: AllocGlobal + Clock + Eprint>(rt: &R, index: &RangeIndex, count: u64
     Ok(len)
 }
 
-fn entries_of(alloc: Global, index: &RangeIndex) -> Result<Vec<(Place, u32)>, AllocError> {
+fn entries_of(alloc: Global, index: &RangeIndex) -> Result<Vec<(SortPlace, u32)>, AllocError> {
     let mut entries = Vec::new(alloc);
     for entry in index.between(3, 0, u64::MAX) {
         entries.push(entry)?;
@@ -97,7 +97,7 @@ fn entries_of(alloc: Global, index: &RangeIndex) -> Result<Vec<(Place, u32)>, Al
     Ok(entries)
 }
 
-fn len_of_built(alloc: Global, entries: Vec<(Place, u32)>) -> Result<u64, AllocError> {
+fn len_of_built(alloc: Global, entries: Vec<(SortPlace, u32)>) -> Result<u64, AllocError> {
     let built = RangeIndex::from_entries(alloc, entries)?;
     Ok(built.len() as u64)
 }
@@ -113,13 +113,13 @@ fn remove_all(index: &mut RangeIndex, count: u64) -> u64 {
 }
 
 fn standard<R: AllocGlobal + Clock + Eprint>(rt: &R, count: u64) -> Result<u64> {
-    let mut index: BTreeMap<Place, u32> = BTreeMap::new(rt.alloc());
+    let mut index: BTreeMap<SortPlace, u32> = BTreeMap::new(rt.alloc());
     time_standard(rt, &mut index, count)
 }
 
 fn time_standard<R: Clock + Eprint>(
     rt: &R,
-    index: &mut BTreeMap<Place, u32>,
+    index: &mut BTreeMap<SortPlace, u32>,
     count: u64,
 ) -> Result<u64> {
     let start = Instant::now(rt)?;
@@ -135,17 +135,17 @@ fn time_standard<R: Clock + Eprint>(
     Ok(walked.wrapping_add(len).wrapping_add(removed))
 }
 
-fn insert_all(index: &mut BTreeMap<Place, u32>, count: u64) -> Result<(), AllocError> {
+fn insert_all(index: &mut BTreeMap<SortPlace, u32>, count: u64) -> Result<(), AllocError> {
     for at in 0..count {
         index.insert(place_of(at), (at & 0xFFFF) as u32)?;
     }
     Ok(())
 }
 
-fn walk_all_standard(index: &BTreeMap<Place, u32>, count: u64) -> u64 {
+fn walk_all_standard(index: &BTreeMap<SortPlace, u32>, count: u64) -> u64 {
     let mut sum = 0u64;
     for at in 0..WALKS {
-        let from = Place {
+        let from = SortPlace {
             key: 0,
             ..place_of(pick(at, count))
         };
@@ -158,7 +158,7 @@ fn walk_all_standard(index: &BTreeMap<Place, u32>, count: u64) -> u64 {
     sum
 }
 
-fn remove_all_standard(index: &mut BTreeMap<Place, u32>, count: u64) -> u64 {
+fn remove_all_standard(index: &mut BTreeMap<SortPlace, u32>, count: u64) -> u64 {
     let mut sum = 0u64;
     for at in 0..count {
         if let Some(number) = index.remove(&place_of(at)) {

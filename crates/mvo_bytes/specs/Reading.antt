@@ -9,14 +9,14 @@ abbrev pub ◌>>=◌ : {A B : Type 0} → Option A → (A → Option B) → Opti
 None >>= f = None
 
 -- what a function found, seen by view, is what reading gives
-abbrev pub Gives : {X Y : Type 0} → (X → Y) → Option X → Option Y → Type 0
-Gives view (Some x) read = read ≡ Some (view x)
-Gives view None read = read ≡ None
+abbrev pub ReadingGives : {X Y : Type 0} → (X → Y) → Option X → Option Y → Type 0
+ReadingGives view (Some x) read = read ≡ Some (view x)
+ReadingGives view None read = read ≡ None
 
 -- the same of a value and the bytes after it
 abbrev pub Reads : {X Y : Type 0} → (X → Y) → Option (X × Bor (List ℕ)) → Option (Y × List ℕ) →
     Type 0
-Reads view found read = Gives (λ x. (view x.0, x.1.now)) found read
+Reads view found read = ReadingGives (λ x. (view x.0, x.1.now)) found read
 
 -- a number of n bytes
 unfoldable pub number_at : ℕ → List ℕ → Option (ℕ × List ℕ)

@@ -1,13 +1,13 @@
 //! Numbers at the front of some bytes, the lowest byte first, with the bytes behind them.
 ghost use Rattle.std.specs.Prelude.{◌≡◌, List, length, Option, Some, None};
-ghost use Rattle.mvo_bytes.specs.Reading.{Gives, number_at};
+ghost use Rattle.mvo_bytes.specs.Reading.{ReadingGives, number_at};
 
 use byteorder::{ByteOrder, LittleEndian};
 
 /// A number of one byte. None where there is none.
 #[tactic(auto, unfolding(crate::specs::Reading::number_at))]
 pub fn u8_at(bytes: &[u8]) -> Option<(u8, &[u8])>
-    ensures { Gives (λ x. (x.0, x.1.now)) result (number_at 1 bytes.now) }
+    ensures { ReadingGives (λ x. (x.0, x.1.now)) result (number_at 1 bytes.now) }
 {
     if bytes.len() < 1 {
         return None;
@@ -19,7 +19,7 @@ pub fn u8_at(bytes: &[u8]) -> Option<(u8, &[u8])>
 /// A number of two bytes. None where there are fewer.
 #[tactic(auto, unfolding(crate::specs::Reading::number_at))]
 pub fn u16_at(bytes: &[u8]) -> Option<(u16, &[u8])>
-    ensures { Gives (λ x. (x.0, x.1.now)) result (number_at 2 bytes.now) }
+    ensures { ReadingGives (λ x. (x.0, x.1.now)) result (number_at 2 bytes.now) }
 {
     if bytes.len() < 2 {
         return None;
@@ -30,7 +30,7 @@ pub fn u16_at(bytes: &[u8]) -> Option<(u16, &[u8])>
 /// A number of four bytes. None where there are fewer.
 #[tactic(auto, unfolding(crate::specs::Reading::number_at))]
 pub fn u32_at(bytes: &[u8]) -> Option<(u32, &[u8])>
-    ensures { Gives (λ x. (x.0, x.1.now)) result (number_at 4 bytes.now) }
+    ensures { ReadingGives (λ x. (x.0, x.1.now)) result (number_at 4 bytes.now) }
 {
     if bytes.len() < 4 {
         return None;
@@ -41,7 +41,7 @@ pub fn u32_at(bytes: &[u8]) -> Option<(u32, &[u8])>
 /// A number of eight bytes. None where there are fewer.
 #[tactic(auto, unfolding(crate::specs::Reading::number_at))]
 pub fn u64_at(bytes: &[u8]) -> Option<(u64, &[u8])>
-    ensures { Gives (λ x. (x.0, x.1.now)) result (number_at 8 bytes.now) }
+    ensures { ReadingGives (λ x. (x.0, x.1.now)) result (number_at 8 bytes.now) }
 {
     if bytes.len() < 8 {
         return None;

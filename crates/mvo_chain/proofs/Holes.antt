@@ -10,7 +10,7 @@ use Rattle.std.proofs.lemmas.Option.{slice_get_within, slice_get-get_or, get_or_
 use Rattle.mvo_chain.specs.declared.version.Version.{Version}
 use Rattle.mvo_chain.specs.declared.version.VersionNo.{VersionNo}
 use Rattle.mvo_chain.specs.Slots.{Slots, hole_count, with_room}
-use Rattle.mvo_chain.specs.Sound.{IsSound}
+use Rattle.mvo_chain.specs.Sound.{IsChainSound}
 
 abbrev pub no_version : Option Version
 no_version = None
@@ -67,7 +67,7 @@ number_last front number d k e = ap (λ (i : ℕ). (get_or (front ++ number ∷ 
 length-last : {X : Type 0} (front : List X) (x : X) → length (front ++ x ∷ []) ≡ length front + 1
 length-last front x = omega (arith, length-append front (x ∷ []))
 
-filled_last : (slots : Slots) (rest : List VersionNo) (number : VersionNo) (version : Version) (room : ℕ) → IsSound slots (rest ++ number ∷ []) room → IsSound (set slots number.0 (Some version)) rest room
+filled_last : (slots : Slots) (rest : List VersionNo) (number : VersionNo) (version : Version) (room : ℕ) → IsChainSound slots (rest ++ number ∷ []) room → IsChainSound (set slots number.0 (Some version)) rest room
 filled_last slots rest number version room sound =
     let size : length (rest ++ number ∷ []) ≡ length rest + 1 = length-last rest number in
     let hole : slice_get slots number.0 ≡ Some None =
@@ -88,11 +88,11 @@ filled_last slots rest number version room sound =
     }
 
 -- the last empty slot gets a version
-pub filled : (slots slots' : Slots) (holes rest : List VersionNo) (number : VersionNo) (version : Version) (room room' : ℕ) → room' ≡ room → holes ≡ rest ++ number ∷ [] → set slots number.0 (Some version) ≡ slots' → IsSound slots holes room → IsSound slots' rest room'
+pub filled : (slots slots' : Slots) (holes rest : List VersionNo) (number : VersionNo) (version : Version) (room room' : ℕ) → room' ≡ room → holes ≡ rest ++ number ∷ [] → set slots number.0 (Some version) ≡ slots' → IsChainSound slots holes room → IsChainSound slots' rest room'
 filled slots slots' holes rest number version room room' same was is sound =
-    subst (λ (s : Slots). IsSound s rest room') is (subst (λ (r : ℕ). IsSound (set slots number.0 (Some version)) rest r) (sym same) (filled_last slots rest number version room (subst (λ (h : List VersionNo). IsSound slots h room) was sound)))
+    subst (λ (s : Slots). IsChainSound s rest room') is (subst (λ (r : ℕ). IsChainSound (set slots number.0 (Some version)) rest r) (sym same) (filled_last slots rest number version room (subst (λ (h : List VersionNo). IsChainSound slots h room) was sound)))
 
-emptied_last : (slots : Slots) (holes : List VersionNo) (number : VersionNo) (room room' : ℕ) → room ≤ room' → is_some (get_or slots number.0 None) ≡ true → IsSound slots holes room → IsSound (set slots number.0 None) (holes ++ number ∷ []) room'
+emptied_last : (slots : Slots) (holes : List VersionNo) (number : VersionNo) (room room' : ℕ) → room ≤ room' → is_some (get_or slots number.0 None) ≡ true → IsChainSound slots holes room → IsChainSound (set slots number.0 None) (holes ++ number ∷ []) room'
 emptied_last slots holes number room room' larger live sound =
     let size : length (holes ++ number ∷ []) ≡ length holes + 1 = length-last holes number in
     let within : number.0 < length slots = live_within slots number.0 live in
@@ -122,12 +122,12 @@ emptied_last slots holes number room room' larger live sound =
     }
 
 -- a slot with a version is emptied
-pub emptied : (slots slots' : Slots) (holes holes' : List VersionNo) (number : VersionNo) (room room' : ℕ) → room ≤ room' → is_some (get_or slots number.0 None) ≡ true → set slots number.0 None ≡ slots' → holes ++ number ∷ [] ≡ holes' → IsSound slots holes room → IsSound slots' holes' room'
+pub emptied : (slots slots' : Slots) (holes holes' : List VersionNo) (number : VersionNo) (room room' : ℕ) → room ≤ room' → is_some (get_or slots number.0 None) ≡ true → set slots number.0 None ≡ slots' → holes ++ number ∷ [] ≡ holes' → IsChainSound slots holes room → IsChainSound slots' holes' room'
 emptied slots slots' holes holes' number room room' larger live is stacked sound =
-    subst (λ (s : Slots). IsSound s holes' room') is
-    (subst (λ (h : List VersionNo). IsSound (set slots number.0 None) h room') stacked (emptied_last slots holes number room room' larger live sound))
+    subst (λ (s : Slots). IsChainSound s holes' room') is
+    (subst (λ (h : List VersionNo). IsChainSound (set slots number.0 None) h room') stacked (emptied_last slots holes number room room' larger live sound))
 
-grown_last : (slots : Slots) (holes : List VersionNo) (number : VersionNo) (room room' : ℕ) → number.0 ≡ length slots → length slots < room' → length slots < 2 ^ 32 → IsSound slots holes room → IsSound (slots ++ None ∷ []) (holes ++ number ∷ []) room'
+grown_last : (slots : Slots) (holes : List VersionNo) (number : VersionNo) (room room' : ℕ) → number.0 ≡ length slots → length slots < room' → length slots < 2 ^ 32 → IsChainSound slots holes room → IsChainSound (slots ++ None ∷ []) (holes ++ number ∷ []) room'
 grown_last slots holes number room room' is roomy numbered sound =
     let size : length (holes ++ number ∷ []) ≡ length holes + 1 = length-last holes number in
     let longer : length (slots ++ None ∷ []) ≡ length slots + 1 = length-last slots None in
@@ -159,13 +159,13 @@ grown_last slots holes number room room' is roomy numbered sound =
     }
 
 -- an empty slot more
-pub grown : (slots slots' : Slots) (holes holes' : List VersionNo) (number : VersionNo) (room room' : ℕ) → number.0 ≡ length slots → length slots < room' → length slots < 2 ^ 32 → slots' ≡ slots ++ None ∷ [] → holes' ≡ holes ++ number ∷ [] → IsSound slots holes room → IsSound slots' holes' room'
+pub grown : (slots slots' : Slots) (holes holes' : List VersionNo) (number : VersionNo) (room room' : ℕ) → number.0 ≡ length slots → length slots < room' → length slots < 2 ^ 32 → slots' ≡ slots ++ None ∷ [] → holes' ≡ holes ++ number ∷ [] → IsChainSound slots holes room → IsChainSound slots' holes' room'
 grown slots slots' holes holes' number room room' at roomy numbered is stacked sound =
-    subst (λ (s : Slots). IsSound s holes' room') (sym is)
-    (subst (λ (h : List VersionNo). IsSound (slots ++ None ∷ []) h room') (sym stacked) (grown_last slots holes number room room' at roomy numbered sound))
+    subst (λ (s : Slots). IsChainSound s holes' room') (sym is)
+    (subst (λ (h : List VersionNo). IsChainSound (slots ++ None ∷ []) h room') (sym stacked) (grown_last slots holes number room room' at roomy numbered sound))
 
 -- a version is replaced by another
-pub changed : (slots : Slots) (holes : List VersionNo) (i : ℕ) (version : Version) (room : ℕ) → is_some (get_or slots i None) ≡ true → IsSound slots holes room → IsSound (set slots i (Some version)) holes room
+pub changed : (slots : Slots) (holes : List VersionNo) (i : ℕ) (version : Version) (room : ℕ) → is_some (get_or slots i None) ≡ true → IsChainSound slots holes room → IsChainSound (set slots i (Some version)) holes room
 changed slots holes i version room live sound =
     let within : i < length slots = live_within slots i live in
     let counts : hole_count (set slots i (Some version)) + emptiness (get_or slots i None) ≡ hole_count slots + 0 = hole_count-set slots i (Some version) within in

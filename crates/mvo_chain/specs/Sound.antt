@@ -4,7 +4,7 @@ use Rattle.mvo_chain.specs.declared.version.VersionNo.{VersionNo}
 use Rattle.mvo_chain.specs.Slots.{Slots, IsHole, hole_count}
 
 -- each empty slot stands on the stack once, and the stack has room for every slot's number
-pub record IsSound (slots : Slots) (holes : List VersionNo) (room : ℕ) : Type 0 where
+pub record IsChainSound (slots : Slots) (holes : List VersionNo) (room : ℕ) : Type 0 where
   pub counted : hole_count slots ≡ length holes
   pub empty : (k : ℕ) (number : VersionNo) → k < length holes
       → IsHole slots (slice_index_or holes k number)

@@ -26,13 +26,13 @@ pub struct Chains {
 impl Model for Chains {
     ghost use Rattle.std.specs.Prelude.{vec_capacity};
     ghost use Rattle.mvo_chain.specs.Slots.{Slots};
-    ghost use Rattle.mvo_chain.specs.Sound.{IsSound};
+    ghost use Rattle.mvo_chain.specs.Sound.{IsChainSound};
 
     ghost Value = { Slots };
 
     ghost view = { λ c. c.slots };
 
-    ghost invariant = { λ c. IsSound c.slots c.holes.items (vec_capacity c.holes) };
+    ghost invariant = { λ c. IsChainSound c.slots c.holes.items (vec_capacity c.holes) };
 }
 
 // Makes room for so many numbers. A larger stack takes the place of the empty one, since a growth

@@ -8,9 +8,9 @@ use Rattle.std.proofs.lemmas.List.{reverse-append, append-nil}
 use Rattle.mvo_types.specs.declared.row.RowKey.{RowKey}
 use Rattle.mvo_types.specs.Keys.{key_cmp}
 use Rattle.mvo_types.proofs.Maps.{keys_total}
-use Rattle.mvo_ckpt.specs.Writes.{Stamped, is_at, is_written, last_writes, record_of, gone_at}
+use Rattle.mvo_ckpt.specs.Writes.{Stamped, is_write_at, is_written, last_writes, record_of, gone_at}
 use Rattle.mvo_places.specs.Places.{PlaceMap, number_of}
-use Rattle.mvo_ckpt.specs.Walk.{Walk, none_met, meet, walk}
+use Rattle.mvo_ckpt.specs.Walk.{Walk, none_met, meet, walk_writes}
 use Rattle.mvo_ckpt.proofs.Lasts.{key_at}
 
 -- the place of a write's key, as one number
@@ -39,10 +39,10 @@ seen_more : (m : map.FinMap key_cmp ℕ) (k q : RowKey) (w : Stamped) (ws : List
 seen_more m k q w ws same is =
     ap is_some (map.get-insert keys_total m k 0 q)
     ∙ some_or _ (map.get m q)
-    ∙ ap (λ b. b || map.contains_key m q) (ap (λ x. is_at q (w.0, (x, w.1.1))) (sym same))
-    ∙ ap (λ b. is_at q w || b) is
+    ∙ ap (λ b. b || map.contains_key m q) (ap (λ x. is_write_at q (w.0, (x, w.1.1))) (sym same))
+    ∙ ap (λ b. is_write_at q w || b) is
 
-one_more_met : (at : PlaceMap) (w : Stamped) (ws : List Stamped) → IsMet at ws (walk at ws none_met) → IsMet at (w ∷ ws) (walk at (w ∷ ws) none_met)
+one_more_met : (at : PlaceMap) (w : Stamped) (ws : List Stamped) → IsMet at ws (walk_writes at ws none_met) → IsMet at (w ∷ ws) (walk_writes at (w ∷ ws) none_met)
 one_more_met at w ws before = go (is_written ws (key_at w)) refl
   where
     passed : is_written ws (key_at w) ≡ true → last_writes (w ∷ ws) ≡ last_writes ws
@@ -51,13 +51,13 @@ one_more_met at w ws before = go (is_written ws (key_at w)) refl
     kept : is_written ws (key_at w) ≡ false → last_writes (w ∷ ws) ≡ w ∷ last_writes ws
     kept is = ap (λ b. cond b (last_writes ws) (w ∷ last_writes ws)) is
 
-    step_is : (b : Bool) → is_written ws (key_at w) ≡ b → walk at (w ∷ ws) none_met ≡ meet at b w (walk at ws none_met)
-    step_is b is = ap (λ t. meet at t w (walk at ws none_met)) (before.seen (key_at w) ∙ is)
+    step_is : (b : Bool) → is_written ws (key_at w) ≡ b → walk_writes at (w ∷ ws) none_met ≡ meet at b w (walk_writes at ws none_met)
+    step_is b is = ap (λ t. meet at t w (walk_writes at ws none_met)) (before.seen (key_at w) ∙ is)
 
-    seen_is : (k : RowKey) → map.contains_key (map.insert (walk at ws none_met).seen (key_at w) 0) k ≡ is_written (w ∷ ws) k
-    seen_is k = seen_more (walk at ws none_met).seen (key_at w) k w ws refl (before.seen k)
+    seen_is : (k : RowKey) → map.contains_key (map.insert (walk_writes at ws none_met).seen (key_at w) 0) k ≡ is_written (w ∷ ws) k
+    seen_is k = seen_more (walk_writes at ws none_met).seen (key_at w) k w ws refl (before.seen k)
 
-    go : (b : Bool) → is_written ws (key_at w) ≡ b → IsMet at (w ∷ ws) (walk at (w ∷ ws) none_met)
+    go : (b : Bool) → is_written ws (key_at w) ≡ b → IsMet at (w ∷ ws) (walk_writes at (w ∷ ws) none_met)
     go true is = record {
       seen = λ k. ap (λ (s : Walk). map.contains_key s.seen k) (step_is true is) ∙ seen_is k;
       records = ap (λ (s : Walk). s.records) (step_is true is) ∙ before.records ∙ ap (λ (l : List Stamped). reverse (filter_map record_of l)) (sym (passed is));
@@ -66,11 +66,11 @@ one_more_met at w ws before = go (is_written ws (key_at w)) refl
     }
     go false is = record {
       seen = λ k. ap (λ (s : Walk). map.contains_key s.seen k) (step_is false is) ∙ seen_is k;
-      records = ap (λ (s : Walk). s.records) (step_is false is) ∙ pushed (walk at ws none_met).records (record_of w) (filter_map record_of (last_writes ws)) before.records ∙ ap (λ (l : List Stamped). reverse (filter_map record_of l)) (sym (kept is));
-      gone = ap (λ (s : Walk). s.gone) (step_is false is) ∙ pushed (walk at ws none_met).gone (gone_at w) (filter_map gone_at (last_writes ws)) before.gone ∙ ap (λ (l : List Stamped). reverse (filter_map gone_at l)) (sym (kept is));
-      places = ap (λ (s : Walk). s.places) (step_is false is) ∙ pushed (walk at ws none_met).places (number_at at w) (filter_map (number_at at) (last_writes ws)) before.places ∙ ap (λ (l : List Stamped). reverse (filter_map (number_at at) l)) (sym (kept is));
+      records = ap (λ (s : Walk). s.records) (step_is false is) ∙ pushed (walk_writes at ws none_met).records (record_of w) (filter_map record_of (last_writes ws)) before.records ∙ ap (λ (l : List Stamped). reverse (filter_map record_of l)) (sym (kept is));
+      gone = ap (λ (s : Walk). s.gone) (step_is false is) ∙ pushed (walk_writes at ws none_met).gone (gone_at w) (filter_map gone_at (last_writes ws)) before.gone ∙ ap (λ (l : List Stamped). reverse (filter_map gone_at l)) (sym (kept is));
+      places = ap (λ (s : Walk). s.places) (step_is false is) ∙ pushed (walk_writes at ws none_met).places (number_at at w) (filter_map (number_at at) (last_writes ws)) before.places ∙ ap (λ (l : List Stamped). reverse (filter_map (number_at at) l)) (sym (kept is));
     }
 
-pub all_met : (at : PlaceMap) (ws : List Stamped) → IsMet at ws (walk at ws none_met)
+pub all_met : (at : PlaceMap) (ws : List Stamped) → IsMet at ws (walk_writes at ws none_met)
 all_met at [] = record { seen = λ k. ap is_some (map.get-empty key_cmp k); records = refl; gone = refl; places = refl }
 all_met at (w ∷ ws) = one_more_met at w ws (all_met at ws)

@@ -5,7 +5,7 @@ use Rattle.mvo_types.specs.RowData.{content_of}
 use Rattle.mvo_types.specs.Write.{Effect}
 use Rattle.mvo_types.specs.Write.Effect.{Put, Delete}
 use Rattle.mvo_pair.specs.Data.{EntryData}
-use Rattle.mvo_ckpt.specs.Writes.{Stamped, writes_of, is_at, is_written, last_writes, later_of, last_write, record_of, records_of}
+use Rattle.mvo_ckpt.specs.Writes.{Stamped, writes_of, is_write_at, is_written, last_writes, later_write, last_write, record_of, records_of}
 use Rattle.mvo_ckpt.specs.Laws.{AreLastPuts}
 use Rattle.mvo_places.proofs.Members.{Among, among_from, contains_from, among_filter_map, among_filter_mapped}
 use Rattle.mvo_places.proofs.Keys.{key_same, eq_self}
@@ -17,11 +17,11 @@ last_among [] w a = absurd a
 last_among (v ∷ ws) w a = go (is_written ws (key_at v)) refl a (last_among ws w)
   where
     again : last_write ws (key_at w) ≡ Some w → last_write (v ∷ ws) (key_at w) ≡ Some w
-    again later = ap (λ (o : Option Stamped). later_of o (cond (is_at (key_at w) v) (Some v) None)) later
+    again later = ap (λ (o : Option Stamped). later_write o (cond (is_write_at (key_at w) v) (Some v) None)) later
 
     alone : is_written ws (key_at v) ≡ false → last_write (v ∷ ws) (key_at v) ≡ Some v
     alone none =
-        ap (λ (o : Option Stamped). later_of o (cond (is_at (key_at v) v) (Some v) None)) (none_some (last_write ws (key_at v)) (last_some ws (key_at v) ∙ none))
+        ap (λ (o : Option Stamped). later_write o (cond (is_write_at (key_at v) v) (Some v) None)) (none_some (last_write ws (key_at v)) (last_some ws (key_at v) ∙ none))
         ∙ ap (λ b. cond b (Some v) None) (eq_self (key_at v))
 
     go : (b : Bool) → is_written ws (key_at v) ≡ b → Among (cond b (last_writes ws) (v ∷ last_writes ws)) w → (Among (last_writes ws) w → last_write ws (key_at w) ≡ Some w) → last_write (v ∷ ws) (key_at w) ≡ Some w
@@ -37,16 +37,16 @@ among_last (v ∷ ws) k w is = go (last_write ws k) refl is (among_last ws k w)
     more true later = later
     more false later = inr later
 
-    first : (b : Bool) → is_at k v ≡ b → is_some (last_write ws k) ≡ false → cond b (Some v) None ≡ Some w → Among (last_writes (v ∷ ws)) w
+    first : (b : Bool) → is_write_at k v ≡ b → is_some (last_write ws k) ≡ false → cond b (Some v) None ≡ Some w → Among (last_writes (v ∷ ws)) w
     first true same none is =
         let alone : is_written ws (key_at v) ≡ false = ap (is_written ws) (sym (key_same k (key_at v) same)) ∙ sym (last_some ws k) ∙ none in
         let one : v ≡ w = cc in
         subst (λ (l : List Stamped). Among l w) (sym (ap (λ b. cond b (last_writes ws) (v ∷ last_writes ws)) alone)) (inl one)
     first false same none is = absurd cc
 
-    go : (o : Option Stamped) → last_write ws k ≡ o → later_of o (cond (is_at k v) (Some v) None) ≡ Some w → (last_write ws k ≡ Some w → Among (last_writes ws) w) → Among (last_writes (v ∷ ws)) w
+    go : (o : Option Stamped) → last_write ws k ≡ o → later_write o (cond (is_write_at k v) (Some v) None) ≡ Some w → (last_write ws k ≡ Some w → Among (last_writes ws) w) → Among (last_writes (v ∷ ws)) w
     go (Some u) last is later = more (is_written ws (key_at v)) (later (last ∙ is))
-    go None last is later = first (is_at k v) refl (ap is_some last) is
+    go None last is later = first (is_write_at k v) refl (ap is_some last) is
 
 -- a record's write
 write_is : (w : Stamped) (e : EntryData) → record_of w ≡ Some e → w ≡ (e.begin, (e.row.key, Put (content_of e.row)))

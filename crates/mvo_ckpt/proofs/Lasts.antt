@@ -3,7 +3,7 @@ use Rattle.std.proofs.Common.{◌≡◌, Bool, true, false, cond, List, [], ◌�
 use Rattle.std.specs.Prelude.{map, ◌||◌}
 use Rattle.std.specs.List.{AllByRecursion, IsDistinct}
 use Rattle.mvo_types.specs.declared.row.RowKey.{RowKey}
-use Rattle.mvo_ckpt.specs.Writes.{Stamped, is_at, is_written, last_writes}
+use Rattle.mvo_ckpt.specs.Writes.{Stamped, is_write_at, is_written, last_writes}
 use Rattle.mvo_places.proofs.Keys.{eq, key_same}
 
 abbrev pub key_at : Stamped → RowKey
@@ -14,13 +14,13 @@ pub written_last : (ws : List Stamped) (k : RowKey) → is_written (last_writes 
 written_last [] k = refl
 written_last (w ∷ ws) k = go (is_written ws (key_at w)) refl (written_last ws k)
   where
-    over : (b : Bool) → is_written ws (key_at w) ≡ true → is_at k w ≡ b → is_written ws k ≡ (b || is_written ws k)
+    over : (b : Bool) → is_written ws (key_at w) ≡ true → is_write_at k w ≡ b → is_written ws k ≡ (b || is_written ws k)
     over true is same = ap (is_written ws) (key_same k (key_at w) same) ∙ is
     over false is same = refl
 
     go : (b : Bool) → is_written ws (key_at w) ≡ b → is_written (last_writes ws) k ≡ is_written ws k → is_written (cond b (last_writes ws) (w ∷ last_writes ws)) k ≡ is_written (w ∷ ws) k
-    go true is later = later ∙ over (is_at k w) is refl
-    go false is later = ap (λ b. is_at k w || b) later
+    go true is later = later ∙ over (is_write_at k w) is refl
+    go false is later = ap (λ b. is_write_at k w || b) later
 
 none_at : (k : RowKey) (ws : List Stamped) → is_written ws k ≡ false → AllByRecursion (λ y. eq k y ≡ false) (map key_at ws)
 none_at k [] none = tt

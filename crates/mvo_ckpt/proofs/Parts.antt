@@ -16,8 +16,8 @@ use Rattle.mvo_types.specs.declared.limits.TheConstants.{MAX_PAIR_RECORDS}
 use Rattle.mvo_group.specs.Data.{GroupData}
 use Rattle.mvo_pair.specs.Data.{Numbered, key_of}
 use Rattle.mvo_pair.specs.declared.pair.Pair.{Pair}
-use Rattle.mvo_places.specs.declared.place.Place.{Place}
-use Rattle.mvo_ckpt.specs.Writes.{Stamped, is_at, writes_of, is_written, last_writes}
+use Rattle.mvo_places.specs.declared.record_place.RecordPlace.{RecordPlace}
+use Rattle.mvo_ckpt.specs.Writes.{Stamped, is_write_at, writes_of, is_written, last_writes}
 use Rattle.mvo_places.specs.Places.{PlaceMap, place, number_of, AreSmall, Rise, ArePlaces}
 use Rattle.mvo_ckpt.specs.Checkpoint.{DeltaData}
 use Rattle.mvo_ckpt.specs.Ended.{ended, delta_by, deltas_of}
@@ -57,10 +57,10 @@ stamped_written gs l = is_written (writes_of gs) (key_of l)
 -- these are the numbers of the places of the written keys
 pub record HasWritten (at : PlaceMap) (ws : List Stamped) (ns : List ℕ) : Type 0 where
   pub rise : Rises ns
-  pub has : (k : RowKey) (v : Place) → is_written ws k ≡ true → get at k ≡ Some v → Among ns (number_of v)
-  pub only : (n : ℕ) → Among ns n → (k : RowKey) × (v : Place) × (is_written ws k ≡ true) × (get at k ≡ Some v) × (number_of v ≡ n)
+  pub has : (k : RowKey) (v : RecordPlace) → is_written ws k ≡ true → get at k ≡ Some v → Among ns (number_of v)
+  pub only : (n : ℕ) → Among ns n → (k : RowKey) × (v : RecordPlace) × (is_written ws k ≡ true) × (get at k ≡ Some v) × (number_of v ≡ n)
 
-split : (v : Place) (n file : ℕ) → v.number < MAX_PAIR_RECORDS → number_of v ≡ n → n / MAX_PAIR_RECORDS ≡ file → (v.data_file ≡ file) × (v.number ≡ n % MAX_PAIR_RECORDS)
+split : (v : RecordPlace) (n file : ℕ) → v.number < MAX_PAIR_RECORDS → number_of v ≡ n → n / MAX_PAIR_RECORDS ≡ file → (v.data_file ≡ file) × (v.number ≡ n % MAX_PAIR_RECORDS)
 split v n file small is of = (omega arith, omega arith)
 
 packed : (file number : ℕ) → number < MAX_PAIR_RECORDS → ((number_of (place file number)) / MAX_PAIR_RECORDS ≡ file) × ((number_of (place file number)) % MAX_PAIR_RECORDS ≡ number)
@@ -96,11 +96,11 @@ module _ (gs : List GroupData) (ps : List Pair) (lives : List (List Numbered)) (
           let w = written.only x.0 y.0 in
           let s = split w.1 x.0 p.data_file (small.each w.0 w.1 w.3) w.4 (eqb-true (x.0 / MAX_PAIR_RECORDS) p.data_file y.1) in
           let lies = live_at ps lives at are w.0 w.1 w.3 in
-          let file : lies.pair.data_file ≡ p.data_file = ap (λ (v : Place). v.data_file) lies.place ∙ s.0 in
+          let file : lies.pair.data_file ≡ p.data_file = ap (λ (v : RecordPlace). v.data_file) lies.place ∙ s.0 in
           let same : lies.live ≡ live = zips_once ps lives lies.pair p lies.live live are.files lies.zips zips file in
           let here : Among live lies.one = subst (λ (l : List Numbered). Among l lies.one) same lies.among in
           let is : stamped_written gs lies.one ≡ true = ap (is_written (writes_of gs)) lies.key ∙ w.2 in
-          let number : lies.one.0 ≡ m = ap (λ (v : Place). v.number) lies.place ∙ s.1 ∙ x.2 in
+          let number : lies.one.0 ≡ m = ap (λ (v : RecordPlace). v.number) lies.place ∙ s.1 ∙ x.2 in
           subst (λ n. Among (ended gs live) n) number (among_map (λ (l : Numbered). l.0) (filter (stamped_written gs) live) lies.one (among_filter (stamped_written gs) live lies.one here is))
 
       back : (m : ℕ) → Among (ended gs live) m → Among (part_of p.data_file ns) m
@@ -132,11 +132,11 @@ module _ (ws : List Stamped) (ps : List Pair) (lives : List (List Numbered)) (at
   abbrev met : List ℕ
   met = filter_map (number_at at) (last_writes ws)
 
-  some_number : (k : RowKey) (o : Option Place) (n : ℕ) → get at k ≡ o → option_map number_of o ≡ Some n → (v : Place) × (get at k ≡ Some v) × (number_of v ≡ n)
+  some_number : (k : RowKey) (o : Option RecordPlace) (n : ℕ) → get at k ≡ o → option_map number_of o ≡ Some n → (v : RecordPlace) × (get at k ≡ Some v) × (number_of v ≡ n)
   some_number k None n is e = absurd cc
   some_number k (Some v) n is e = (v, is, (let same : number_of v ≡ n = cc in same))
 
-  at_number : (k : RowKey) (n : ℕ) → option_map number_of (get at k) ≡ Some n → (v : Place) × (get at k ≡ Some v) × (number_of v ≡ n)
+  at_number : (k : RowKey) (n : ℕ) → option_map number_of (get at k) ≡ Some n → (v : RecordPlace) × (get at k ≡ Some v) × (number_of v ≡ n)
   at_number k n e = some_number k (get at k) n refl e
 
   others_differ : (w : Stamped) (us : List Stamped) (n : ℕ) → AllByRecursion (λ y. eq (key_at w) y ≡ false) (map key_at us) → number_at at w ≡ Some n → AllByRecursion (λ y. nat_eq n y ≡ false) (filter_map (number_at at) us)
@@ -171,12 +171,12 @@ module _ (ws : List Stamped) (ps : List Pair) (lives : List (List Numbered)) (at
       record {
         rise = rises_from ns (IsStrictlyIncreasing-from_distinct ns up apart);
         has = λ k v is_in found_at.
-            let any = any_among (is_at k) (last_writes ws) (written_last ws k ∙ is_in) in
+            let any = any_among (is_write_at k) (last_writes ws) (written_last ws k ∙ is_in) in
             let same : k ≡ key_at any.0 = key_same k (key_at any.0) any.2 in
             let number : number_at at any.0 ≡ Some (number_of v) = ap (λ x. option_map number_of (get at x)) (sym same) ∙ ap (option_map number_of) found_at in
             among_from ns (number_of v) (Contains-permutation met ns (number_of v) perm (contains_from met (number_of v) (among_filter_map (number_at at) (last_writes ws) any.0 (number_of v) any.1 number)));
         only = λ n a.
             let m = among_filter_mapped (number_at at) (last_writes ws) n (among_from met n (Contains-permutation ns met n (IsPermutation-sym met ns perm) (contains_from ns n a))) in
             let v = at_number (key_at m.0) n m.2 in
-            (key_at m.0, v.0, sym (written_last ws (key_at m.0)) ∙ among_any (is_at (key_at m.0)) (last_writes ws) m.0 m.1 (eq_self (key_at m.0)), v.1, v.2);
+            (key_at m.0, v.0, sym (written_last ws (key_at m.0)) ∙ among_any (is_write_at (key_at m.0)) (last_writes ws) m.0 m.1 (eq_self (key_at m.0)), v.1, v.2);
       }

@@ -17,10 +17,10 @@ use Rattle.mvo_types.proofs.Maps.{keys_total, exact_keys}
 use Rattle.mvo_model.specs.History.{after_effect}
 use Rattle.mvo_group.specs.Data.{RecordData, GroupData}
 use Rattle.mvo_pair.specs.Data.{Numbered, key_of}
-use Rattle.mvo_image.specs.Rows.{kept_of, kept_in, rows_of, after_record, after_groups}
-use Rattle.mvo_ckpt.specs.Writes.{Stamped, stamped, writes_in, writes_of, is_at, is_written, last_writes, later_of, last_write, record_of, records_of}
+use Rattle.mvo_places.specs.Rows.{live_row_of, live_rows_in, rows_of, after_record, after_groups}
+use Rattle.mvo_ckpt.specs.Writes.{Stamped, stamped, writes_in, writes_of, is_write_at, is_written, last_writes, later_write, last_write, record_of, records_of}
 use Rattle.mvo_ckpt.specs.Ended.{left_in, lives_after}
-use Rattle.mvo_ckpt.specs.Laws.{KeepsRows}
+use Rattle.mvo_ckpt.specs.Laws.{CheckpointKeepsRows}
 use Rattle.mvo_places.proofs.Keys.{eq, key_same}
 use Rattle.mvo_ckpt.proofs.Lasts.{key_at}
 use Rattle.mvo_places.proofs.Finding.{or_else, find_append, find_failing}
@@ -33,35 +33,35 @@ Kept = List (RowKey × ContentData)
 abbrev unwritten : List GroupData → RowKey × ContentData → Bool
 unwritten gs e = not (is_written (writes_of gs) e.0)
 
-kept_live : (gs : List GroupData) (live : List Numbered) → map kept_of (left_in gs live) ≡ filter (unwritten gs) (map kept_of live)
+kept_live : (gs : List GroupData) (live : List Numbered) → map live_row_of (left_in gs live) ≡ filter (unwritten gs) (map live_row_of live)
 kept_live gs [] = refl
 kept_live gs (l ∷ live) = go (not (is_written (writes_of gs) (key_of l))) (kept_live gs live)
   where
-    go : (b : Bool) → map kept_of (left_in gs live) ≡ filter (unwritten gs) (map kept_of live) → map kept_of (cond b (l ∷ left_in gs live) (left_in gs live)) ≡ cond b (kept_of l ∷ filter (unwritten gs) (map kept_of live)) (filter (unwritten gs) (map kept_of live))
-    go true later = ap (λ (es : Kept). kept_of l ∷ es) later
+    go : (b : Bool) → map live_row_of (left_in gs live) ≡ filter (unwritten gs) (map live_row_of live) → map live_row_of (cond b (l ∷ left_in gs live) (left_in gs live)) ≡ cond b (live_row_of l ∷ filter (unwritten gs) (map live_row_of live)) (filter (unwritten gs) (map live_row_of live))
+    go true later = ap (λ (es : Kept). live_row_of l ∷ es) later
     go false later = later
 
-kept-cons : (live : List Numbered) (lives : List (List Numbered)) → kept_in (live ∷ lives) ≡ map kept_of live ++ kept_in lives
-kept-cons live lives = flat_map-cons (λ l. map kept_of l) live lives
+kept-cons : (live : List Numbered) (lives : List (List Numbered)) → live_rows_in (live ∷ lives) ≡ map live_row_of live ++ live_rows_in lives
+kept-cons live lives = flat_map-cons (λ l. map live_row_of l) live lives
 
-kept_left : (gs : List GroupData) (lives : List (List Numbered)) → kept_in (map (left_in gs) lives) ≡ filter (unwritten gs) (kept_in lives)
+kept_left : (gs : List GroupData) (lives : List (List Numbered)) → live_rows_in (map (left_in gs) lives) ≡ filter (unwritten gs) (live_rows_in lives)
 kept_left gs [] = refl
 kept_left gs (live ∷ lives) =
     kept-cons (left_in gs live) (map (left_in gs) lives)
-    ∙ ap (λ (es : Kept). es ++ kept_in (map (left_in gs) lives)) (kept_live gs live)
-    ∙ ap (λ (es : Kept). filter (unwritten gs) (map kept_of live) ++ es) (kept_left gs lives)
-    ∙ sym (filter-append (unwritten gs) (map kept_of live) (kept_in lives))
+    ∙ ap (λ (es : Kept). es ++ live_rows_in (map (left_in gs) lives)) (kept_live gs live)
+    ∙ ap (λ (es : Kept). filter (unwritten gs) (map live_row_of live) ++ es) (kept_left gs lives)
+    ∙ sym (filter-append (unwritten gs) (map live_row_of live) (live_rows_in lives))
     ∙ ap (λ (es : Kept). filter (unwritten gs) es) (sym (kept-cons live lives))
 
-kept_after : (gs : List GroupData) (lives : List (List Numbered)) → kept_in (lives_after gs lives) ≡ filter (unwritten gs) (kept_in lives) ++ map kept_of (enumerate_from 0 (records_of gs))
+kept_after : (gs : List GroupData) (lives : List (List Numbered)) → live_rows_in (lives_after gs lives) ≡ filter (unwritten gs) (live_rows_in lives) ++ map live_row_of (enumerate_from 0 (records_of gs))
 kept_after gs lives =
-    flat_map-append (λ l. map kept_of l) (map (left_in gs) lives) (enumerate_from 0 (records_of gs) ∷ [])
-    ∙ ap (λ (es : Kept). es ++ kept_in (enumerate_from 0 (records_of gs) ∷ [])) (kept_left gs lives)
-    ∙ ap (λ (es : Kept). filter (unwritten gs) (kept_in lives) ++ es) (kept-cons (enumerate_from 0 (records_of gs)) [] ∙ append-nil (map kept_of (enumerate_from 0 (records_of gs))))
+    flat_map-append (λ l. map live_row_of l) (map (left_in gs) lives) (enumerate_from 0 (records_of gs) ∷ [])
+    ∙ ap (λ (es : Kept). es ++ live_rows_in (enumerate_from 0 (records_of gs) ∷ [])) (kept_left gs lives)
+    ∙ ap (λ (es : Kept). filter (unwritten gs) (live_rows_in lives) ++ es) (kept-cons (enumerate_from 0 (records_of gs)) [] ∙ append-nil (map live_row_of (enumerate_from 0 (records_of gs))))
 
 -- ---- the records that the writes leave
 
-or_some : (o : Option Stamped) (b : Bool) (w : Stamped) → is_some (later_of o (cond b (Some w) None)) ≡ (b || is_some o)
+or_some : (o : Option Stamped) (b : Bool) (w : Stamped) → is_some (later_write o (cond b (Some w) None)) ≡ (b || is_some o)
 or_some (Some v) true w = refl
 or_some (Some v) false w = refl
 or_some None true w = refl
@@ -70,13 +70,13 @@ or_some None false w = refl
 -- a key has a last write where it is written
 pub last_some : (ws : List Stamped) (k : RowKey) → is_some (last_write ws k) ≡ is_written ws k
 last_some [] k = refl
-last_some (w ∷ ws) k = or_some (last_write ws k) (is_at k w) w ∙ ap (λ b. is_at k w || b) (last_some ws k)
+last_some (w ∷ ws) k = or_some (last_write ws k) (is_write_at k w) w ∙ ap (λ b. is_write_at k w || b) (last_some ws k)
 
 abbrev put_by : Option Stamped → Option ContentData
 put_by None = None
 put_by (Some w) = content_after w.1.1
 
-no_first : (o : Option Stamped) → later_of o None ≡ o
+no_first : (o : Option Stamped) → later_write o None ≡ o
 no_first None = refl
 no_first (Some w) = refl
 
@@ -85,23 +85,23 @@ none_some None is = refl
 none_some (Some x) is = absurd cc
 
 abbrev found_new : ℕ → List Stamped → RowKey → Option ContentData
-found_new n lasts k = find key_cmp k (map kept_of (enumerate_from n (filter_map record_of lasts)))
+found_new n lasts k = find key_cmp k (map live_row_of (enumerate_from n (filter_map record_of lasts)))
 
 one_first : (n : ℕ) (end : ℕ) (key : RowKey) (e : Effect) (lasts : List Stamped) (k : RowKey) (o : Option Stamped) → ((n : ℕ) → found_new n lasts k ≡ put_by o) → (b : Bool) → eq k key ≡ b → (b ≡ true → o ≡ None)
-    → found_new n ((end, (key, e)) ∷ lasts) k ≡ put_by (later_of o (cond b (Some (end, (key, e))) None))
+    → found_new n ((end, (key, e)) ∷ lasts) k ≡ put_by (later_write o (cond b (Some (end, (key, e))) None))
 one_first n end key (Put h) lasts k o later true is none =
-    ap (λ b. cond b (Some h) (found_new (n + 1) lasts k)) is ∙ sym (ap (λ (x : Option Stamped). put_by (later_of x (Some (end, (key, Put h))))) (none refl))
+    ap (λ b. cond b (Some h) (found_new (n + 1) lasts k)) is ∙ sym (ap (λ (x : Option Stamped). put_by (later_write x (Some (end, (key, Put h))))) (none refl))
 one_first n end key (Put h) lasts k o later false is none =
     ap (λ b. cond b (Some h) (found_new (n + 1) lasts k)) is ∙ later (n + 1) ∙ ap put_by (sym (no_first o))
 one_first n end key Delete lasts k o later true is none =
-    later n ∙ ap put_by (none refl) ∙ sym (ap (λ (x : Option Stamped). put_by (later_of x (Some (end, (key, Delete))))) (none refl))
+    later n ∙ ap put_by (none refl) ∙ sym (ap (λ (x : Option Stamped). put_by (later_write x (Some (end, (key, Delete))))) (none refl))
 one_first n end key Delete lasts k o later false is none = later n ∙ ap put_by (sym (no_first o))
 
 found_last : (ws : List Stamped) (n : ℕ) (k : RowKey) → found_new n (last_writes ws) k ≡ put_by (last_write ws k)
 found_last [] n k = refl
 found_last (w ∷ ws) n k = go (is_written ws (key_at w)) refl (λ m. found_last ws m k)
   where
-    over : (b : Bool) → eq k (key_at w) ≡ b → is_written ws (key_at w) ≡ true → (o : Option Stamped) → last_write ws k ≡ o → o ≡ later_of o (cond b (Some w) None)
+    over : (b : Bool) → eq k (key_at w) ≡ b → is_written ws (key_at w) ≡ true → (o : Option Stamped) → last_write ws k ≡ o → o ≡ later_write o (cond b (Some w) None)
     over b is again (Some v) last = refl
     over true is again None last =
         let some : is_written ws k ≡ true = ap (is_written ws) (key_same k (key_at w) is) ∙ again in
@@ -110,8 +110,8 @@ found_last (w ∷ ws) n k = go (is_written ws (key_at w)) refl (λ m. found_last
     over false is again None last = refl
 
     go : (b : Bool) → is_written ws (key_at w) ≡ b → ((m : ℕ) → found_new m (last_writes ws) k ≡ put_by (last_write ws k)) → found_new n (cond b (last_writes ws) (w ∷ last_writes ws)) k ≡ put_by (last_write (w ∷ ws) k)
-    go true again later = later n ∙ ap put_by (over (is_at k w) refl again (last_write ws k) refl)
-    go false alone later = one_first n w.0 (key_at w) w.1.1 (last_writes ws) k (last_write ws k) later (is_at k w) refl (λ is.
+    go true again later = later n ∙ ap put_by (over (is_write_at k w) refl again (last_write ws k) refl)
+    go false alone later = one_first n w.0 (key_at w) w.1.1 (last_writes ws) k (last_write ws k) later (is_write_at k w) refl (λ is.
         none_some (last_write ws k) (last_some ws k ∙ ap (is_written ws) (key_same k (key_at w) is) ∙ alone))
 
 -- ---- the rows after the writes
@@ -148,7 +148,7 @@ get_effect : (m : Map) (key k : RowKey) (e : Effect) → get (after_effect key e
 get_effect m key k (Put h) = get-insert keys_total m key h k
 get_effect m key k Delete = get-remove keys_total m key k
 
-last_content : (o : Option Stamped) (b : Bool) (w : Stamped) (before : Option ContentData) → content_after_last (effect_by o) (cond b (content_after w.1.1) before) ≡ content_after_last (effect_by (later_of o (cond b (Some w) None))) before
+last_content : (o : Option Stamped) (b : Bool) (w : Stamped) (before : Option ContentData) → content_after_last (effect_by o) (cond b (content_after w.1.1) before) ≡ content_after_last (effect_by (later_write o (cond b (Some w) None))) before
 last_content (Some v) b w before = refl
 last_content None true w before = refl
 last_content None false w before = refl
@@ -158,7 +158,7 @@ get_after [] m k = refl
 get_after (w ∷ ws) m k =
     get_after ws (after_write m w) k
     ∙ ap (content_after_last (effect_by (last_write ws k))) (get_effect m (key_at w) k w.1.1)
-    ∙ last_content (last_write ws k) (is_at k w) w (get m k)
+    ∙ last_content (last_write ws k) (is_write_at k w) w (get m k)
 
 -- ---- both
 
@@ -169,14 +169,14 @@ both_are None false is (Some h) = refl
 both_are (Some w) true is before = refl
 both_are (Some w) false is before = absurd cc
 
-pub keeps_rows : KeepsRows
+pub keeps_rows : CheckpointKeepsRows
 keeps_rows gs lives = same_map keys_total exact_keys (rows_of (lives_after gs lives)) (after_groups (rows_of lives) gs) (λ k.
-    get-from_entries keys_total (kept_in (lives_after gs lives)) k
+    get-from_entries keys_total (live_rows_in (lives_after gs lives)) k
     ∙ ap (λ (es : Kept). find key_cmp k es) (kept_after gs lives)
-    ∙ find_append (filter (unwritten gs) (kept_in lives)) (map kept_of (enumerate_from 0 (records_of gs))) k
-    ∙ ap (λ (o : Option ContentData). or_else o (found_new 0 (last_writes (writes_of gs)) k)) (find_failing (is_written (writes_of gs)) (kept_in lives) k)
-    ∙ ap (or_else (cond (is_written (writes_of gs) k) None (find key_cmp k (kept_in lives)))) (found_last (writes_of gs) 0 k)
-    ∙ both_are (last_write (writes_of gs) k) (is_written (writes_of gs) k) (last_some (writes_of gs) k) (find key_cmp k (kept_in lives))
-    ∙ ap (content_after_last (effect_by (last_write (writes_of gs) k))) (sym (get-from_entries keys_total (kept_in lives) k))
+    ∙ find_append (filter (unwritten gs) (live_rows_in lives)) (map live_row_of (enumerate_from 0 (records_of gs))) k
+    ∙ ap (λ (o : Option ContentData). or_else o (found_new 0 (last_writes (writes_of gs)) k)) (find_failing (is_written (writes_of gs)) (live_rows_in lives) k)
+    ∙ ap (or_else (cond (is_written (writes_of gs) k) None (find key_cmp k (live_rows_in lives)))) (found_last (writes_of gs) 0 k)
+    ∙ both_are (last_write (writes_of gs) k) (is_written (writes_of gs) k) (last_some (writes_of gs) k) (find key_cmp k (live_rows_in lives))
+    ∙ ap (content_after_last (effect_by (last_write (writes_of gs) k))) (sym (get-from_entries keys_total (live_rows_in lives) k))
     ∙ sym (get_after (writes_of gs) (rows_of lives) k)
     ∙ ap (λ (m : Map). get m k) (after_of (rows_of lives) gs))

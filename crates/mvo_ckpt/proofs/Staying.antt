@@ -11,7 +11,7 @@ use Rattle.mvo_types.specs.Write.{Effect}
 use Rattle.mvo_types.specs.Write.Effect.{Put, Delete}
 use Rattle.mvo_group.specs.Data.{GroupData}
 use Rattle.mvo_pair.specs.Data.{EntryData, Numbered, key_of, keys_of}
-use Rattle.mvo_ckpt.specs.Writes.{Stamped, writes_of, is_at, is_written, last_writes, record_of, records_of}
+use Rattle.mvo_ckpt.specs.Writes.{Stamped, writes_of, is_write_at, is_written, last_writes, record_of, records_of}
 use Rattle.mvo_ckpt.specs.Ended.{left_in, lives_after}
 use Rattle.mvo_ckpt.specs.Laws.{StaysApart}
 use Rattle.mvo_places.proofs.Members.{Among, among_map, among_filtered, among_filter_mapped, among_mapped, among_any, all_among, all_from}
@@ -93,7 +93,7 @@ record_written ws k a =
     let m = among_mapped entry_key (filter_map record_of (last_writes ws)) k a in
     let v = among_filter_mapped record_of (last_writes ws) m.0 m.1 in
     let key : key_at v.0 ≡ k = sym (record_key v.0 m.0 v.2) ∙ m.2 in
-    sym (written_last ws k) ∙ among_any (is_at k) (last_writes ws) v.0 v.1 (ap (eq k) key ∙ eq_self k)
+    sym (written_last ws k) ∙ among_any (is_write_at k) (last_writes ws) v.0 v.1 (ap (eq k) key ∙ eq_self k)
 
 pub stays_apart : StaysApart
 stays_apart gs lives apart =

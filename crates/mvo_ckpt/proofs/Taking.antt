@@ -15,9 +15,9 @@ use Rattle.mvo_types.proofs.Maps.{keys_total, exact_keys}
 use Rattle.mvo_group.specs.Data.{GroupData}
 use Rattle.mvo_pair.specs.Data.{EntryData, Numbered, key_of}
 use Rattle.mvo_pair.specs.declared.pair.Pair.{Pair}
-use Rattle.mvo_places.specs.declared.place.Place.{Place}
-use Rattle.mvo_ckpt.specs.Writes.{Stamped, writes_of, is_at, is_written, last_writes, record_of, gone_at, records_of, gone_of}
-use Rattle.mvo_places.specs.Places.{PlaceMap, place, places_in, places_of, file_of, Rise, without_keys, taken_over}
+use Rattle.mvo_places.specs.declared.record_place.RecordPlace.{RecordPlace}
+use Rattle.mvo_ckpt.specs.Writes.{Stamped, writes_of, is_write_at, is_written, last_writes, record_of, gone_at, records_of, gone_of}
+use Rattle.mvo_places.specs.Places.{PlaceMap, place, places_in, record_places, file_of, Rise, without_keys, taken_places}
 use Rattle.mvo_ckpt.specs.Ended.{left_in, lives_after}
 use Rattle.mvo_ckpt.specs.Laws.{PlacesTakenOver}
 use Rattle.mvo_places.proofs.Members.{Among, among_map, among_filter_map, among_filter_mapped, among_any, any_among, rises_from, increasing_from}
@@ -32,7 +32,7 @@ use Rattle.mvo_places.proofs.Putting.{found_none, there_found, get-without, get-
 
 -- ---- the older pairs
 
-same_places : (ps after : List Pair) (lives : List (List Numbered)) → map file_of after ≡ map file_of ps → places_of after lives ≡ places_of ps lives
+same_places : (ps after : List Pair) (lives : List (List Numbered)) → map file_of after ≡ map file_of ps → record_places after lives ≡ record_places ps lives
 same_places [] [] lives same = refl
 same_places [] (q ∷ after) lives same = absurd cc
 same_places (p ∷ ps) [] lives same = absurd cc
@@ -40,10 +40,10 @@ same_places (p ∷ ps) (q ∷ after) [] same = refl
 same_places (p ∷ ps) (q ∷ after) (live ∷ lives) same =
     let file : q.data_file ≡ p.data_file = cc in
     let rest : map file_of after ≡ map file_of ps = cc in
-    ap (λ (f : ℕ). places_in f live ++ places_of after lives) file
+    ap (λ (f : ℕ). places_in f live ++ record_places after lives) file
     ∙ ap (λ (es : Entries). places_in p.data_file live ++ es) (same_places ps after lives rest)
 
-abbrev unwritten : List GroupData → RowKey × Place → Bool
+abbrev unwritten : List GroupData → RowKey × RecordPlace → Bool
 unwritten gs e = not (is_written (writes_of gs) e.0)
 
 left_there : (gs : List GroupData) (file : ℕ) (live : List Numbered) → places_in file (left_in gs live) ≡ filter (unwritten gs) (places_in file live)
@@ -54,13 +54,13 @@ left_there gs file (l ∷ live) = go (not (is_written (writes_of gs) (key_of l))
     go true later = ap (λ (es : Entries). (key_of l, place file l.0) ∷ es) later
     go false later = later
 
-places_left : (gs : List GroupData) (ps : List Pair) (lives : List (List Numbered)) → places_of ps (map (left_in gs) lives) ≡ filter (unwritten gs) (places_of ps lives)
+places_left : (gs : List GroupData) (ps : List Pair) (lives : List (List Numbered)) → record_places ps (map (left_in gs) lives) ≡ filter (unwritten gs) (record_places ps lives)
 places_left gs [] lives = refl
 places_left gs (p ∷ ps) [] = refl
 places_left gs (p ∷ ps) (live ∷ lives) =
-    ap (λ (es : Entries). es ++ places_of ps (map (left_in gs) lives)) (left_there gs p.data_file live)
+    ap (λ (es : Entries). es ++ record_places ps (map (left_in gs) lives)) (left_there gs p.data_file live)
     ∙ ap (λ (es : Entries). filter (unwritten gs) (places_in p.data_file live) ++ es) (places_left gs ps lives)
-    ∙ sym (filter-append (unwritten gs) (places_in p.data_file live) (places_of ps lives))
+    ∙ sym (filter-append (unwritten gs) (places_in p.data_file live) (record_places ps lives))
 
 rise_left : (gs : List GroupData) (lives : List (List Numbered)) → AllByRecursion Rise lives → AllByRecursion Rise (map (left_in gs) lives)
 rise_left gs [] all = tt
@@ -101,12 +101,12 @@ module _ (gs : List GroupData) (file : ℕ) where
       let n = any_among (eq q) (gone_of gs) some in
       let w = among_filter_mapped gone_at (last_writes (writes_of gs)) n.0 n.1 in
       let here : eq q (key_at w.0) ≡ true = ap (eq q) (gone_key w.0 n.0 w.2) ∙ n.2 in
-      let both : true ≡ false = sym (among_any (is_at q) (last_writes (writes_of gs)) w.0 w.1 here) ∙ written_last (writes_of gs) q ∙ unwritten in
+      let both : true ≡ false = sym (among_any (is_write_at q) (last_writes (writes_of gs)) w.0 w.1 here) ∙ written_last (writes_of gs) q ∙ unwritten in
       absurd cc)
 
   gone_here : (q : RowKey) → is_written (writes_of gs) q ≡ true → find key_cmp q left_here ≡ None → list_any (eq q) (gone_of gs) ≡ true
   gone_here q written none =
-      let n = any_among (is_at q) (last_writes (writes_of gs)) (written_last (writes_of gs) q ∙ written) in
+      let n = any_among (is_write_at q) (last_writes (writes_of gs)) (written_last (writes_of gs) q ∙ written) in
       go n.0 n.0.1.1 refl n.1 (key_same q (key_at n.0) n.2)
     where
       go : (w : Stamped) (f : Effect) → w.1.1 ≡ f → Among (last_writes (writes_of gs)) w → q ≡ key_at w → list_any (eq q) (gone_of gs) ≡ true
@@ -120,24 +120,24 @@ module _ (gs : List GroupData) (file : ℕ) where
           let gone : gone_at w ≡ Some (key_at w) = ap (λ (f : Effect). gone_at (w.0, (key_at w, f))) is in
           among_any (eq q) (gone_of gs) (key_at w) (among_filter_map gone_at (last_writes (writes_of gs)) w (key_at w) a gone) (ap (eq q) (sym same) ∙ eq_self q)
 
-  or_none : (o : Option Place) → o ≡ or_else o None
+  or_none : (o : Option RecordPlace) → o ≡ or_else o None
   or_none None = refl
   or_none (Some v) = refl
 
   -- the record's place, or nothing where the key is written, or the place before
-  settled : (q : RowKey) (before : Option Place) → or_else (find key_cmp q left_here) (cond (list_any (eq q) (gone_of gs)) None before) ≡ or_else (cond (is_written (writes_of gs) q) None before) (find key_cmp q left_here)
+  settled : (q : RowKey) (before : Option RecordPlace) → or_else (find key_cmp q left_here) (cond (list_any (eq q) (gone_of gs)) None before) ≡ or_else (cond (is_written (writes_of gs) q) None before) (find key_cmp q left_here)
   settled q before = go (is_written (writes_of gs) q) refl
     where
-      of_written : (o : Option Place) → find key_cmp q left_here ≡ o → is_written (writes_of gs) q ≡ true → or_else o (cond (list_any (eq q) (gone_of gs)) None before) ≡ o
+      of_written : (o : Option RecordPlace) → find key_cmp q left_here ≡ o → is_written (writes_of gs) q ≡ true → or_else o (cond (list_any (eq q) (gone_of gs)) None before) ≡ o
       of_written (Some v) is written = refl
       of_written None is written = ap (λ b. cond b None before) (gone_here q written is)
 
       go : (b : Bool) → is_written (writes_of gs) q ≡ b → or_else (find key_cmp q left_here) (cond (list_any (eq q) (gone_of gs)) None before) ≡ or_else (cond b None before) (find key_cmp q left_here)
       go true is = of_written (find key_cmp q left_here) refl is
       go false is =
-          ap (λ (o : Option Place). or_else o (cond (list_any (eq q) (gone_of gs)) None before)) (not_here q is)
+          ap (λ (o : Option RecordPlace). or_else o (cond (list_any (eq q) (gone_of gs)) None before)) (not_here q is)
           ∙ ap (λ b. cond b None before) (not_gone q is)
-          ∙ or_none before ∙ ap (λ (o : Option Place). or_else before o) (sym (not_here q is))
+          ∙ or_none before ∙ ap (λ (o : Option RecordPlace). or_else before o) (sym (not_here q is))
 
 pub places_taken_over : PlacesTakenOver
 places_taken_over gs ps after lives at p are same files =
@@ -146,7 +146,7 @@ places_taken_over gs ps after lives at p are same files =
     let left : length (map (left_in gs) lives) ≡ length lives = length-map lives (left_in gs) in
     let each : length after ≡ length (map (left_in gs) lives) = many ∙ are.each ∙ sym left in
     let new : List Numbered = enumerate_from 0 (records_of gs) in
-    let there : places_of (after ++ p ∷ []) (lives_after gs lives) ≡ filter (unwritten gs) (places_of ps lives) ++ left_here gs p.data_file =
+    let there : record_places (after ++ p ∷ []) (lives_after gs lives) ≡ filter (unwritten gs) (record_places ps lives) ++ left_here gs p.data_file =
     places-push after (map (left_in gs) lives) p new each
     ∙ ap (λ (es : Entries). es ++ left_here gs p.data_file) (same_places ps after (map (left_in gs) lives) same ∙ places_left gs ps lives) in
     record {
@@ -154,14 +154,14 @@ places_taken_over gs ps after lives at p are same files =
       files = files;
       apart = stays_apart gs lives are.apart;
       rise = rise-push (map (left_in gs) lives) new (rise_left gs lives are.rise) (increasing_from (numbers_in new) (counted_rise 0 (records_of gs)));
-      are = same_map keys_total exact_keys (taken_over p.data_file (records_of gs) (gone_of gs) at) (from_entries (places_of (after ++ p ∷ []) (lives_after gs lives))) (λ q.
-          let before : get at q ≡ find key_cmp q (places_of ps lives) = ap (λ (m : PlaceMap). get m q) are.are ∙ get-from_entries keys_total (places_of ps lives) q in
+      are = same_map keys_total exact_keys (taken_places p.data_file (records_of gs) (gone_of gs) at) (from_entries (record_places (after ++ p ∷ []) (lives_after gs lives))) (λ q.
+          let before : get at q ≡ find key_cmp q (record_places ps lives) = ap (λ (m : PlaceMap). get m q) are.are ∙ get-from_entries keys_total (record_places ps lives) q in
           get-with p.data_file new (without_keys (gone_of gs) at) q (distinct_here gs p.data_file)
-          ∙ ap (λ (o : Option Place). or_else (find key_cmp q (left_here gs p.data_file)) o) (get-without (gone_of gs) at q)
+          ∙ ap (λ (o : Option RecordPlace). or_else (find key_cmp q (left_here gs p.data_file)) o) (get-without (gone_of gs) at q)
           ∙ settled gs p.data_file q (get at q)
-          ∙ ap (λ (o : Option Place). or_else (cond (is_written (writes_of gs) q) None o) (find key_cmp q (left_here gs p.data_file))) before
-          ∙ ap (λ (o : Option Place). or_else o (find key_cmp q (left_here gs p.data_file))) (sym (find_failing (is_written (writes_of gs)) (places_of ps lives) q))
-          ∙ sym (find_append (filter (unwritten gs) (places_of ps lives)) (left_here gs p.data_file) q)
+          ∙ ap (λ (o : Option RecordPlace). or_else (cond (is_written (writes_of gs) q) None o) (find key_cmp q (left_here gs p.data_file))) before
+          ∙ ap (λ (o : Option RecordPlace). or_else o (find key_cmp q (left_here gs p.data_file))) (sym (find_failing (is_written (writes_of gs)) (record_places ps lives) q))
+          ∙ sym (find_append (filter (unwritten gs) (record_places ps lives)) (left_here gs p.data_file) q)
           ∙ ap (λ (es : Entries). find key_cmp q es) (sym there)
-          ∙ sym (get-from_entries keys_total (places_of (after ++ p ∷ []) (lives_after gs lives)) q));
+          ∙ sym (get-from_entries keys_total (record_places (after ++ p ∷ []) (lives_after gs lives)) q));
     }

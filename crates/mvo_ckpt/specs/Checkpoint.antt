@@ -8,7 +8,7 @@ pub record DeltaData : Type 0 where
   pub data_file : ℕ
   pub numbers : List ℕ
 
-pub record CheckpointData : Type 0 where
+pub record BuiltCheckpoint : Type 0 where
   pub records : List EntryData
   pub gone : List RowKey
   pub deltas : List DeltaData

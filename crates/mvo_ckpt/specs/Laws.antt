@@ -11,14 +11,14 @@ use Rattle.mvo_frame.specs.Frames.{IsSegment, mark_after}
 use Rattle.mvo_pair.specs.Data.{EntryData, Numbered, live_of, AreApart}
 use Rattle.mvo_pair.specs.Files.{AreEntries, AreNumbers}
 use Rattle.mvo_pair.specs.declared.pair.Pair.{Pair}
-use Rattle.mvo_image.specs.Rows.{rows_of, after_groups}
+use Rattle.mvo_places.specs.Rows.{rows_of, after_groups}
 use Rattle.mvo_ckpt.specs.Writes.{writes_of, last_write, records_of, gone_of}
-use Rattle.mvo_places.specs.Places.{PlaceMap, ArePlaces, file_of, taken_over}
+use Rattle.mvo_places.specs.Places.{PlaceMap, ArePlaces, file_of, taken_places}
 use Rattle.mvo_ckpt.specs.Ended.{ended, left_in, lives_after}
 
 -- The rows of the live records after a checkpoint are those before, after the groups.
-abbrev pub KeepsRows : Type 0
-KeepsRows = (gs : List GroupData) (lives : List (List Numbered)) →
+abbrev pub CheckpointKeepsRows : Type 0
+CheckpointKeepsRows = (gs : List GroupData) (lives : List (List Numbered)) →
     rows_of (lives_after gs lives) ≡ after_groups (rows_of lives) gs
 
 -- No two of them have one key.
@@ -62,4 +62,4 @@ PlacesTakenOver = (gs : List GroupData) (ps after : List Pair) (lives : List (Li
     (at : PlaceMap) (p : Pair) → ArePlaces ps lives at → map file_of after ≡ map file_of ps →
     IsDistinct nat_eq (map file_of (after ++ p ∷ [])) →
     ArePlaces (after ++ p ∷ []) (lives_after gs lives)
-    (taken_over p.data_file (records_of gs) (gone_of gs) at)
+    (taken_places p.data_file (records_of gs) (gone_of gs) at)

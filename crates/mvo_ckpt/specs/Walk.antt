@@ -5,7 +5,7 @@ use Rattle.std.specs.Option.{option_map, option_to_list}
 use Rattle.std.specs.FinMap as map
 use Rattle.mvo_types.specs.declared.row.RowKey.{RowKey}
 use Rattle.mvo_types.specs.declared.limits.TheConstants.{MAX_PAIR_RECORDS}
-use Rattle.mvo_hash.specs.Table.{Map}
+use Rattle.mvo_hash.specs.Table.{KeyNumbers}
 use Rattle.mvo_pair.specs.Data.{EntryData}
 use Rattle.mvo_pair.specs.declared.pair.Pair.{Pair}
 use Rattle.mvo_ckpt.specs.declared.newest.Newest.{Newest}
@@ -16,7 +16,7 @@ use Rattle.mvo_ckpt.specs.Ended.{delta_by}
 
 -- the keys that were met, and what their last writes leave and end
 pub record Walk : Type 0 where
-  pub seen : Map
+  pub seen : KeyNumbers
   pub records : List EntryData
   pub gone : List RowKey
   pub places : List ℕ
@@ -54,9 +54,9 @@ abbrev pub step : PlaceMap → Stamped → Walk → Walk
 step at w s = meet at (map.contains_key s.seen w.1.0) w s
 
 -- the writes from the last to the first
-abbrev pub walk : PlaceMap → List Stamped → Walk → Walk
-walk at [] s = s
-walk at (w ∷ ws) s = step at w (walk at ws s)
+abbrev pub walk_writes : PlaceMap → List Stamped → Walk → Walk
+walk_writes at [] s = s
+walk_writes at (w ∷ ws) s = step at w (walk_writes at ws s)
 
 -- the numbers in a file, of places
 abbrev pub part_of : ℕ → List ℕ → List ℕ

@@ -26,12 +26,12 @@ abbrev pub writes_of : List GroupData → List Stamped
 writes_of gs = flat_map (λ g. writes_in g.records) gs
 
 -- whether the write is one of the key
-abbrev pub is_at : RowKey → Stamped → Bool
-is_at k w = eq_by_cmp key_cmp k w.1.0
+abbrev pub is_write_at : RowKey → Stamped → Bool
+is_write_at k w = eq_by_cmp key_cmp k w.1.0
 
 -- whether one of the writes is
 abbrev pub is_written : List Stamped → RowKey → Bool
-is_written ws k = list_any (is_at k) ws
+is_written ws k = list_any (is_write_at k) ws
 
 -- those that no later one is of the same key
 abbrev pub last_writes : List Stamped → List Stamped
@@ -39,14 +39,14 @@ last_writes [] = []
 last_writes (w ∷ ws) = if is_written ws w.1.0 then last_writes ws else (w ∷ last_writes ws)
 
 -- the later one, if there is one
-abbrev pub later_of : Option Stamped → Option Stamped → Option Stamped
-later_of (Some w) first = Some w
-later_of None first = first
+abbrev pub later_write : Option Stamped → Option Stamped → Option Stamped
+later_write (Some w) first = Some w
+later_write None first = first
 
 -- the last write of a key
 abbrev pub last_write : List Stamped → RowKey → Option Stamped
 last_write [] k = None
-last_write (w ∷ ws) k = later_of (last_write ws k) (if is_at k w then Some w else None)
+last_write (w ∷ ws) k = later_write (last_write ws k) (if is_write_at k w then Some w else None)
 
 -- the record of a put: its row, and the end of its transaction
 abbrev pub record_by : ℕ → RowKey → Effect → Option EntryData

@@ -1,4 +1,4 @@
-use mvo_pair::Entry;
+use mvo_pair::DataRecord;
 use mvo_types::RowKey;
 use std::marker::Model;
 
@@ -6,7 +6,7 @@ use std::marker::Model;
 #[derive(Debug, Drop)]
 pub struct Checkpoint {
     /// The records of the new pair's data file, by begin, then by table, and then by key.
-    pub records: Vec<Entry>,
+    pub records: Vec<DataRecord>,
     /// The keys at which the groups leave no row, whether or not one stood there.
     pub gone: Vec<RowKey>,
     /// What the delta files of older pairs gain, in the order of the pairs.
@@ -14,9 +14,9 @@ pub struct Checkpoint {
 }
 
 impl Model for Checkpoint {
-    ghost use Rattle.mvo_ckpt.specs.Checkpoint.{CheckpointData};
+    ghost use Rattle.mvo_ckpt.specs.Checkpoint.{BuiltCheckpoint};
 
-    ghost Value = { CheckpointData };
+    ghost Value = { BuiltCheckpoint };
 
     ghost view = { λ c. record {
       records = c.records.items;

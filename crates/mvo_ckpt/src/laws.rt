@@ -1,4 +1,4 @@
-ghost use Rattle.mvo_ckpt.specs.Laws.{KeepsRows, StaysApart, NamesOthers, LeavesOthers};
+ghost use Rattle.mvo_ckpt.specs.Laws.{CheckpointKeepsRows, StaysApart, NamesOthers, LeavesOthers};
 ghost use Rattle.mvo_ckpt.specs.Laws.{GivesEntries, IsFewEnough, AreLastPuts};
 ghost use Rattle.mvo_ckpt.specs.Laws.{PlacesTakenOver};
 
@@ -10,7 +10,7 @@ ghost use Rattle.mvo_ckpt.specs.Laws.{PlacesTakenOver};
 /// their key follows. Where a checkpoint is taken over, each live record that it leaves has its
 /// place. The call does nothing.
 pub fn laws_of_checkpoint()
-    ensures rows { KeepsRows }
+    ensures rows { CheckpointKeepsRows }
     ensures apart { StaysApart }
     ensures numbers { NamesOthers }
     ensures left { LeavesOthers }

@@ -2,11 +2,11 @@
 ghost use Rattle.std.specs.Prelude.{◌≡◌, OnOk, map};
 ghost use Rattle.mvo_group.specs.Data.{write_data};
 ghost use Rattle.mvo_ckpt.specs.Writes.{stamped, writes_in, writes_of};
-ghost use Rattle.mvo_ckpt.specs.Walk.{walk_of, none_met, with_place, with_write, step, walk};
+ghost use Rattle.mvo_ckpt.specs.Walk.{walk_of, none_met, with_place, with_write, step, walk_writes};
 
 use mvo_group::{Group, Record, Write};
 use mvo_hash::Heads;
-use mvo_pair::Entry;
+use mvo_pair::DataRecord;
 use mvo_places::Places;
 use mvo_types::{RowKey, Stamp};
 use std::alloc::{AllocError, Global};
@@ -16,7 +16,7 @@ use std::alloc::{AllocError, Global};
 #[derive(Drop)]
 pub struct Newest {
     pub seen: Heads,
-    pub records: Vec<Entry>,
+    pub records: Vec<DataRecord>,
     pub gone: Vec<RowKey>,
     pub places: Vec<u32>,
 }
@@ -39,7 +39,7 @@ fn add_write(newest: &mut Newest, end: Stamp, write: Write) -> Result<(), AllocE
         with_write (end.0, write_data write) (walk_of newest.old)) }
 {
     match write {
-        Write::Put(row) => newest.records.push(Entry { begin: end, row })?,
+        Write::Put(row) => newest.records.push(DataRecord { begin: end, row })?,
         Write::Delete(key) => newest.gone.push(key)?,
     }
     Ok(())
@@ -81,7 +81,8 @@ fn take_writes(
     mut writes: Vec<Write>,
 ) -> Result<(), AllocError>
     ensures { OnOk result (walk_of newest.new ≡
-        walk places.now.at (stamped end.0 (map write_data writes.items)) (walk_of newest.old)) }
+        walk_writes places.now.at (stamped end.0 (map write_data writes.items))
+        (walk_of newest.old)) }
 {
     while let Some(write) = writes.pop() {
         take_write(newest, places, end, write)?;
@@ -95,7 +96,7 @@ fn take_records(
     mut records: Vec<Record>,
 ) -> Result<(), AllocError>
     ensures { OnOk result (walk_of newest.new ≡
-        walk places.now.at (writes_in records.items) (walk_of newest.old)) }
+        walk_writes places.now.at (writes_in records.items) (walk_of newest.old)) }
 {
     while let Some(commit) = records.pop() {
         let Record { end, writes } = commit;
@@ -111,7 +112,7 @@ pub fn take_groups(
     mut groups: Vec<Group>,
 ) -> Result<(), AllocError>
     ensures { OnOk result (walk_of newest.new ≡
-        walk places.now.at (writes_of groups.items) (walk_of newest.old)) }
+        walk_writes places.now.at (writes_of groups.items) (walk_of newest.old)) }
 {
     while let Some(group) = groups.pop() {
         take_records(newest, places, group.into_records())?;

@@ -1,6 +1,6 @@
 use crate::fault::Fault;
 use crate::seed::draw_seed;
-use crate::shown::Shown;
+use crate::shown_progress::ShownProgress;
 use mvo_disk::{DirDisk, Disk, FolderRefusal, Unknown, make_folder};
 use mvo_store::{Store, format};
 use mvo_types::{Refusal, Rows, Stamp};
@@ -21,7 +21,7 @@ fn fault_of(refusal: FolderRefusal) -> Fault {
 }
 
 /// The disk in a folder, with what its files hold.
-type HostDisk<R> = DirDisk<R, Unknown, Shown<R>>;
+type HostDisk<R> = DirDisk<R, Unknown, ShownProgress<R>>;
 
 /// The disk in a folder. Its reading is shown on standard error where that is a terminal.
 pub fn open_disk<R: AllocGlobal + Eprint + Files<File = File> + Clone + Drop>(
@@ -35,7 +35,7 @@ pub fn open_disk<R: AllocGlobal + Eprint + Files<File = File> + Clone + Drop>(
     let Ok(errors) = rt.clone() else {
         return Err(Fault::OutOfMemory);
     };
-    let shown = Shown::new(errors, is_terminal);
+    let shown = ShownProgress::new(errors, is_terminal);
     match DirDisk::open(own, rt.alloc(), folder, Unknown, shown) {
         Ok(disk) => Ok(disk),
         Err(refusal) => Err(fault_of(refusal)),
@@ -93,16 +93,16 @@ fn world_over<D: Disk + Drop>(
 }
 
 /// What a store holds.
-pub struct Held {
+pub struct Holdings {
     pub rows: Rows,
     pub mark: Stamp,
     pub pairs: usize,
     pub segments: usize,
 }
 
-impl Drop for Held {
+impl Drop for Holdings {
     fn drop(self) {
-        let Held {
+        let Holdings {
             rows: _,
             mark: _,
             pairs: _,
@@ -112,7 +112,7 @@ impl Drop for Held {
 }
 
 /// What the store in a folder holds. The folder isn't used any longer then.
-pub fn open_held<R>(rt: &R, folder: &str, is_terminal: bool) -> Result<Held, Fault>
+pub fn open_held<R>(rt: &R, folder: &str, is_terminal: bool) -> Result<Holdings, Fault>
 where
     R: AllocGlobal + Eprint + Files<File = File> + RandomSource + Threads + Sync + Clone + Drop,
 {
@@ -127,7 +127,7 @@ fn held_on<D: Disk + Drop>(
     rt: &(impl RandomSource + Threads + Sync),
     alloc: Global,
     disk: D,
-) -> Result<Held, Fault> {
+) -> Result<Holdings, Fault> {
     let seed = draw_seed(rt)?;
     match Store::open(rt, alloc, seed, disk) {
         Ok((store, rows, mark)) => Ok(held_of(&store, rows, mark)),
@@ -136,10 +136,10 @@ fn held_on<D: Disk + Drop>(
 }
 
 /// What a store holds, with its rows and its mark.
-fn held_of<D: Disk>(store: &Store<D>, rows: Rows, mark: Stamp) -> Held {
+fn held_of<D: Disk>(store: &Store<D>, rows: Rows, mark: Stamp) -> Holdings {
     let manifest = store.manifest();
     let (pairs, segments) = (manifest.pairs().len(), manifest.segments().len());
-    Held {
+    Holdings {
         rows,
         mark,
         pairs,

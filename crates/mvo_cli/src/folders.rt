@@ -1,6 +1,6 @@
 use crate::fault::Fault;
 use crate::folder::open_disk;
-use crate::shown::Shown;
+use crate::shown_progress::ShownProgress;
 use mvo_disk::{DirDisk, Disk, Unknown};
 
 /// Opens the disks in folders, such that a store on one may be used by many threads.
@@ -13,7 +13,7 @@ pub trait Folders {
 }
 
 impl Folders for HostRuntime {
-    type Disk = DirDisk<HostRuntime, Unknown, Shown<HostRuntime>>;
+    type Disk = DirDisk<HostRuntime, Unknown, ShownProgress<HostRuntime>>;
 
     fn open_folder(&self, folder: &str, is_terminal: bool) -> Result<Self::Disk, Fault> {
         open_disk(self, folder, is_terminal)

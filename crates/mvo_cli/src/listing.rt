@@ -1,5 +1,5 @@
 use crate::fault::Fault;
-use crate::folder::Held;
+use crate::folder::Holdings;
 use mvo_types::{Row, RowKey};
 use std::alloc::{AllocError, Global};
 use std::io::{self, BufWriter, Write};
@@ -8,7 +8,7 @@ use std::io::{self, BufWriter, Write};
 /// copies one at a time; beside them it keeps the places of the table's rows.
 pub fn write_rows<W: Write + Drop>(
     alloc: Global,
-    held: &Held,
+    held: &Holdings,
     table: u8,
     writer: W,
 ) -> Result<(), Fault> {
@@ -18,7 +18,7 @@ pub fn write_rows<W: Write + Drop>(
 }
 
 /// The sorts and keys of a table's rows, in order.
-fn places_of(alloc: Global, held: &Held, table: u8) -> Result<Vec<(u64, u64)>, AllocError> {
+fn places_of(alloc: Global, held: &Holdings, table: u8) -> Result<Vec<(u64, u64)>, AllocError> {
     let mut places = held.rows.places(alloc, table)?;
     places.sort_unstable();
     Ok(places)
@@ -27,7 +27,7 @@ fn places_of(alloc: Global, held: &Held, table: u8) -> Result<Vec<(u64, u64)>, A
 /// Writes the mark, and then the rows at these places.
 fn write_places(
     alloc: Global,
-    held: &Held,
+    held: &Holdings,
     table: u8,
     places: &[(u64, u64)],
     writer: &mut impl Write,
@@ -42,7 +42,12 @@ fn write_places(
 }
 
 /// Writes the row at a key, where there is one.
-fn write_at(alloc: Global, held: &Held, key: RowKey, writer: &mut impl Write) -> Result<(), Fault> {
+fn write_at(
+    alloc: Global,
+    held: &Holdings,
+    key: RowKey,
+    writer: &mut impl Write,
+) -> Result<(), Fault> {
     match held.rows.get(key)? {
         Some(row) => write_row(alloc, &row, writer),
         None => Ok(()),
@@ -62,7 +67,7 @@ fn write_row(alloc: Global, row: &Row, writer: &mut impl Write) -> Result<(), Fa
 }
 
 /// Writes what a store that was opened holds.
-pub fn write_counts(held: &Held, writer: &mut impl Write) -> Result<(), Fault> {
+pub fn write_counts(held: &Holdings, writer: &mut impl Write) -> Result<(), Fault> {
     let (mark, rows) = (held.mark, held.rows.len());
     let (pairs, segments) = (held.pairs, held.segments);
     writeln!(

@@ -2,7 +2,7 @@
 use crate::fault::Fault;
 use crate::script_file::read_script;
 use crate::seed::draw_seed;
-use mvo_stops::{Recorded, Report, Start, Watch, check_stops, explain_call, lines_of};
+use mvo_stops::{Recorded, Report, ScriptStart, Watch, check_stops, explain_call, lines_of};
 use std::fs::{File, Files};
 use std::io::{self, Write};
 use std::random::RandomSource;
@@ -42,7 +42,7 @@ where
 {
     let seed = draw_seed(rt)?;
     let alloc = rt.alloc();
-    let start = Start::formatted(alloc).map_err(Fault::Stops)?;
+    let start = ScriptStart::formatted(alloc).map_err(Fault::Stops)?;
     Recorded::of(rt, alloc, seed, start, lines).map_err(Fault::Stops)
 }
 

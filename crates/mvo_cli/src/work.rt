@@ -1,6 +1,7 @@
 //! Runs scripts as jobs over the store in a folder.
 use crate::fault::Fault;
 use crate::folders::Folders;
+use crate::jobs::{WorkError, work_over};
 use crate::script_file::read_script;
 use crate::seed::draw_seed;
 use crate::shown_jobs::ShownJobs;
@@ -9,7 +10,6 @@ use crate::workers::Workers;
 use mvo_disk::Disk;
 use mvo_engine::Fresh;
 use mvo_front::Job;
-use mvo_jobs::{WorkError, work_over};
 use std::alloc::{AllocError, Global};
 use std::fs::{File, Files};
 use std::io::{self, BufWriter};

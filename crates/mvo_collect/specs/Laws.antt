@@ -37,10 +37,10 @@ use Rattle.mvo_representation.specs.Versions.{AreVersionsOf}
 use Rattle.mvo_representation.specs.Indexes.{all_versions}
 use Rattle.mvo_representation.specs.Steps.{IsOneMore, IsOneChanged, fresh, ended_by}
 use Rattle.mvo_representation.specs.Table.{phases_of, content_shown, end_awaited}
-use Rattle.mvo_representation.specs.Laws.{StandsFor}
+use Rattle.mvo_representation.specs.Laws.{VersionsStandFor}
 use Rattle.mvo_representation.specs.Order.{AllStandInOrder}
 use Rattle.mvo_representation.specs.OrderLaws.{HaveNow}
-use Rattle.mvo_representation.specs.WordLists.{WordLists, HasWordLists, names_at, number_at, finished}
+use Rattle.mvo_representation.specs.WordLists.{WordLists, HasWordLists, names_at, number_at_word, finished}
 use Rattle.mvo_versions.specs.Data.{VersionsData}
 use Rattle.mvo_collect.specs.declared.collection.Collection.{Collection}
 use Rattle.mvo_collect.specs.declared.collection.Collection.TheVariants.{Collected, Nothing}
@@ -52,9 +52,9 @@ use Rattle.mvo_collect.specs.Collecting.{IsCollected, IsCollection, from_dead, f
 
 -- ---- collecting
 -- what a core keeps of its versions, beside the table and the tale
-pub record Stands (opening : Map) (steps : List Step) (s : State) (states : States)
+pub record VersionsStand (opening : Map) (steps : List Step) (s : State) (states : States)
     (v : VersionsData) (words : WordLists) (w : WaitingData) : Type 0 where
-  pub versions : StandsFor opening steps s states v.slots v.lists v.places
+  pub versions : VersionsStandFor opening steps s states v.slots v.lists v.places
   pub over : AreOver s
   pub order : AllStandInOrder s.start states v.slots v.lists
   pub lists : HasWordLists s v.slots words
@@ -64,14 +64,14 @@ pub record Stands (opening : Map) (steps : List Step) (s : State) (states : Stat
 abbrev pub HorizonIsStart : Type 0
 HorizonIsStart = (opening : Map) (steps : List Step) (s : State) (states : States)
     (v : VersionsData) (words : WordLists) (w : WaitingData)
-    → Stands opening steps s states v words w → horizon s ≡ s.start
+    → VersionsStand opening steps s states v words w → horizon s ≡ s.start
 
 -- A garbage version is taken out: what is left stands for the same state, and one is fewer.
 abbrev pub CollectKeeps : Type 0
 CollectKeeps = (opening : Map) (steps : List Step) (s : State) (states : States)
     (old new : VersionsData) (words : WordLists) (w : WaitingData) (n : VersionNo)
-    → Stands opening steps s states old words w → IsCollected s.start old new n
-    → Stands opening steps s states new words w
+    → VersionsStand opening steps s states old words w → IsCollected s.start old new n
+    → VersionsStand opening steps s states new words w
 
 abbrev pub CollectTakesOne : Type 0
 CollectTakesOne = (h : ℕ) (old new : VersionsData) (n : VersionNo) → IsCollected h old new n
@@ -86,15 +86,15 @@ DeadArePassed = (clock : ℕ) (states : States) (slots : Slots) (w : WaitingData
 abbrev pub DueArePassed : Type 0
 DueArePassed = (opening : Map) (steps : List Step) (s : State) (states : States)
     (v : VersionsData) (words : WordLists) (w : WaitingData)
-    → Stands opening steps s states v words w
-    → Stands opening steps s states v words
+    → VersionsStand opening steps s states v words w
+    → VersionsStand opening steps s states v words
     (record w { ended = from_due s.start v.slots w.ended })
 
 -- Where nothing is left behind them, there is no garbage.
 abbrev pub NothingIsLeft : Type 0
 NothingIsLeft = (opening : Map) (steps : List Step) (s : State) (states : States)
     (v : VersionsData) (words : WordLists) (w : WaitingData)
-    → Stands opening steps s states v words w
+    → VersionsStand opening steps s states v words w
     → from_dead v.slots w.dead ≡ []
     → due_number s.start (from_due s.start v.slots w.ended) ≡ None
     → garbage_count (horizon s) v.slots ≡ 0
@@ -103,8 +103,8 @@ NothingIsLeft = (opening : Map) (steps : List Step) (s : State) (states : States
 abbrev pub CollectionStands : Type 0
 CollectionStands = (opening : Map) (steps : List Step) (s : State) (states : States)
     (old new : VersionsData) (words : WordLists) (w w' : WaitingData) (c : Collection)
-    → Stands opening steps s states old words w → IsCollection s.start old w c new w'
-    → Stands opening steps s states new words w'
+    → VersionsStand opening steps s states old words w → IsCollection s.start old w c new w'
+    → VersionsStand opening steps s states new words w'
 
 -- One garbage version is fewer, or there is none.
 abbrev pub IsCountedSo : ℕ → Slots → Slots → Collection → Type 0
@@ -114,7 +114,7 @@ IsCountedSo h old new Nothing = (garbage_count h old ≡ 0) × (new ≡ old)
 abbrev pub CollectionCounts : Type 0
 CollectionCounts = (opening : Map) (steps : List Step) (s : State) (states : States)
     (old new : VersionsData) (words : WordLists) (w w' : WaitingData) (c : Collection)
-    → Stands opening steps s states old words w → IsCollection s.start old w c new w'
+    → VersionsStand opening steps s states old words w → IsCollection s.start old w c new w'
     → IsCountedSo (horizon s) old.slots new.slots c
 
 -- ---- the other calls
@@ -130,17 +130,17 @@ abbrev pub waiting_drawn : Stamp → List VersionNo → List Ended
 waiting_drawn e ns = map (λ n. record { end = e; number = n }) ns
 
 -- whether the number is among these
-abbrev pub IsListed : ℕ → List VersionNo → Type 0
-IsListed n ns = is_buried n ns ≡ true
+abbrev pub IsAmongBuried : ℕ → List VersionNo → Type 0
+IsAmongBuried n ns = is_buried n ns ≡ true
 
 abbrev pub DrawKeepsWaiting : Type 0
 DrawKeepsWaiting = (opening : Map) (steps : List Step) (s : State) (states states' : States)
     (v : VersionsData) (words : WordLists) (w : WaitingData) (t : ℕ) (end' : Stamp)
     (ns : List VersionNo)
-    → Stands opening steps s states v words w → states t ≡ Some Active
+    → VersionsStand opening steps s states v words w → states t ≡ Some Active
     → DifferAt t states states' → states' t ≡ Some (Preparing end') → end'.0 ≡ s.clock + 1
     → ((n : ℕ) (x : Version) → version_at v.slots (number n) ≡ Some x → names t x.end ≡ true
-    → IsListed n ns)
+    → IsAmongBuried n ns)
     → AreWaiting (s.clock + 1) states' v.slots
     (record w { ended = w.ended ++ waiting_drawn end' ns })
 
@@ -175,13 +175,13 @@ and_dead dead n w = cond dead (record w { dead = w.dead ++ number n ∷ [] }) w
 abbrev pub FinishKeepsWaiting : Type 0
 FinishKeepsWaiting = (clock : ℕ) (states : States) (slots slots' : Slots) (w : WaitingData)
     (t room : ℕ) (p : WordPlace) (v : Version)
-    → version_at slots (number_at p) ≡ Some v → names_at slots t p ≡ true
-    → HaveNow slots slots' (number_at p).0 (finished (ends_of (phases_of states)) t p v)
+    → version_at slots (number_at_word p) ≡ Some v → names_at slots t p ≡ true
+    → HaveNow slots slots' (number_at_word p).0 (finished (ends_of (phases_of states)) t p v)
     → IsOneChanged v (finished (ends_of (phases_of states)) t p v)
     (all_versions slots) (all_versions slots')
     → AreWaiting clock states slots w
     → AreWaiting clock states slots'
-    (and_dead (is_dead (finished (ends_of (phases_of states)) t p v)) (number_at p).0
+    (and_dead (is_dead (finished (ends_of (phases_of states)) t p v)) (number_at_word p).0
     (with_owed w (w.owed - 1) room))
 
 -- Slots that have the same at each number have the same waiting.
@@ -204,25 +204,25 @@ abbrev pub CollectShowsSame : Type 0
 CollectShowsSame = (opening : Map) (steps : List Step) (s : State) (states : States)
     (old new : VersionsData) (words : WordLists) (w : WaitingData) (n : VersionNo)
     (b : ℕ) (k : RowKey)
-    → Stands opening steps s states old words w → IsCollected s.start old new n
+    → VersionsStand opening steps s states old words w → IsCollected s.start old new n
     → IsFreeBegin s states old.slots b
     → standing (change_below (ends_of (phases_of states)) b k (all_versions new.slots))
     ≡ standing (change_below (ends_of (phases_of states)) b k (all_versions old.slots))
 
 -- what the rules show the transaction at a key
-abbrev pub shown_at : States → ℕ → VersionsData → RowKey → Shown
-shown_at states t v k = shown_to states t t (versions_at v.slots v.lists k)
+abbrev pub shown_at_key : States → ℕ → VersionsData → RowKey → Shown
+shown_at_key states t v k = shown_to states t t (versions_at v.slots v.lists k)
 
 -- What the rules answer of an Active transaction is the same too: what it is shown at a key, on
 -- whom it comes to depend there, what the check of an entry names, and what a scan meets.
 pub record AnswersSame (s : State) (states : States) (old new : VersionsData) (r : ActiveTx)
     : Type 0 where
   pub shown : (k : RowKey)
-      → content_shown new.slots (shown_at states r.id new k).version
-      ≡ content_shown old.slots (shown_at states r.id old k).version
+      → content_shown new.slots (shown_at_key states r.id new k).version
+      ≡ content_shown old.slots (shown_at_key states r.id old k).version
   pub depends : (k : RowKey)
-      → with_open r.depends_on (end_awaited states (shown_at states r.id new k).depends_on)
-      ≡ with_open r.depends_on (end_awaited states (shown_at states r.id old k).depends_on)
+      → with_open r.depends_on (end_awaited states (shown_at_key states r.id new k).depends_on)
+      ≡ with_open r.depends_on (end_awaited states (shown_at_key states r.id old k).depends_on)
   pub checked : (begin end' : ℕ) (entry : Entry) → s.start ≤ begin → begin < end'
       → stamp_between begin end'
       (changes_of states (versions_in new.slots new.lists new.places entry))
@@ -238,13 +238,13 @@ abbrev pub CollectAnswersSame : Type 0
 CollectAnswersSame = (opening : Map) (steps : List Step) (s : State) (states : States)
     (old new : VersionsData) (words : WordLists) (w w' : WaitingData) (c : Collection)
     (r : ActiveTx)
-    → Stands opening steps s states old words w → IsCollection s.start old w c new w'
+    → VersionsStand opening steps s states old words w → IsCollection s.start old w c new w'
     → active_of r.id s.active ≡ Some r → AnswersSame s states old new r
 
 -- ---- the tale
 -- The stored commits above the start are legal from the rows that the versions show to a begin just
 -- above it.
-pub record IsTaleOf (s : State) (states : States) (slots : Slots) : Type 0 where
+pub record HasTaleAbove (s : State) (states : States) (slots : Slots) : Type 0 where
   pub shown : (k : RowKey)
       → row_in (change_below (ends_of (phases_of states)) (suc s.start) k (all_versions slots))
       ≡ fin.get s.base k
@@ -253,14 +253,14 @@ pub record IsTaleOf (s : State) (states : States) (slots : Slots) : Type 0 where
 abbrev pub TaleIsLegal : Type 0
 TaleIsLegal = (opening : Map) (steps : List Step) (s : State) (states : States)
     (v : VersionsData) (words : WordLists) (w : WaitingData)
-    → Stands opening steps s states v words w → IsTaleOf s states v.slots
+    → VersionsStand opening steps s states v words w → HasTaleAbove s states v.slots
 
 -- A trim keeps what stands.
 abbrev pub TrimStands : Type 0
 TrimStands = (opening : Map) (steps : List Step) (s : State) (states : States)
     (v : VersionsData) (words : WordLists) (w : WaitingData) (m : ℕ)
-    → Stands opening steps s states v words w → why_not_trim s m ≡ None
-    → Stands opening steps (after_trim s m) states v words w
+    → VersionsStand opening steps s states v words w → why_not_trim s m ≡ None
+    → VersionsStand opening steps (after_trim s m) states v words w
 
 -- ---- what the calls need
 -- Nothing waits when a core opens: its versions begin at the mark, and nobody has ended them.
@@ -280,7 +280,7 @@ end_numbers (End n ∷ ps) = n ∷ end_numbers ps
 abbrev pub EndsAreListed : Type 0
 EndsAreListed = (s : State) (slots : Slots) (words : WordLists) (t n : ℕ) (v : Version)
     → HasWordLists s slots words → version_at slots (number n) ≡ Some v → names t v.end ≡ true
-    → IsListed n (end_numbers (words t))
+    → IsAmongBuried n (end_numbers (words t))
 
 -- Where a word names a transaction, room is kept for its version.
 abbrev pub OpenIsOwed : Type 0

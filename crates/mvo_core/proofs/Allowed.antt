@@ -16,20 +16,14 @@ use Rattle.mvo_txn.specs.Txns.{Txns, state_of, IsUnended}
 use Rattle.mvo_deps.specs.declared.node.Node.{Node}
 use Rattle.mvo_work.specs.History.{key_written}
 use Rattle.mvo_work.specs.Limits.{MayFollow}
-use Rattle.mvo_core.specs.declared.transaction.Transaction.{Transaction}
+use Rattle.mvo_core.specs.declared.kept_transaction.KeptTransaction.{KeptTransaction}
 use Rattle.mvo_core.specs.Causes.{over_writes, is_entry_over, is_write_over, flag_of, why_not_active, why_not_put, why_not_remove}
 use Rattle.mvo_core.specs.Data.{own_of}
-use Rattle.mvo_core.proofs.Asked.{first_none, rest_none, when_none, row_is_fit, write_is_fit}
+use Rattle.mvo_core.proofs.Asked.{first_none, rest_none, when_none, row_is_fit, write_is_fit, none_key, some_key}
 use Rattle.mvo_core.proofs.CausesTold.{none_active}
 
-none_key : (k : RowKey) → ◌≡◌ {A = Option RowKey} None (Some k) → ⊥
-none_key k q = cc
-
-some_key : (k q : RowKey) → ◌≡◌ {A = Option RowKey} (Some k) (Some q) → k ≡ q
-some_key k q e = cc
-
 -- one that may be called as an Active one may be aborted
-pub unended_if_active : (table : Txns (Node Transaction)) (t : ℕ) → why_not_active table t ≡ None → IsUnended (state_of table t)
+pub unended_if_active : (table : Txns (Node KeptTransaction)) (t : ℕ) → why_not_active table t ≡ None → IsUnended (state_of table t)
 unended_if_active table t none = subst IsUnended (sym (none_active (state_of table t) (flag_of table t) none)) tt
 
 -- ---- a removal
@@ -37,7 +31,7 @@ remove_writes : (k : RowKey) (a : AnswerData) (q : RowKey) → key_written (Dele
 remove_writes k Deleted q e = some_key k q e
 remove_writes k a q e = absurd (none_key q e)
 
-module _ (table : Txns (Node Transaction)) (t : ℕ) (k : RowKey) (none : why_not_remove table t k ≡ None) where
+module _ (table : Txns (Node KeptTransaction)) (t : ℕ) (k : RowKey) (none : why_not_remove table t k ≡ None) where
   behind_active : first_cause (when (nat_lt MAX_TABLE k.table) BadTable ∷ when (is_entry_over table t (Key k)) TooManyReads ∷ when (is_write_over table t k) TooManyWrites ∷ []) ≡ None
   behind_active = rest_none (why_not_active table t) _ none
 
@@ -50,7 +44,7 @@ module _ (table : Txns (Node Transaction)) (t : ℕ) (k : RowKey) (none : why_no
   pub may_remove : (a : AnswerData) → IfSome (own_of table t) (λ own. MayFollow own.work.history (Delete k) a)
   may_remove a = go (own_of table t) (when_none (is_write_over table t k) TooManyWrites (first_none (when (is_write_over table t k) TooManyWrites) _ behind_reads))
     where
-      go : (o : Option Transaction) → over_writes o k ≡ false → IfSome o (λ own. MayFollow own.work.history (Delete k) a)
+      go : (o : Option KeptTransaction) → over_writes o k ≡ false → IfSome o (λ own. MayFollow own.work.history (Delete k) a)
       go None e = tt
       go (Some own) e = record { row = in_tables; write = λ q is. ap (is_write_too_many own.work.history) (sym (remove_writes k a q is)) ∙ e }
 
@@ -59,9 +53,9 @@ update_writes : (row : RowData) (a : AnswerData) (q : RowKey) → key_written (U
 update_writes row Updated q e = some_key row.key q e
 update_writes row a q e = absurd (none_key q e)
 
-pub may_update : (table : Txns (Node Transaction)) (t : ℕ) (row : RowData) → why_not_put table t row ≡ None → (a : AnswerData) → IfSome (own_of table t) (λ own. MayFollow own.work.history (Update row) a)
+pub may_update : (table : Txns (Node KeptTransaction)) (t : ℕ) (row : RowData) → why_not_put table t row ≡ None → (a : AnswerData) → IfSome (own_of table t) (λ own. MayFollow own.work.history (Update row) a)
 may_update table t row none a = go (own_of table t) (write_is_fit table t row none)
   where
-    go : (o : Option Transaction) → over_writes o row.key ≡ false → IfSome o (λ own. MayFollow own.work.history (Update row) a)
+    go : (o : Option KeptTransaction) → over_writes o row.key ≡ false → IfSome o (λ own. MayFollow own.work.history (Update row) a)
     go None e = tt
     go (Some own) e = record { row = row_is_fit table t row none; write = λ q is. ap (is_write_too_many own.work.history) (sym (update_writes row a q is)) ∙ e }

@@ -11,9 +11,9 @@ use Rattle.mvo_types.specs.declared.op.Op.{Op}
 use Rattle.mvo_types.specs.AnswerData.{AnswerData}
 use Rattle.mvo_chain.specs.Slots.{Slots}
 use Rattle.mvo_word.specs.declared.held.Held.{Held}
-use Rattle.mvo_txn.specs.declared.seat.Seat.{Seat}
+use Rattle.mvo_txn.specs.declared.table_seat.TableSeat.{TableSeat}
 use Rattle.mvo_txn.specs.Seats.{with_kept_at}
-use Rattle.mvo_txn.specs.Txns.{Txns, kept_of, after_write}
+use Rattle.mvo_txn.specs.Txns.{Txns, kept_of, table_after_write}
 use Rattle.mvo_txn.proofs.Stamps.{get_inserted, get_beside}
 use Rattle.mvo_deps.specs.declared.node.Node.{Node}
 use Rattle.mvo_deps.specs.Data.{DependencyData, without_dependents}
@@ -21,27 +21,24 @@ use Rattle.mvo_deps.specs.Nodes.{data_in, data_of, after_change, after_change_at
 use Rattle.mvo_deps.proofs.Changes.{write_same, each_none}
 use Rattle.mvo_work.specs.declared.word_place.WordPlace.{WordPlace}
 use Rattle.mvo_versions.specs.Data.{VersionsData}
-use Rattle.mvo_core.specs.declared.transaction.Transaction.{Transaction}
+use Rattle.mvo_core.specs.declared.kept_transaction.KeptTransaction.{KeptTransaction}
 use Rattle.mvo_core.specs.Data.{own_of}
 use Rattle.mvo_core.specs.Standing.{words_in}
 use Rattle.mvo_core.specs.Keeping.{IsWritten, HasMadeRoom, IsTold, IsRecorded, with_own_at}
 use Rattle.mvo_core.specs.Finishing.{from_own, HasPassed, IsFirstReplaced, IsOneReplaced}
-use Rattle.mvo_core.proofs.NoneLeft.{passed_none}
+use Rattle.mvo_core.proofs.NoneLeft.{passed_none, none_node}
 use Rattle.mvo_core.proofs.Written.{written}
 
-none_node : (n : Node Transaction) → ◌≡◌ {A = Option (Node Transaction)} None (Some n) → ⊥
-none_node n e = cc
-
 -- ---- nobody depends on it
-same_node : (node : Node Transaction) → node.dependencies.dependents ≡ [] → record node { dependencies = without_dependents node.dependencies } ≡ node
+same_node : (node : Node KeptTransaction) → node.dependencies.dependents ≡ [] → record node { dependencies = without_dependents node.dependencies } ≡ node
 same_node node e = ap (λ (ids : List TxId). record node { dependencies = record node.dependencies { dependents = ids } }) (sym e)
 
-same_at : (o : Option (Node Transaction)) (t : Txns (Node Transaction)) (id : ℕ) → kept_of t id ≡ o → (data_in o).dependents ≡ [] → after_change_at o t id without_dependents ≡ t
+same_at : (o : Option (Node KeptTransaction)) (t : Txns (Node KeptTransaction)) (id : ℕ) → kept_of t id ≡ o → (data_in o).dependents ≡ [] → after_change_at o t id without_dependents ≡ t
 same_at None t id k e = refl
-same_at (Some node) t id k e = ap (after_write t id) (same_node node e) ∙ write_same t id node k
+same_at (Some node) t id k e = ap (table_after_write t id) (same_node node e) ∙ write_same t id node k
 
 -- who has no dependents tells nobody
-pub nobody_told : (f : DependencyData → DependencyData) (t : Txns (Node Transaction)) (on : TxId) → (data_of t on).dependents ≡ [] → IsReported f t t on
+pub nobody_told : (f : DependencyData → DependencyData) (t : Txns (Node KeptTransaction)) (on : TxId) → (data_of t on).dependents ≡ [] → IsReported f t t on
 nobody_told f t on none =
     subst (λ ids. IsEachChanged f (after_change t on.0 without_dependents) t ids) (sym none)
     (subst (λ u. IsEachChanged f u t []) (sym (same_at (kept_of t on.0) t on.0 refl none)) (each_none f t))
@@ -51,7 +48,7 @@ no_word : (ps : List WordPlace) → nat_lt 0 (length ps) ≡ false → ps ≡ []
 no_word [] e = refl
 no_word (p ∷ ps) e = absurd (false≢true (sym e ∙ lt-ltb 0 (length (p ∷ ps)) (omega arith)))
 
-module _ (versions : VersionsData) (table : Txns (Node Transaction)) (t : ℕ) (none : nat_lt 0 (length (words_in table t)) ≡ false) where
+module _ (versions : VersionsData) (table : Txns (Node KeptTransaction)) (t : ℕ) (none : nat_lt 0 (length (words_in table t)) ≡ false) where
   nothing_passed : IsSome (own_of table t) → IsWritten table table t (HasPassed versions.slots t)
   nothing_passed there = passed_none table t versions.slots there (no_word (words_in table t) none)
 
@@ -80,52 +77,52 @@ inserted_twice m k x y = same_map nat_cmp_total nat_cmp-IsAntisymmetric (insert 
     (λ ne. get_beside (insert m k x) k y q ne ∙ get_beside m k x q ne ∙ sym (get_beside m k y q ne))
     (cases_eq q k))
 
-module _ (table : Txns (Node Transaction)) (t : ℕ) (node first second : Node Transaction) where
-  kept_at : (o : Option (Seat (Node Transaction))) → get table.seats t ≡ o → option_map (λ s. s.kept) o ≡ Some node
+module _ (table : Txns (Node KeptTransaction)) (t : ℕ) (node first second : Node KeptTransaction) where
+  kept_at : (o : Option (TableSeat (Node KeptTransaction))) → get table.seats t ≡ o → option_map (λ s. s.kept) o ≡ Some node
       → option_map (λ s. s.kept) (get (with_kept_at o table.seats t first) t) ≡ Some first
   kept_at None is w = absurd (none_node node w)
   kept_at (Some s) is w = ap (option_map (λ s. s.kept)) (get_inserted table.seats t (record s { kept = first }))
 
-  kept_now : kept_of table t ≡ Some node → kept_of (after_write table t first) t ≡ Some first
+  kept_now : kept_of table t ≡ Some node → kept_of (table_after_write table t first) t ≡ Some first
   kept_now k = kept_at (get table.seats t) refl k
 
-  twice_at : (o : Option (Seat (Node Transaction))) → get table.seats t ≡ o → option_map (λ s. s.kept) o ≡ Some node
+  twice_at : (o : Option (TableSeat (Node KeptTransaction))) → get table.seats t ≡ o → option_map (λ s. s.kept) o ≡ Some node
       → with_kept_at (get (with_kept_at o table.seats t first) t) (with_kept_at o table.seats t first) t second ≡ with_kept_at o table.seats t second
   twice_at None is w = absurd (none_node node w)
   twice_at (Some s) is w =
       ap (λ q. with_kept_at q (insert table.seats t (record s { kept = first })) t second) (get_inserted table.seats t (record s { kept = first }))
       ∙ inserted_twice table.seats t (record s { kept = first }) (record s { kept = second })
 
-  written_twice : kept_of table t ≡ Some node → after_write (after_write table t first) t second ≡ after_write table t second
+  written_twice : kept_of table t ≡ Some node → table_after_write (table_after_write table t first) t second ≡ table_after_write table t second
   written_twice k = ap (λ seats. record table { seats = seats }) (twice_at (get table.seats t) refl k)
 
 -- what is written of it is written over
-pub written_again : (table : Txns (Node Transaction)) (t : ℕ) (node : Node Transaction) (one two : Transaction) (change : Transaction → Transaction → Type 0)
+pub written_again : (table : Txns (Node KeptTransaction)) (t : ℕ) (node : Node KeptTransaction) (one two : KeptTransaction) (change : KeptTransaction → KeptTransaction → Type 0)
     → Some node ≡ kept_of table t → change one two
-    → IsWritten (after_write table t (record node { own = one })) (after_write table t (record node { own = two })) t change
+    → IsWritten (table_after_write table t (record node { own = one })) (table_after_write table t (record node { own = two })) t change
 written_again table t node one two change kept changed =
-    let first : Node Transaction = record node { own = one } in
-    let second : Node Transaction = record node { own = two } in
+    let first : Node KeptTransaction = record node { own = one } in
+    let second : Node KeptTransaction = record node { own = two } in
     let now = kept_now table t node first second (sym kept) in
     record {
       before = one;
       after = two;
       was = ap (option_map (λ n. n.own)) now;
-      is = sym (written_twice table t node first second (sym kept)) ∙ sym (ap (λ o. with_own_at o (after_write table t first) t two) now);
+      is = sym (written_twice table t node first second (sym kept)) ∙ sym (ap (λ o. with_own_at o (table_after_write table t first) t two) now);
       changed = changed;
     }
 
 -- room for more, whatever there is
-abbrev roomy : Transaction → Transaction
+abbrev roomy : KeptTransaction → KeptTransaction
 roomy own = record own { work = record own.work { room = 1; word_room = 2 } }
 
 -- one look records the answer as two would
-pub recorded_alone : (table : Txns (Node Transaction)) (t : TxId) (node : Node Transaction) (after : Transaction) (op : Op) (answer : AnswerData)
+pub recorded_alone : (table : Txns (Node KeptTransaction)) (t : TxId) (node : Node KeptTransaction) (after : KeptTransaction) (op : Op) (answer : AnswerData)
     → Some node ≡ kept_of table t.0 → IsTold op answer node.own after
-    → IsRecorded table (after_write table t.0 (record node { own = after })) t [] op answer
+    → IsRecorded table (table_after_write table t.0 (record node { own = after })) t [] op answer
 recorded_alone table t node after op answer kept told =
     record {
-      roomy = after_write table t.0 (record node { own = roomy node.own });
+      roomy = table_after_write table t.0 (record node { own = roomy node.own });
       room = written table t.0 node (roomy node.own) HasMadeRoom kept (record { same = record { history = refl; words = refl; place = refl; checked = refl; valid = refl }; room = record { operation = omega arith; words = omega arith } });
       told = written_again table t.0 node (roomy node.own) after (IsTold op answer) kept
           (record { history = told.history; words = told.words; place = told.place; checked = told.checked; valid = told.valid });

@@ -27,7 +27,7 @@ use Rattle.mvo_txn.specs.Txns.{Txns, state_of}
 use Rattle.mvo_deps.specs.declared.node.Node.{Node}
 use Rattle.mvo_deps.specs.Nodes.{after_register_all}
 use Rattle.mvo_chain.specs.declared.version.Version.{Version}
-use Rattle.mvo_tale.specs.declared.slot.Slot.{Slot}
+use Rattle.mvo_tale.specs.declared.tale_place.TalePlace.{TalePlace}
 use Rattle.mvo_tale.specs.Kept.{IsTale}
 use Rattle.mvo_versions.specs.Data.{VersionsData, AreIndexed}
 use Rattle.mvo_representation.specs.Words.{Phases}
@@ -42,24 +42,24 @@ use Rattle.mvo_representation.proofs.OrderAborts.{same_stay_in_order}
 use Rattle.mvo_representation.proofs.WordsKept.{answer_keeps_lists}
 use Rattle.mvo_collect.proofs.Over.{each_call_keeps_over}
 use Rattle.mvo_work.specs.declared.word_place.WordPlace.{WordPlace}
-use Rattle.mvo_core.specs.declared.transaction.Transaction.{Transaction}
+use Rattle.mvo_core.specs.declared.kept_transaction.KeptTransaction.{KeptTransaction}
 use Rattle.mvo_core.specs.Data.{CoreData, own_of}
-use Rattle.mvo_core.specs.Standing.{StandsFor, HasWorks, IsActive, IsPreparing, words_in}
+use Rattle.mvo_core.specs.Standing.{StandsFor, HasWorks, IsKeptActive, IsKeptPreparing, words_in}
 use Rattle.mvo_core.specs.Keeping.{HasDoneMore, IsTold, IsRecorded}
 use Rattle.mvo_core.specs.Steps.{LeadsOn}
 use Rattle.mvo_core.proofs.Laws.{answer_in_table, call_keeps}
-use Rattle.mvo_core.proofs.Carried.{stands_roomy}
-use Rattle.mvo_core.proofs.OwnChanged.{IsOwnChanged, some_own, own_registered_all, state_registered_all, own_changed, own_weaker, words_stay, words_registered}
+use Rattle.mvo_core.proofs.Carried.{stands_roomy, some_own}
+use Rattle.mvo_core.proofs.OwnChanged.{IsOwnChanged, own_registered_all, state_registered_all, own_changed, own_weaker, words_stay, words_registered}
 
 -- it has done one operation more, whatever words it has put
-pub record HasAnswered (op : Op) (a : AnswerData) (old new : Transaction) : Type 0 where
+pub record HasAnswered (op : Op) (a : AnswerData) (old new : KeptTransaction) : Type 0 where
   pub history : new.work.history ≡ old.work.history ++ (op, a) ∷ []
   pub place : new.place ≡ old.place
   pub checked : new.checked ≡ old.checked
   pub valid : new.valid ≡ old.valid
 
 -- ---- a claim that is taken over
-works_taken : (o : Option Claim) (z : State) (table : Txns (Node Transaction)) (tale : List Slot) → HasWorks z table tale → HasWorks (taken_over o z) table tale
+works_taken : (o : Option Claim) (z : State) (table : Txns (Node KeptTransaction)) (tale : List TalePlace) → HasWorks z table tale → HasWorks (taken_over o z) table tale
 works_taken None z table tale h = h
 works_taken (Some x) z table tale h = record { active = h.active; preparing = h.preparing }
 
@@ -73,14 +73,14 @@ beside_taken (Some x) s active = (refl, refl, refl, refl)
 
 -- ---- what each transaction has done
 module _ (opening : Map) (steps : List Step) (s : State) (c : CoreData) (h : StandsFor opening steps s c) (t : TxId) (r : ActiveTx) (found : active_of t.0 s.active ≡ Some r) (op : Op) (a : AnswerData)
-    (ids : List TxId) (table : Txns (Node Transaction)) (w : IsOwnChanged (after_register_all c.table t ids) table t.0 (HasAnswered op a)) where
+    (ids : List TxId) (table : Txns (Node KeptTransaction)) (w : IsOwnChanged (after_register_all c.table t ids) table t.0 (HasAnswered op a)) where
   was : own_of c.table t.0 ≡ Some w.before
   was = sym (own_registered_all c.table t ids t.0) ∙ w.was
 
   others : (u : ℕ) → u ≢ t.0 → own_of table u ≡ own_of c.table u
   others u ne = w.beside u ne ∙ own_registered_all c.table t ids u
 
-  one : (q : ActiveTx) → IsActive c.table q → IsActive table (with_answer s t.0 op a q)
+  one : (q : ActiveTx) → IsKeptActive c.table q → IsKeptActive table (with_answer s t.0 op a q)
   one q m =
       ⊎_elim
       (λ is.
@@ -88,7 +88,7 @@ module _ (opening : Map) (steps : List Step) (s : State) (c : CoreData) (h : Sta
         own = w.after;
         kept = ap (own_of table) is ∙ w.is;
         history = w.changed.history
-            ∙ ap (λ (o : Transaction). o.work.history ++ (op, a) ∷ []) (sym same)
+            ∙ ap (λ (o : KeptTransaction). o.work.history ++ (op, a) ∷ []) (sym same)
             ∙ ap (λ ts. ts ++ (op, a) ∷ []) m.history
             ∙ sym (ap (λ b. cond b (q.history ++ (op, a) ∷ []) q.history) (eq-eqb q.id t.0 is));
       })
@@ -98,7 +98,7 @@ module _ (opening : Map) (steps : List Step) (s : State) (c : CoreData) (h : Sta
   apart : AllByRecursion (λ x. x.id ≢ r.id) s.stamped
   apart = (active_holds (λ r. AllByRecursion (λ x. x.id ≢ r.id) s.stamped) t.0 s.active r found h.versions.kept.numbered.apart).0
 
-  still : (x : StampedTx) → x.id ≢ r.id → (x.settled ≡ false → IsPreparing c.table c.tale x) → x.settled ≡ false → IsPreparing table c.tale x
+  still : (x : StampedTx) → x.id ≢ r.id → (x.settled ≡ false → IsKeptPreparing c.table c.tale x) → x.settled ≡ false → IsKeptPreparing table c.tale x
   still x ne m open' = let p = m open' in record {
     own = p.own;
     kept = others x.id (λ e. ne (e ∙ sym (id_of t.0 s.active r found))) ∙ p.kept;
@@ -110,8 +110,8 @@ module _ (opening : Map) (steps : List Step) (s : State) (c : CoreData) (h : Sta
 
   works_told : HasWorks (after_operation s t.0 op a) table c.tale
   works_told = record {
-    active = each_map (with_answer s t.0 op a) (IsActive c.table) (IsActive table) one s.active h.works.active;
-    preparing = each_both (λ x. x.id ≢ r.id) (λ x. x.settled ≡ false → IsPreparing c.table c.tale x) (λ x. x.settled ≡ false → IsPreparing table c.tale x) still s.stamped apart h.works.preparing;
+    active = each_map (with_answer s t.0 op a) (IsKeptActive c.table) (IsKeptActive table) one s.active h.works.active;
+    preparing = each_both (λ x. x.id ≢ r.id) (λ x. x.settled ≡ false → IsKeptPreparing c.table c.tale x) (λ x. x.settled ≡ false → IsKeptPreparing table c.tale x) still s.stamped apart h.works.preparing;
   }
 
   pub works_answered : HasWorks (after_answer s t.0 op a) table c.tale
@@ -120,7 +120,7 @@ module _ (opening : Map) (steps : List Step) (s : State) (c : CoreData) (h : Sta
 -- ---- the answer
 -- The Active transaction t is r. It is told what the state answers to the operation, which it may
 -- do; those are registered on whom it depends then; and this has become of the versions.
-pub record IsAnswered (s : State) (c : CoreData) (t : TxId) (r : ActiveTx) (op : Op) (ids : List TxId) (v : VersionsData) (table : Txns (Node Transaction)) : Type 0 where
+pub record IsAnswered (s : State) (c : CoreData) (t : TxId) (r : ActiveTx) (op : Op) (ids : List TxId) (v : VersionsData) (table : Txns (Node KeptTransaction)) : Type 0 where
   pub found : active_of t.0 s.active ≡ Some r
   pub may : why_not_do s t.0 op ≡ None
   pub on : AreDependencies s op r ids
@@ -131,7 +131,7 @@ pub record IsAnswered (s : State) (c : CoreData) (t : TxId) (r : ActiveTx) (op :
   pub words : HasWordLists (after_answer s t.0 op (answer_in s t.0 op)) v.slots (words_in table)
 
 module _ (opening : Map) (steps : List Step) (s : State) (c : CoreData) (h : StandsFor opening steps s c) (t : TxId) (r : ActiveTx) (op : Op) (ids : List TxId)
-    (v : VersionsData) (table : Txns (Node Transaction)) (w : IsAnswered s c t r op ids v table) where
+    (v : VersionsData) (table : Txns (Node KeptTransaction)) (w : IsAnswered s c t r op ids v table) where
   abbrev a : AnswerData
   a = answer_in s t.0 op
 
@@ -196,14 +196,14 @@ same_versions s table t (Update row) a vs e = refl
 same_versions s table t (Delete k) Deleted vs e = absurd (some_write _ e)
 same_versions s table t (Delete k) a vs e = refl
 
-told_so : (op : Op) (a : AnswerData) (x y : Transaction) → IsTold op a x y → HasAnswered op a x y
+told_so : (op : Op) (a : AnswerData) (x y : KeptTransaction) → IsTold op a x y → HasAnswered op a x y
 told_so op a x y w = record { history = w.history; place = w.place; checked = w.checked; valid = w.valid }
 
-pub done_so : (op : Op) (a : AnswerData) (put : List WordPlace) (x y : Transaction) → HasDoneMore op a put x y → HasAnswered op a x y
+pub done_so : (op : Op) (a : AnswerData) (put : List WordPlace) (x y : KeptTransaction) → HasDoneMore op a put x y → HasAnswered op a x y
 done_so op a put x y w = record { history = w.history; place = w.place; checked = w.checked; valid = w.valid }
 
 -- The same of an answer that writes nothing: the versions and the lists of words stay.
-pub record IsAnsweredOnly (s : State) (c : CoreData) (t : TxId) (r : ActiveTx) (op : Op) (ids : List TxId) (table : Txns (Node Transaction)) : Type 0 where
+pub record IsAnsweredOnly (s : State) (c : CoreData) (t : TxId) (r : ActiveTx) (op : Op) (ids : List TxId) (table : Txns (Node KeptTransaction)) : Type 0 where
   pub found : active_of t.0 s.active ≡ Some r
   pub may : why_not_do s t.0 op ≡ None
   pub on : AreDependencies s op r ids
@@ -211,7 +211,7 @@ pub record IsAnsweredOnly (s : State) (c : CoreData) (t : TxId) (r : ActiveTx) (
   pub unwritten : write_of op (answer_in s t.0 op) ≡ None
 
 module _ (opening : Map) (steps : List Step) (s : State) (c : CoreData) (h : StandsFor opening steps s c) (t : TxId) (r : ActiveTx) (op : Op) (ids : List TxId)
-    (table : Txns (Node Transaction)) (w : IsAnsweredOnly s c t r op ids table) where
+    (table : Txns (Node KeptTransaction)) (w : IsAnsweredOnly s c t r op ids table) where
   abbrev b : AnswerData
   b = answer_in s t.0 op
 
@@ -245,7 +245,7 @@ module _ (opening : Map) (steps : List Step) (s : State) (c : CoreData) (h : Sta
 -- so it is where the answer is recorded
 module _ (opening : Map) (steps : List Step) (s : State) (c : CoreData) (h : StandsFor opening steps s c) (t : TxId) (r : ActiveTx) (found : active_of t.0 s.active ≡ Some r) (op : Op) (a : AnswerData) where
   pub recorded_leads : why_not_do s t.0 op ≡ None → a ≡ answer_in s t.0 op → write_of op a ≡ None → (ids : List TxId) → AreDependencies s op r ids
-      → (table : Txns (Node Transaction)) → IsRecorded c.table table t ids op a → LeadsOn opening steps s (Do t.0 op) Accepted (record c { table = table })
+      → (table : Txns (Node KeptTransaction)) → IsRecorded c.table table t ids op a → LeadsOn opening steps s (Do t.0 op) Accepted (record c { table = table })
   recorded_leads may is unwritten ids on table w =
       answer_only_leads opening steps s (record c { table = w.roomy }) (stands_roomy opening steps s c h t.0 w.roomy w.room) t r op ids table (record {
         found = found;

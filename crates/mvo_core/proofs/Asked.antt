@@ -20,19 +20,16 @@ use Rattle.mvo_types.specs.Causes.{when, or_next, first_cause}
 use Rattle.mvo_theory.specs.Causes.{is_failure, is_write_too_many}
 use Rattle.mvo_work.specs.History.{key_written}
 use Rattle.mvo_work.specs.Limits.{MayFollow}
-use Rattle.mvo_txn.specs.declared.seat.Seat.{Seat}
+use Rattle.mvo_txn.specs.declared.table_seat.TableSeat.{TableSeat}
 use Rattle.mvo_txn.specs.declared.state.TxState.{TxState}
 use Rattle.mvo_txn.specs.declared.state.TxState.TheVariants.{Active, Preparing, Committed, Aborted}
 use Rattle.mvo_txn.specs.Txns.{Txns, state_of, IsUnended}
 use Rattle.mvo_deps.specs.declared.node.Node.{Node}
 use Rattle.mvo_deps.specs.Graph.{IsUnfinished}
-use Rattle.mvo_core.specs.declared.transaction.Transaction.{Transaction}
+use Rattle.mvo_core.specs.declared.kept_transaction.KeptTransaction.{KeptTransaction}
 use Rattle.mvo_core.specs.Causes.{over_writes, is_entry_over, is_write_over, flag_of, unless_active_as, why_not_active, why_not_look, why_not_put, why_not_remove}
 use Rattle.mvo_core.specs.Data.{own_of}
-use Rattle.mvo_core.proofs.CausesTold.{none_active}
-
-some_none : (r : Refusal) → ◌≡◌ {A = Option Refusal} (Some r) None → ⊥
-some_none r q = cc
+use Rattle.mvo_core.proofs.CausesTold.{none_active, some_none}
 
 -- where no cause of a list stands, none of the first one, and none of the rest
 pub first_none : (a b : Option Refusal) → or_next a b ≡ None → a ≡ None
@@ -51,8 +48,8 @@ when_none true r e = absurd (some_none r e)
 no_state : (x : TxState) → ◌≡◌ {A = Option TxState} None (Some x) → ⊥
 no_state x q = cc
 
-module _ (table : Txns (Node Transaction)) (t : ℕ) where
-  there_at : (o : Option (Seat (Node Transaction))) → option_map (λ s. s.state) o ≡ Some Active → IsSome (option_map (λ n. n.own) (option_map (λ s. s.kept) o))
+module _ (table : Txns (Node KeptTransaction)) (t : ℕ) where
+  there_at : (o : Option (TableSeat (Node KeptTransaction))) → option_map (λ s. s.state) o ≡ Some Active → IsSome (option_map (λ n. n.own) (option_map (λ s. s.kept) o))
   there_at None e = absurd (no_state Active e)
   there_at (Some s) e = refl
 
@@ -60,7 +57,7 @@ module _ (table : Txns (Node Transaction)) (t : ℕ) where
   pub own_if_active : why_not_active table t ≡ None → IsSome (own_of table t)
   own_if_active none = there_at (get table.seats t) (none_active (state_of table t) (flag_of table t) none)
 
-  seat_at : (o : Option (Seat (Node Transaction))) → IsSome (option_map (λ n. n.own) (option_map (λ s. s.kept) o)) → is_some o ≡ true
+  seat_at : (o : Option (TableSeat (Node KeptTransaction))) → IsSome (option_map (λ n. n.own) (option_map (λ s. s.kept) o)) → is_some o ≡ true
   seat_at None e = e
   seat_at (Some s) e = refl
 
@@ -71,7 +68,7 @@ module _ (table : Txns (Node Transaction)) (t : ℕ) where
   active_if_looked of e none = first_none _ _ none
 
 -- what is so of the one that is kept
-pub if_own : (o : Option Transaction) (own : Transaction) (P : Transaction → Type 0) → o ≡ Some own → P own → IfSome o P
+pub if_own : (o : Option KeptTransaction) (own : KeptTransaction) (P : KeptTransaction → Type 0) → o ≡ Some own → P own → IfSome o P
 if_own o own P e p = subst (λ x. IfSome x P) (sym e) p
 
 -- ---- who is refused by a failure
@@ -89,7 +86,7 @@ failed_at (Some (Committed n)) flag rest r e f = not_failed Ended r refl e f
 failed_at (Some Aborted) flag rest r e f = not_failed Ended r refl e f
 
 -- it is Active or Preparing, whatever causes come behind those of every call of an Active one
-module _ (table : Txns (Node Transaction)) (t : ℕ) where
+module _ (table : Txns (Node KeptTransaction)) (t : ℕ) where
   pub may_look_failing : (of : ℕ) (e : Entry) (r : Refusal) → why_not_look table t of e ≡ Some r → is_failure r ≡ true → IsUnended (state_of table t)
   may_look_failing of e r why f = failed_at (state_of table t) (flag_of table t) _ r why f
 
@@ -106,16 +103,16 @@ module _ (table : Txns (Node Transaction)) (t : ℕ) where
   active_if_removed k none = first_none _ _ none
 
 -- ---- what may be written
-none_key : (k : RowKey) → ◌≡◌ {A = Option RowKey} None (Some k) → ⊥
+pub none_key : (k : RowKey) → ◌≡◌ {A = Option RowKey} None (Some k) → ⊥
 none_key k q = cc
 
-some_key : (k q : RowKey) → ◌≡◌ {A = Option RowKey} (Some k) (Some q) → k ≡ q
+pub some_key : (k q : RowKey) → ◌≡◌ {A = Option RowKey} (Some k) (Some q) → k ≡ q
 some_key k q e = cc
 
 at_most : (m n : ℕ) → nat_lt m n ≡ false → n ≤ m
 at_most m n e = ltb-false m n e
 
-module _ (table : Txns (Node Transaction)) (t : ℕ) (row : RowData) (none : why_not_put table t row ≡ None) where
+module _ (table : Txns (Node KeptTransaction)) (t : ℕ) (row : RowData) (none : why_not_put table t row ≡ None) where
   behind_active : first_cause (when (nat_lt MAX_TABLE row.key.table) BadTable ∷ when (nat_lt MAX_DATA_LEN (length row.bytes)) DataTooLong ∷ when (is_entry_over table t (Key row.key)) TooManyReads ∷ when (is_write_over table t row.key) TooManyWrites ∷ []) ≡ None
   behind_active = rest_none (why_not_active table t) _ none
 
@@ -141,6 +138,6 @@ module _ (table : Txns (Node Transaction)) (t : ℕ) (row : RowData) (none : why
   pub may_insert : (a : AnswerData) → IfSome (own_of table t) (λ own. MayFollow own.work.history (Insert row) a)
   may_insert a = go (own_of table t) write_is_fit
     where
-      go : (o : Option Transaction) → over_writes o row.key ≡ false → IfSome o (λ own. MayFollow own.work.history (Insert row) a)
+      go : (o : Option KeptTransaction) → over_writes o row.key ≡ false → IfSome o (λ own. MayFollow own.work.history (Insert row) a)
       go None e = tt
       go (Some own) e = record { row = row_is_fit; write = λ k is. ap (is_write_too_many own.work.history) (sym (insert_writes a k is)) ∙ e }

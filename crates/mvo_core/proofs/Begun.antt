@@ -21,9 +21,9 @@ use Rattle.mvo_theory.specs.Calls.Result.{Accepted, Refused}
 use Rattle.mvo_theory.proofs.Each.{each_append}
 use Rattle.mvo_theory.proofs.Chain.{chained_after_call}
 use Rattle.mvo_theory.proofs.Runs.{kept_after_call}
-use Rattle.mvo_txn.specs.declared.seat.Seat.{Seat}
+use Rattle.mvo_txn.specs.declared.table_seat.TableSeat.{TableSeat}
 use Rattle.mvo_txn.specs.declared.state.TxState.TheVariants.{Active}
-use Rattle.mvo_txn.specs.Txns.{Txns, state_of, after_begin, why_not_begun, IsRefusal}
+use Rattle.mvo_txn.specs.Txns.{Txns, state_of, table_after_begin, why_not_begun, IsTableRefusal}
 use Rattle.mvo_txn.proofs.Stamps.{get_inserted, get_beside}
 use Rattle.mvo_deps.specs.declared.node.Node.{Node}
 use Rattle.mvo_deps.specs.Data.{no_dependencies}
@@ -33,18 +33,16 @@ use Rattle.mvo_representation.specs.Dependencies.{HasDependencies, tx_id}
 use Rattle.mvo_representation.specs.Table.{phases_of}
 use Rattle.mvo_representation.specs.WordLists.{HasWordLists}
 use Rattle.mvo_representation.proofs.TableNodes.{begun_state, begun_others}
-use Rattle.mvo_core.specs.declared.transaction.Transaction.{Transaction}
+use Rattle.mvo_core.specs.declared.kept_transaction.KeptTransaction.{KeptTransaction}
 use Rattle.mvo_collect.proofs.Over.{each_call_keeps_over}
 use Rattle.mvo_core.specs.Data.{CoreData, own_of}
-use Rattle.mvo_core.specs.Standing.{StandsFor, HasWorks, IsActive, Stands, words_by, words_in}
+use Rattle.mvo_core.specs.Standing.{StandsFor, HasWorks, IsKeptActive, Stands, own_words_of, words_in}
 use Rattle.mvo_core.specs.Steps.{came, LeadsOn}
 use Rattle.mvo_core.proofs.Laws.{why_not_begun_told, begin_in_table, begin_in_order, begin_in_lists, call_keeps}
 use Rattle.mvo_core.proofs.Carried.{SaysAsMuch, as_much, works_carried}
+use Rattle.mvo_core.proofs.WrittenThen.{none_own}
 
-none_own : (own : Transaction) → ◌≡◌ {A = Option Transaction} None (Some own) → ⊥
-none_own own q = cc
-
-refusal_as : (why : Option Refusal) (r : Refusal) → IsRefusal why r → theory.IsRefusal true why r
+refusal_as : (why : Option Refusal) (r : Refusal) → IsTableRefusal why r → theory.IsRefusal true why r
 refusal_as None r h = h
 refusal_as (Some w) r h = h
 
@@ -53,7 +51,7 @@ module _ (opening : Map) (steps : List Step) (s : State) (c : CoreData) (h : Sta
   why_begun = why_not_begun_told opening steps s c.table h.versions.kept h.dependencies.stands
 
   -- refused, it leaves all as it was
-  pub begin_refused : (r : Refusal) → IsRefusal (why_not_begun c.table) r → LeadsOn opening steps s Begin (Refused r) c
+  pub begin_refused : (r : Refusal) → IsTableRefusal (why_not_begun c.table) r → LeadsOn opening steps s Begin (Refused r) c
   begin_refused r why = record {
     may = subst (λ o. theory.IsRefusal true o r) why_begun (refusal_as (why_not_begun c.table) r why);
     stands = subst (λ ys. StandsFor opening ys s c) (sym (append-nil steps)) h;
@@ -63,63 +61,63 @@ module _ (opening : Map) (steps : List Step) (s : State) (c : CoreData) (h : Sta
   fresh : get c.table.seats (c.table.clock + 1) ≡ None
   fresh = go (get c.table.seats (c.table.clock + 1)) refl
     where
-      go : (o : Option (Seat (Node Transaction))) → get c.table.seats (c.table.clock + 1) ≡ o → o ≡ None
+      go : (o : Option (TableSeat (Node KeptTransaction))) → get c.table.seats (c.table.clock + 1) ≡ o → o ≡ None
       go None e = refl
       go (Some x) e = let le = h.dependencies.graph.drawn (tx_id (c.table.clock + 1)) (ap is_some e) in absurd (omega (arith, le))
 
   fresh_own : own_of c.table (c.table.clock + 1) ≡ None
   fresh_own = ap (λ o. option_map (λ n. n.own) (option_map (λ x. x.kept) o)) fresh
 
-  module _ (node : Node Transaction) (none : node.dependencies ≡ no_dependencies) (told : node.own.work.history ≡ []) (wordless : node.own.work.words ≡ []) where
-    begun : Txns (Node Transaction)
-    begun = after_begin c.table node
+  module _ (node : Node KeptTransaction) (none : node.dependencies ≡ no_dependencies) (told : node.own.work.history ≡ []) (wordless : node.own.work.words ≡ []) where
+    begun : Txns (Node KeptTransaction)
+    begun = table_after_begin c.table node
 
-    own_begun : own_of (after_begin c.table node) (c.table.clock + 1) ≡ Some node.own
+    own_begun : own_of (table_after_begin c.table node) (c.table.clock + 1) ≡ Some node.own
     own_begun = ap (λ o. option_map (λ n. n.own) (option_map (λ x. x.kept) o)) (get_inserted c.table.seats (c.table.clock + 1) (record { state = Active; kept = node }))
 
-    own_others : (u : ℕ) → u ≢ c.table.clock + 1 → own_of (after_begin c.table node) u ≡ own_of c.table u
+    own_others : (u : ℕ) → u ≢ c.table.clock + 1 → own_of (table_after_begin c.table node) u ≡ own_of c.table u
     own_others u ne = ap (λ o. option_map (λ n. n.own) (option_map (λ x. x.kept) o)) (get_beside c.table.seats (c.table.clock + 1) (record { state = Active; kept = node }) u ne)
 
-    says_begun : SaysAsMuch c.table (after_begin c.table node)
+    says_begun : SaysAsMuch c.table (table_after_begin c.table node)
     says_begun u own w =
         ⊎_elim
         (λ is. absurd (none_own own (sym (ap (own_of c.table) is ∙ fresh_own) ∙ w)))
         (λ ne. (own, own_others u ne ∙ w, as_much own))
         (cases_eq u (c.table.clock + 1))
 
-    words_begun : words_in (after_begin c.table node) ≡ words_in c.table
+    words_begun : words_in (table_after_begin c.table node) ≡ words_in c.table
     words_begun = λ i u. at u i
       where
-        at : (u : ℕ) → words_in (after_begin c.table node) u ≡ words_in c.table u
+        at : (u : ℕ) → words_in (table_after_begin c.table node) u ≡ words_in c.table u
         at u = ⊎_elim
             (λ is.
-            ap (words_in (after_begin c.table node)) is ∙ ap words_by own_begun ∙ wordless ∙ sym (ap words_by fresh_own) ∙ sym (ap (words_in c.table) is))
-            (λ ne. ap words_by (own_others u ne))
+            ap (words_in (table_after_begin c.table node)) is ∙ ap own_words_of own_begun ∙ wordless ∙ sym (ap own_words_of fresh_own) ∙ sym (ap (words_in c.table) is))
+            (λ ne. ap own_words_of (own_others u ne))
             (cases_eq u (c.table.clock + 1))
 
     clock : c.table.clock + 1 ≡ s.clock + 1
     clock = ap (λ (n : ℕ). n + 1) h.dependencies.stands.clock
 
-    deps : HasDependencies (changes.after_begin s (s.clock + 1)) (after_begin c.table node)
+    deps : HasDependencies (changes.after_begin s (s.clock + 1)) (table_after_begin c.table node)
     deps = begin_in_table opening steps s c.table node h.versions.kept h.dependencies none
 
-    new_one : IsActive (after_begin c.table node) (new_active (s.clock + 1))
-    new_one = record { own = node.own; kept = ap (own_of (after_begin c.table node)) (sym clock) ∙ own_begun; history = told }
+    new_one : IsKeptActive (table_after_begin c.table node) (new_active (s.clock + 1))
+    new_one = record { own = node.own; kept = ap (own_of (table_after_begin c.table node)) (sym clock) ∙ own_begun; history = told }
 
-    works : HasWorks (changes.after_begin s (s.clock + 1)) (after_begin c.table node) c.tale
-    works = let w = works_carried s c.table (after_begin c.table node) c.tale says_begun h.works in record {
-      active = each_append (IsActive (after_begin c.table node)) s.active (new_active (s.clock + 1) ∷ []) w.active (new_one, tt);
+    works : HasWorks (changes.after_begin s (s.clock + 1)) (table_after_begin c.table node) c.tale
+    works = let w = works_carried s c.table (table_after_begin c.table node) c.tale says_begun h.works in record {
+      active = each_append (IsKeptActive (table_after_begin c.table node)) s.active (new_active (s.clock + 1) ∷ []) w.active (new_one, tt);
       preparing = w.preparing;
     }
 
     phases : phases_of (state_of c.table) ≡ phase_in s
     phases = λ i u. h.dependencies.stands.phases u i
 
-    phases_then : phases_of (state_of (after_begin c.table node)) ≡ phase_in (changes.after_begin s (s.clock + 1))
+    phases_then : phases_of (state_of (table_after_begin c.table node)) ≡ phase_in (changes.after_begin s (s.clock + 1))
     phases_then = λ i u. deps.stands.phases u i
 
     pub stands_begun : MayCome s Begin Accepted
-        → StandsFor opening (steps ++ steps_of s Begin Accepted) (changes.after_begin s (s.clock + 1)) (record c { table = after_begin c.table node })
+        → StandsFor opening (steps ++ steps_of s Begin Accepted) (changes.after_begin s (s.clock + 1)) (record c { table = table_after_begin c.table node })
     stands_begun may = record {
       versions = record {
         kept = kept_after_call opening steps s Begin Accepted may h.versions.kept;
@@ -130,7 +128,7 @@ module _ (opening : Map) (steps : List Step) (s : State) (c : CoreData) (h : Sta
         order = h.versions.order;
       };
       dependencies = deps;
-      order = begin_in_order opening steps s (state_of c.table) (state_of (after_begin c.table node)) c.versions.slots c.versions.lists c.versions.places (c.table.clock + 1)
+      order = begin_in_order opening steps s (state_of c.table) (state_of (table_after_begin c.table node)) c.versions.slots c.versions.lists c.versions.places (c.table.clock + 1)
           h.versions (ap (option_map (λ x. x.state)) fresh) (begun_others c.table node) (begun_state c.table node) h.order;
       works = works;
       words = subst (HasWordLists (changes.after_begin s (s.clock + 1)) c.versions.slots) (sym words_begun)
@@ -142,8 +140,8 @@ module _ (opening : Map) (steps : List Step) (s : State) (c : CoreData) (h : Sta
       over = each_call_keeps_over opening steps s (phases_of (state_of c.table)) (all_versions c.versions.slots) Begin Accepted h.versions.kept may h.versions.versions h.over;
     }
 
-    pub begin_leads : (r : Result TxId Refusal) (table : Txns (Node Transaction)) → OnOk r (table ≡ after_begin c.table node) → OnOk r (why_not_begun c.table ≡ None)
-        → IfErr r (IsRefusal (why_not_begun c.table)) → OnErr r (table ≡ c.table) → LeadsOn opening steps s Begin (came r) (record c { table = table })
+    pub begin_leads : (r : Result TxId Refusal) (table : Txns (Node KeptTransaction)) → OnOk r (table ≡ table_after_begin c.table node) → OnOk r (why_not_begun c.table ≡ None)
+        → IfErr r (IsTableRefusal (why_not_begun c.table)) → OnErr r (table ≡ c.table) → LeadsOn opening steps s Begin (came r) (record c { table = table })
     begin_leads (Ok t) table is cause why same =
         let may : MayCome s Begin Accepted = (sym why_begun ∙ cause, tt) in
         record {

@@ -18,7 +18,7 @@ use Rattle.mvo_theory.proofs.Each.{each_both}
 use Rattle.mvo_theory.proofs.Runs.{kept_after_call}
 use Rattle.mvo_txn.specs.declared.state.TxState.{TxState}
 use Rattle.mvo_txn.specs.declared.state.TxState.TheVariants.{Active, Preparing, Committed, Aborted}
-use Rattle.mvo_txn.specs.Txns.{Txns, state_of, kept_of, after_write, after_terminate, IsEnded}
+use Rattle.mvo_txn.specs.Txns.{Txns, state_of, kept_of, table_after_write, after_terminate, IsEnded}
 use Rattle.mvo_txn.proofs.Stamps.{get_left}
 use Rattle.mvo_deps.specs.declared.node.Node.{Node}
 use Rattle.mvo_chain.specs.declared.version.Version.{Version}
@@ -26,7 +26,7 @@ use Rattle.mvo_chain.specs.Slots.{version_at, with_change}
 use Rattle.mvo_word.specs.declared.held.Held.{Held}
 use Rattle.mvo_work.specs.declared.word_place.WordPlace.{WordPlace}
 use Rattle.mvo_work.specs.declared.word_place.WordPlace.TheVariants.{Begin, End}
-use Rattle.mvo_tale.specs.declared.slot.Slot.{Slot}
+use Rattle.mvo_tale.specs.declared.tale_place.TalePlace.{TalePlace}
 use Rattle.mvo_tale.specs.Kept.{HasTale}
 use Rattle.mvo_tale.specs.Next.{AreGroupedTo}
 use Rattle.mvo_versions.specs.Data.{VersionsData}
@@ -40,15 +40,15 @@ use Rattle.mvo_representation.specs.Table.{phase_as, phases_of}
 use Rattle.mvo_representation.specs.Dependencies.{HasDependencies}
 use Rattle.mvo_representation.specs.Order.{AllStandInOrder, IsFinished, word_of_stamp}
 use Rattle.mvo_representation.specs.OrderLaws.{HaveNow}
-use Rattle.mvo_representation.specs.WordLists.{HasWordLists, HaveListNow, number_at, names_at, with_word, finished}
+use Rattle.mvo_representation.specs.WordLists.{HasWordLists, HaveListNow, number_at_word, names_at, with_word, finished}
 use Rattle.mvo_representation.proofs.TableNodes.{written_state, left_state, left_others}
 use Rattle.mvo_representation.proofs.WordPlaces.{names_here}
 use Rattle.mvo_representation.proofs.WordsSaid.{ended_not_active, ended_not_preparing}
 use Rattle.mvo_collect.proofs.Over.{each_call_keeps_over}
 use Rattle.mvo_collect.specs.Begun.{AreOver}
-use Rattle.mvo_core.specs.declared.transaction.Transaction.{Transaction}
+use Rattle.mvo_core.specs.declared.kept_transaction.KeptTransaction.{KeptTransaction}
 use Rattle.mvo_core.specs.Data.{CoreData, own_of}
-use Rattle.mvo_core.specs.Standing.{StandsFor, HasWorks, IsActive, IsPreparing, words_by, words_in}
+use Rattle.mvo_core.specs.Standing.{StandsFor, HasWorks, IsKeptActive, IsKeptPreparing, own_words_of, words_in}
 use Rattle.mvo_core.specs.Keeping.{IsWritten, with_own_at}
 use Rattle.mvo_core.proofs.Carried.{own_here, own_beside}
 use Rattle.mvo_core.proofs.Laws.{write_in_table, call_keeps}
@@ -56,7 +56,7 @@ use Rattle.mvo_core.proofs.FinishLaws.{word_in_table, leave_in_table, finished_s
 
 -- ---- what a core stands for beside the lists
 pub record StandsBeside (opening : Map) (steps : List Step) (s : State) (c : CoreData) : Type 0 where
-  pub versions : representation.StandsFor opening steps s (state_of c.table) c.versions.slots c.versions.lists c.versions.places
+  pub versions : representation.VersionsStandFor opening steps s (state_of c.table) c.versions.slots c.versions.lists c.versions.places
   pub dependencies : HasDependencies s c.table
   pub order : AllStandInOrder s.start (state_of c.table) c.versions.slots c.versions.lists
   pub works : HasWorks s c.table c.tale
@@ -94,23 +94,23 @@ with_lists opening steps s c h l = record {
 }
 
 -- ---- what is written of one transaction
-none_node : (own : Transaction) → ◌≡◌ {A = Option Transaction} None (Some own) → ⊥
+none_node : (own : KeptTransaction) → ◌≡◌ {A = Option KeptTransaction} None (Some own) → ⊥
 none_node own q = cc
 
 -- the node that is kept of it, with another one's work
-pub record IsNodeWritten (old new : Txns (Node Transaction)) (t : ℕ) (after : Transaction) : Type 0 where
-  pub node : Node Transaction
+pub record IsNodeWritten (old new : Txns (Node KeptTransaction)) (t : ℕ) (after : KeptTransaction) : Type 0 where
+  pub node : Node KeptTransaction
   pub was : kept_of old t ≡ Some node
-  pub is : new ≡ after_write old t (record node { own = after })
+  pub is : new ≡ table_after_write old t (record node { own = after })
 
-pub node_written : (old new : Txns (Node Transaction)) (t : ℕ) (change : Transaction → Transaction → Type 0) (w : IsWritten old new t change) → IsNodeWritten old new t w.after
+pub node_written : (old new : Txns (Node KeptTransaction)) (t : ℕ) (change : KeptTransaction → KeptTransaction → Type 0) (w : IsWritten old new t change) → IsNodeWritten old new t w.after
 node_written old new t change w = go (kept_of old t) refl w.was
   where
-    go : (o : Option (Node Transaction)) → kept_of old t ≡ o → option_map (λ n. n.own) o ≡ Some w.before → IsNodeWritten old new t w.after
+    go : (o : Option (Node KeptTransaction)) → kept_of old t ≡ o → option_map (λ n. n.own) o ≡ Some w.before → IsNodeWritten old new t w.after
     go None k e = absurd (none_node w.before e)
     go (Some node) k e = record { node = node; was = k; is = w.is ∙ ap (λ o. with_own_at o old t w.after) k }
 
-module _ (old new : Txns (Node Transaction)) (t : ℕ) (change : Transaction → Transaction → Type 0) (w : IsWritten old new t change) where
+module _ (old new : Txns (Node KeptTransaction)) (t : ℕ) (change : KeptTransaction → KeptTransaction → Type 0) (w : IsWritten old new t change) where
   one : IsNodeWritten old new t w.after
   one = node_written old new t change w
 
@@ -127,10 +127,10 @@ module _ (old new : Txns (Node Transaction)) (t : ℕ) (change : Transaction →
   deps_written s h = subst (HasDependencies s) (sym one.is) (write_in_table s old t one.node (record one.node { own = w.after }) h one.was refl)
 
   pub list_written : HaveListNow (words_in old) (words_in new) t w.after.work.words
-  list_written = record { others = λ u ne. ap words_by (own_others u ne); here = ap words_by own_now }
+  list_written = record { others = λ u ne. ap own_words_of (own_others u ne); here = ap own_words_of own_now }
 
   pub list_was : words_in old t ≡ w.before.work.words
-  list_was = ap words_by w.was
+  list_was = ap own_words_of w.was
 
 -- ---- one that is ended isn't Active
 still : (o : Option TxState) → IsEnded o → phase_as o ≢ ActivePhase
@@ -141,11 +141,11 @@ still (Some (Committed e)) ended q = cc
 still (Some Aborted) ended q = cc
 
 -- ---- what is kept of the others is what it was
-works_of_others : (s : State) (old new : Txns (Node Transaction)) (tale : List Slot) (t : ℕ) (u : EndedTx) → IsSingle s → ended_of t s.ended ≡ Some u → ((v : ℕ) → v ≢ t → own_of new v ≡ own_of old v) → HasWorks s old tale → HasWorks s new tale
+works_of_others : (s : State) (old new : Txns (Node KeptTransaction)) (tale : List TalePlace) (t : ℕ) (u : EndedTx) → IsSingle s → ended_of t s.ended ≡ Some u → ((v : ℕ) → v ≢ t → own_of new v ≡ own_of old v) → HasWorks s old tale → HasWorks s new tale
 works_of_others s old new tale t u single e others h = record {
-  active = each_both (λ r. r.id ≢ t) (IsActive old) (IsActive new)
+  active = each_both (λ r. r.id ≢ t) (IsKeptActive old) (IsKeptActive new)
       (λ r d w. record { own = w.own; kept = others r.id d ∙ w.kept; history = w.history }) s.active (ended_not_active s t u single e) h.active;
-  preparing = each_both (λ x. x.settled ≡ false → x.id ≢ t) (λ x. x.settled ≡ false → IsPreparing old tale x) (λ x. x.settled ≡ false → IsPreparing new tale x)
+  preparing = each_both (λ x. x.settled ≡ false → x.id ≢ t) (λ x. x.settled ≡ false → IsKeptPreparing old tale x) (λ x. x.settled ≡ false → IsKeptPreparing new tale x)
       (λ x d w o. let p = w o in record {
         own = p.own;
         kept = others x.id (d o) ∙ p.kept;
@@ -166,9 +166,9 @@ finish_is s t = finish_at s t (is_done s t)
 
 module _ (opening : Map) (steps : List Step) (s : State) (c : CoreData) (h : StandsBeside opening steps s c) (u : EndedTx) (e : ended_of u.id s.ended ≡ Some u) where
   -- what is kept of the ended one changes
-  pub beside_written : (table : Txns (Node Transaction)) (change : Transaction → Transaction → Type 0) → IsWritten c.table table u.id change → StandsBeside opening steps s (record c { table = table })
+  pub beside_written : (table : Txns (Node KeptTransaction)) (change : KeptTransaction → KeptTransaction → Type 0) → IsWritten c.table table u.id change → StandsBeside opening steps s (record c { table = table })
   beside_written table change w = record {
-    versions = subst (λ states. representation.StandsFor opening steps s states c.versions.slots c.versions.lists c.versions.places) (same_states c.table table u.id change w) h.versions;
+    versions = subst (λ states. representation.VersionsStandFor opening steps s states c.versions.slots c.versions.lists c.versions.places) (same_states c.table table u.id change w) h.versions;
     dependencies = deps_written c.table table u.id change w s h.dependencies;
     order = subst (λ states. AllStandInOrder s.start states c.versions.slots c.versions.lists) (same_states c.table table u.id change w) h.order;
     works = works_of_others s c.table table c.tale u.id u h.versions.kept.single e (own_others c.table table u.id change w) h.works;
@@ -180,32 +180,32 @@ module _ (opening : Map) (steps : List Step) (s : State) (c : CoreData) (h : Sta
   }
 
   -- a word that names it is finished
-  begin_finished : (p : WordPlace) (v : Version) → names_at c.versions.slots u.id p ≡ true → version_at c.versions.slots (number_at p) ≡ Some v
+  begin_finished : (p : WordPlace) (v : Version) → names_at c.versions.slots u.id p ≡ true → version_at c.versions.slots (number_at_word p) ≡ Some v
       → IsFinished (ends_of (phases_of (state_of c.table))) u.id v.begin (finished (ends_of (phases_of (state_of c.table))) u.id p v).begin
   begin_finished (Begin n) v name at = inr (sym (names_here c.versions.slots u.id (Begin n) v at) ∙ name, refl)
   begin_finished (End n) v name at = inl refl
 
-  end_finished : (p : WordPlace) (v : Version) → names_at c.versions.slots u.id p ≡ true → version_at c.versions.slots (number_at p) ≡ Some v
+  end_finished : (p : WordPlace) (v : Version) → names_at c.versions.slots u.id p ≡ true → version_at c.versions.slots (number_at_word p) ≡ Some v
       → IsFinished (ends_of (phases_of (state_of c.table))) u.id v.end (finished (ends_of (phases_of (state_of c.table))) u.id p v).end
   end_finished (Begin n) v name at = inl refl
   end_finished (End n) v name at = inr (sym (names_here c.versions.slots u.id (End n) v at) ∙ name, refl)
 
-  pub finished_now : (new : VersionsData) (w : Held) (p : WordPlace) (v : Version) → version_at c.versions.slots (number_at p) ≡ Some v → w ≡ word_of_stamp (ends_of (phases_of (state_of c.table)) u.id)
-      → IsReworded c.versions new (number_at p) (with_word p w) → HaveNow c.versions.slots new.slots (number_at p).0 (finished (ends_of (phases_of (state_of c.table))) u.id p v)
+  pub finished_now : (new : VersionsData) (w : Held) (p : WordPlace) (v : Version) → version_at c.versions.slots (number_at_word p) ≡ Some v → w ≡ word_of_stamp (ends_of (phases_of (state_of c.table)) u.id)
+      → IsReworded c.versions new (number_at_word p) (with_word p w) → HaveNow c.versions.slots new.slots (number_at_word p).0 (finished (ends_of (phases_of (state_of c.table))) u.id p v)
   finished_now new w p v at is r =
-      subst (λ slots. HaveNow c.versions.slots slots (number_at p).0 (finished (ends_of (phases_of (state_of c.table))) u.id p v))
-      (ap (λ (x : Held). with_change c.versions.slots (number_at p) (with_word p x)) (sym is) ∙ sym r.slots)
-      (changed_now c.versions.slots (number_at p) v (finished (ends_of (phases_of (state_of c.table))) u.id p) at)
+      subst (λ slots. HaveNow c.versions.slots slots (number_at_word p).0 (finished (ends_of (phases_of (state_of c.table))) u.id p v))
+      (ap (λ (x : Held). with_change c.versions.slots (number_at_word p) (with_word p x)) (sym is) ∙ sym r.slots)
+      (changed_now c.versions.slots (number_at_word p) v (finished (ends_of (phases_of (state_of c.table))) u.id p) at)
 
-  pub beside_finished : IsEnded (state_of c.table u.id) → (new : VersionsData) (w : Held) (p : WordPlace) (v : Version) → version_at c.versions.slots (number_at p) ≡ Some v → names_at c.versions.slots u.id p ≡ true
-      → w ≡ word_of_stamp (ends_of (phases_of (state_of c.table)) u.id) → IsReworded c.versions new (number_at p) (with_word p w) → StandsBeside opening steps s (record c { versions = new })
+  pub beside_finished : IsEnded (state_of c.table u.id) → (new : VersionsData) (w : Held) (p : WordPlace) (v : Version) → version_at c.versions.slots (number_at_word p) ≡ Some v → names_at c.versions.slots u.id p ≡ true
+      → w ≡ word_of_stamp (ends_of (phases_of (state_of c.table)) u.id) → IsReworded c.versions new (number_at_word p) (with_word p w) → StandsBeside opening steps s (record c { versions = new })
   beside_finished ended new w p v at name is r =
       let now = finished_now new w p v at is r in
       let same : record { slots = new.slots; lists = c.versions.lists; places = c.versions.places } ≡ new = λ i. record { slots = new.slots; lists = sym r.lists i; places = sym r.places i } in
       subst (λ x. StandsBeside opening steps s (record c { versions = x })) same (record {
         versions = finished_stands_for opening steps s (state_of c.table) c.versions.slots new.slots c.versions.lists c.versions.places u p v h.versions e at name now;
         dependencies = h.dependencies;
-        order = finish_in_order s.start (state_of c.table) c.versions.slots new.slots c.versions.lists u.id (number_at p).0 v (finished (ends_of (phases_of (state_of c.table))) u.id p v)
+        order = finish_in_order s.start (state_of c.table) c.versions.slots new.slots c.versions.lists u.id (number_at_word p).0 v (finished (ends_of (phases_of (state_of c.table))) u.id p v)
             (still (state_of c.table u.id) ended) at now (begin_finished p v name at) (end_finished p v name at) h.order;
         works = h.works;
         tale = h.tale;
@@ -219,9 +219,9 @@ module _ (opening : Map) (steps : List Step) (s : State) (c : CoreData) (h : Sta
   phases : phases_of (state_of c.table) ≡ phase_in s
   phases = λ i v. h.dependencies.stands.phases v i
 
-  versions_after : (may : MayCome s (Finish u.id) Accepted) (table : Txns (Node Transaction)) → HasDependencies (changes.after_finish s u.id) table
+  versions_after : (may : MayCome s (Finish u.id) Accepted) (table : Txns (Node KeptTransaction)) → HasDependencies (changes.after_finish s u.id) table
       → (is_done s u.id ≡ true → IsUnnamed u.id (all_versions c.versions.slots))
-      → representation.StandsFor opening (steps ++ steps_of s (Finish u.id) Accepted) (changes.after_finish s u.id) (state_of table) c.versions.slots c.versions.lists c.versions.places
+      → representation.VersionsStandFor opening (steps ++ steps_of s (Finish u.id) Accepted) (changes.after_finish s u.id) (state_of table) c.versions.slots c.versions.lists c.versions.places
   versions_after may table deps unnamed = record {
     kept = kept_after_call opening steps s (Finish u.id) Accepted may h.versions.kept;
     versions = subst (λ p. AreVersionsOf (changes.after_finish s u.id) p (all_versions c.versions.slots)) (λ i v. sym (deps.stands.phases v) i)
@@ -232,8 +232,8 @@ module _ (opening : Map) (steps : List Step) (s : State) (c : CoreData) (h : Sta
   }
 
   -- in the state with other ended ones, where the table has these works
-  beside_after : (table : Txns (Node Transaction))
-      → representation.StandsFor opening (steps ++ steps_of s (Finish u.id) Accepted) (changes.after_finish s u.id) (state_of table) c.versions.slots c.versions.lists c.versions.places
+  beside_after : (table : Txns (Node KeptTransaction))
+      → representation.VersionsStandFor opening (steps ++ steps_of s (Finish u.id) Accepted) (changes.after_finish s u.id) (state_of table) c.versions.slots c.versions.lists c.versions.places
       → HasDependencies (changes.after_finish s u.id) table → AllStandInOrder s.start (state_of table) c.versions.slots c.versions.lists → HasWorks s table c.tale → AreOver (changes.after_finish s u.id)
       → StandsBeside opening (steps ++ steps_of s (Finish u.id) Accepted) (changes.after_finish s u.id) (record c { table = table })
   beside_after table versions deps order works over = record {

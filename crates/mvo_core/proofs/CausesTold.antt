@@ -20,17 +20,17 @@ use Rattle.mvo_theory.proofs.Cases.{found_is}
 use Rattle.mvo_theory.proofs.Who.{active_holds}
 use Rattle.mvo_txn.specs.declared.state.TxState.{TxState}
 use Rattle.mvo_txn.specs.declared.state.TxState.TheVariants.{Active, Preparing, Committed, Aborted}
-use Rattle.mvo_txn.specs.Txns.{state_of, IsPreparing}
+use Rattle.mvo_txn.specs.Txns.{state_of, IsPreparingState}
 use Rattle.mvo_representation.specs.Table.{phase_as}
 use Rattle.mvo_representation.proofs.Tabled.{active_is}
-use Rattle.mvo_core.specs.declared.transaction.Transaction.{Transaction}
+use Rattle.mvo_core.specs.declared.kept_transaction.KeptTransaction.{KeptTransaction}
 use Rattle.mvo_core.specs.Data.{CoreData, own_of}
-use Rattle.mvo_core.specs.Standing.{StandsFor, IsActive}
+use Rattle.mvo_core.specs.Standing.{StandsFor, IsKeptActive}
 use Rattle.mvo_core.specs.Causes.{flag_refusal, flag_of, unless_active_as, unless_preparing_as, why_not_active, why_not_preparing, why_not_undo, over_entries, over_writes, why_not_look, why_not_put, why_not_remove}
 use Rattle.mvo_core.proofs.Laws.{flag_of_active_told, flag_of_preparing_told}
 
 -- ---- lists of causes
-or_next_deep : (a b c : Option Refusal) → or_next (or_next a b) c ≡ or_next a (or_next b c)
+pub or_next_deep : (a b c : Option Refusal) → or_next (or_next a b) c ≡ or_next a (or_next b c)
 or_next_deep None b c = refl
 or_next_deep (Some r) b c = refl
 
@@ -43,11 +43,11 @@ or_next_same : (a b c : Option Refusal) → (a ≡ None → b ≡ c) → or_next
 or_next_same None b c h = h refl
 or_next_same (Some r) b c h = refl
 
-or_none : (a : Option Refusal) → or_next a None ≡ a
+pub or_none : (a : Option Refusal) → or_next a None ≡ a
 or_none None = refl
 or_none (Some r) = refl
 
-some_none : (r : Refusal) → ◌≡◌ {A = Option Refusal} (Some r) None → ⊥
+pub some_none : (r : Refusal) → ◌≡◌ {A = Option Refusal} (Some r) None → ⊥
 some_none r q = cc
 
 -- ---- who may not be called so
@@ -73,7 +73,7 @@ preparing_causes p f = first_cause (
     when (is_absent p) NoSuchTransaction ∷ when (is_ended p) Ended
     ∷ when (is_active p) NotPreparing ∷ flagged f ∷ [])
 
-preparing_as : (o : Option TxState) (flag : Option TxId) (f : Option ℕ) → (IsPreparing o → option_map (λ by. by.0) flag ≡ f)
+preparing_as : (o : Option TxState) (flag : Option TxId) (f : Option ℕ) → (IsPreparingState o → option_map (λ by. by.0) flag ≡ f)
     → unless_preparing_as o flag ≡ preparing_causes (phase_as o) f
 preparing_as None flag f h = refl
 preparing_as (Some Active) flag f h = refl
@@ -97,7 +97,7 @@ none_active (Some Aborted) flag h = absurd (some_none Ended h)
 
 -- ---- what is kept of an Active one
 pub record IsOwnOfActive (s : State) (c : CoreData) (t : ℕ) : Type 0 where
-  pub own : Transaction
+  pub own : KeptTransaction
   pub kept : own_of c.table t ≡ Some own
   pub history : own.work.history ≡ history_of_active t s.active
 
@@ -120,7 +120,7 @@ module _ (opening : Map) (steps : List Step) (s : State) (c : CoreData) (h : Sta
   pub own_of_active : state_of c.table t ≡ Some Active → IsOwnOfActive s c t
   own_of_active was =
       let found = active_is s t (sym (h.dependencies.stands.phases t) ∙ ap phase_as was) in
-      let w = active_holds (IsActive c.table) t s.active found.0 found.1 h.works.active in
+      let w = active_holds (IsKeptActive c.table) t s.active found.0 found.1 h.works.active in
       record {
         own = w.0.own;
         kept = ap (own_of c.table) (sym w.1) ∙ w.0.kept;

@@ -24,14 +24,14 @@ use Rattle.mvo_theory.proofs.OriginEnds.{alone_at}
 use Rattle.mvo_theory.specs.Sound.{IsRising}
 use Rattle.mvo_txn.specs.declared.state.TxState.TheVariants.{Preparing, Committed}
 use Rattle.mvo_txn.specs.Txns as txns
-use Rattle.mvo_txn.specs.Txns.{Txns, state_of, IsPreparing as StandsPreparing}
+use Rattle.mvo_txn.specs.Txns.{Txns, state_of, IsPreparingState as StandsPreparing}
 use Rattle.mvo_deps.specs.declared.node.Node.{Node}
 use Rattle.mvo_deps.specs.Data as deps
 use Rattle.mvo_deps.specs.Nodes.{IsReported, data_of}
 use Rattle.mvo_deps.specs.Graph.{KeepsGraphAtCommit}
 use Rattle.mvo_deps.specs.Waiting.{IsLeastOpen, HasNoneOpen}
-use Rattle.mvo_tale.specs.declared.slot.Slot.{Slot}
-use Rattle.mvo_tale.specs.declared.slot.Slot.TheVariants.{Settled}
+use Rattle.mvo_tale.specs.declared.tale_place.TalePlace.{TalePlace}
+use Rattle.mvo_tale.specs.declared.tale_place.TalePlace.TheVariants.{Settled}
 use Rattle.mvo_tale.specs.Stored.{StoredCommit}
 use Rattle.mvo_tale.specs.Kept.{IsTale}
 use Rattle.mvo_tale.specs.Slots.{open_end_at}
@@ -39,11 +39,11 @@ use Rattle.mvo_tale.proofs.Moving.{grouped_settled}
 use Rattle.mvo_representation.specs.WordLists.{HasWordLists}
 use Rattle.mvo_representation.proofs.Facts.{found_holds}
 use Rattle.mvo_representation.proofs.Unsettled.{alone}
-use Rattle.mvo_core.specs.declared.transaction.Transaction.{Transaction}
+use Rattle.mvo_core.specs.declared.kept_transaction.KeptTransaction.{KeptTransaction}
 use Rattle.mvo_core.specs.declared.answers.Settlement.TheVariants as settlement
 use Rattle.mvo_core.specs.Data.{CoreData, own_of}
 use Rattle.mvo_core.specs.Own.{is_own_valid, own_place, own_history}
-use Rattle.mvo_core.specs.Standing.{StandsFor, IsActive, IsPreparing, HasWorks, words_in}
+use Rattle.mvo_core.specs.Standing.{StandsFor, IsKeptActive, IsKeptPreparing, HasWorks, words_in}
 use Rattle.mvo_core.specs.Causes.{why_not_preparing, flag_of}
 use Rattle.mvo_core.specs.Aborting.{IsGivenUp}
 use Rattle.mvo_core.specs.Keeping.{IsWrittenThen, HasHandedOver}
@@ -155,16 +155,16 @@ module _ (opening : Map) (steps : List Step) (s : State) (c : CoreData) (h : Sta
     pub place_there : open_end_at c.tale place ≡ Some end'.0
     place_there = place_open opening steps s c h t.0 x there.1 ∙ ap (λ (n : ℕ). Some n) there.2
 
-    module _ (untold table : Txns (Node Transaction)) (handed : IsWrittenThen c.table untold t.0 HasHandedOver (λ y. txns.after_change y t.0 (Committed end'))) (tells : IsReported deps.after_commit untold table t)
+    module _ (untold table : Txns (Node KeptTransaction)) (handed : IsWrittenThen c.table untold t.0 HasHandedOver (λ y. txns.table_after_change y t.0 (Committed end'))) (tells : IsReported deps.after_dependency_commit untold table t)
         (graph : KeepsGraphAtCommit untold table t) (entry : StoredCommit) (id : entry.id ≡ t.0) (ends : entry.end ≡ end'.0) (history : entry.history ≡ own_history (own_of c.table t.0)) where
-      abbrev taken : Txns (Node Transaction)
+      abbrev taken : Txns (Node KeptTransaction)
       taken = handed.between
 
       change : IsOwnChanged c.table taken t.0 HasHandedOver
       change = own_changed c.table taken t.0 HasHandedOver handed.written
 
       beside : (u : ℕ) → u ≢ t.0 → own_of table u ≡ own_of c.table u
-      beside u ne = own_same deps.after_commit taken untold table t (Committed end') handed.is tells u ∙ change.beside u ne
+      beside u ne = own_same deps.after_dependency_commit taken untold table t (Committed end') handed.is tells u ∙ change.beside u ne
 
       at : open_end_at c.tale place ≡ Some entry.end
       at = place_there ∙ ap (λ (n : ℕ). Some n) (sym ends)
@@ -182,8 +182,8 @@ module _ (opening : Map) (steps : List Step) (s : State) (c : CoreData) (h : Sta
 
       works_after : HasWorks (after_commit s t.0 x.end) table (slice_set c.tale place (Settled entry))
       works_after = record {
-        active = each_both (λ r. r.id ≢ t.0) (IsActive c.table) (IsActive table) (λ r ne w. record { own = w.own; kept = beside r.id ne ∙ w.kept; history = w.history }) s.active active_beside h.works.active;
-        preparing = each_map (with_settled x.end) (λ y. (y.settled ≡ false → (y.id == t.0) ≡ (y.end == x.end)) × (y.settled ≡ false → IsPreparing c.table c.tale y)) (λ y. y.settled ≡ false → IsPreparing table (slice_set c.tale place (Settled entry)) y)
+        active = each_both (λ r. r.id ≢ t.0) (IsKeptActive c.table) (IsKeptActive table) (λ r ne w. record { own = w.own; kept = beside r.id ne ∙ w.kept; history = w.history }) s.active active_beside h.works.active;
+        preparing = each_map (with_settled x.end) (λ y. (y.settled ≡ false → (y.id == t.0) ≡ (y.end == x.end)) × (y.settled ≡ false → IsKeptPreparing c.table c.tale y)) (λ y. y.settled ≡ false → IsKeptPreparing table (slice_set c.tale place (Settled entry)) y)
             (λ y p o.
             let parts = or_parts y.settled (y.end == x.end) o in
             let w = p.1 parts.0 in
@@ -196,7 +196,7 @@ module _ (opening : Map) (steps : List Step) (s : State) (c : CoreData) (h : Sta
               place = open_beside c.tale place w.own.place (Settled entry) entry.end y.end at w.place (λ q. apart_by y.end x.end parts.1 (q ∙ sym x_ends));
             })
             s.stamped
-            (each_both (λ y. y.settled ≡ false → (y.id == t.0) ≡ (y.end == x.end)) (λ y. y.settled ≡ false → IsPreparing c.table c.tale y) (λ y. (y.settled ≡ false → (y.id == t.0) ≡ (y.end == x.end)) × (y.settled ≡ false → IsPreparing c.table c.tale y)) (λ y a b. (a, b)) s.stamped
+            (each_both (λ y. y.settled ≡ false → (y.id == t.0) ≡ (y.end == x.end)) (λ y. y.settled ≡ false → IsKeptPreparing c.table c.tale y) (λ y. (y.settled ≡ false → (y.id == t.0) ≡ (y.end == x.end)) × (y.settled ≡ false → IsKeptPreparing c.table c.tale y)) (λ y a b. (a, b)) s.stamped
             (alone s h.versions.kept.single h.versions.kept.sound.rising t.0 x there.1) h.works.preparing);
       }
 
@@ -225,13 +225,13 @@ module _ (opening : Map) (steps : List Step) (s : State) (c : CoreData) (h : Sta
       before = change.states t.0 ∙ was
 
       here : state_of table t.0 ≡ Some (Committed end')
-      here = stands_now deps.after_commit taken untold table t (Committed end') handed.is tells (Preparing end') before
+      here = stands_now deps.after_dependency_commit taken untold table t (Committed end') handed.is tells (Preparing end') before
 
       others : (u : ℕ) → u ≢ t.0 → state_of table u ≡ state_of c.table u
-      others u ne = others_stand deps.after_commit taken untold table t (Committed end') handed.is tells u ne ∙ change.states u
+      others u ne = others_stand deps.after_dependency_commit taken untold table t (Committed end') handed.is tells u ne ∙ change.states u
 
       same_words : words_in c.table ≡ words_in table
-      same_words = sym (words_stay c.table taken t.0 HasHandedOver change change.changed.words) ∙ words_same deps.after_commit taken untold table t (Committed end') handed.is tells
+      same_words = sym (words_stay c.table taken t.0 HasHandedOver change change.changed.words) ∙ words_same deps.after_dependency_commit taken untold table t (Committed end') handed.is tells
 
       stands_committed : HasNoneOpen c.table (data_of c.table t).on → is_own_valid (own_of c.table t.0) ≡ true
           → StandsFor opening (steps ++ Rattle.mvo_theory.specs.Calls.steps_of s (Settle t.0) Accepted) (after_settle s t.0) (record c { table = table; tale = slice_set c.tale place (Settled entry) })
@@ -244,9 +244,9 @@ module _ (opening : Map) (steps : List Step) (s : State) (c : CoreData) (h : Sta
           (commit_in_lists opening steps s (state_of c.table) c.versions.slots c.versions.lists c.versions.places (words_in c.table) t.0 x h.versions there.1 h.words)))
           (subst (λ z. HasRest z table (slice_set c.tale place (Settled entry)) c) (sym (after_is least)) rest)
 
-      pub commits_leads : HasNoneOpen c.table (data_of c.table t).on → is_own_valid (own_of c.table t.0) ≡ true → (tale : List Slot) → tale ≡ slice_set c.tale (own_place (own_of c.table t.0)) (Settled entry)
+      pub commits_leads : HasNoneOpen c.table (data_of c.table t).on → is_own_valid (own_of c.table t.0) ≡ true → (tale : List TalePlace) → tale ≡ slice_set c.tale (own_place (own_of c.table t.0)) (Settled entry)
           → LeadsOn opening steps s (Settle t.0) Accepted (record c { table = table; tale = tale })
       commits_leads least v tale left = record {
         may = may v;
-        stands = subst (λ (p : List Slot). StandsFor opening (steps ++ Rattle.mvo_theory.specs.Calls.steps_of s (Settle t.0) Accepted) (after_settle s t.0) (record c { table = table; tale = p })) (sym left) (stands_committed least v);
+        stands = subst (λ (p : List TalePlace). StandsFor opening (steps ++ Rattle.mvo_theory.specs.Calls.steps_of s (Settle t.0) Accepted) (after_settle s t.0) (record c { table = table; tale = p })) (sym left) (stands_committed least v);
       }

@@ -27,13 +27,13 @@ use Rattle.mvo_deps.specs.Nodes.{after_register_all}
 use Rattle.mvo_visible.specs.declared.outcome.Shown.{Shown}
 use Rattle.mvo_visible.specs.Words.{States}
 use Rattle.mvo_visible.specs.Versions.{versions_at}
-use Rattle.mvo_visible.specs.Shown.{IsInOrder, shown_to}
+use Rattle.mvo_visible.specs.Shown.{AreVersionsInOrder, shown_to}
 use Rattle.mvo_work.specs.declared.word_place.WordPlace.TheVariants.{End}
 use Rattle.mvo_representation.specs.Dependencies.{AreDependencies, tx_id}
 use Rattle.mvo_representation.specs.Steps.{ended_by}
 use Rattle.mvo_versions.specs.Data.{VersionsData}
 use Rattle.mvo_versions.specs.Changes.{IsReworded}
-use Rattle.mvo_core.specs.declared.transaction.Transaction.{Transaction}
+use Rattle.mvo_core.specs.declared.kept_transaction.KeptTransaction.{KeptTransaction}
 use Rattle.mvo_core.specs.Causes.{why_not_remove}
 use Rattle.mvo_core.specs.Data.{CoreData}
 use Rattle.mvo_core.specs.Ending.{IsRemoved}
@@ -70,7 +70,7 @@ module _ (opening : Map) (steps : List Step) (s : State) (c : CoreData) (h : Sta
     behind : why_not_do s t.0 (Delete k) ≡ conflicts (conflict s t.0 k)
     behind = sym (not_deleted_is opening steps s c h t.0 k) ∙ ap (λ o. or_next o (conflicts (conflict s t.0 k))) none
 
-    module _ (found : Shown) (is : IsInOrder (state_of c.table) t.0 t.0 (versions_at c.versions.slots c.versions.lists k) → found ≡ shown_in c t.0 k) where
+    module _ (found : Shown) (is : AreVersionsInOrder (state_of c.table) t.0 t.0 (versions_at c.versions.slots c.versions.lists k) → found ≡ shown_in c t.0 k) where
       shown : found ≡ shown_in c t.0 k
       shown = is (versions_in_order opening steps s c h t.0 here.state k)
 
@@ -98,10 +98,10 @@ module _ (opening : Map) (steps : List Step) (s : State) (c : CoreData) (h : Sta
         pub delete_starved : LeadsOn opening steps s (Do t.0 (Delete k)) (Refused OutOfMemory) c
         delete_starved = spent_leads opening steps s t.0 (Delete k) c may h
 
-        pub delete_spent : (table : Txns (Node Transaction)) → IsWritten c.table table t.0 HasDoneAsMuch → LeadsOn opening steps s (Do t.0 (Delete k)) (Refused OutOfMemory) (record c { table = table })
+        pub delete_spent : (table : Txns (Node KeptTransaction)) → IsWritten c.table table t.0 HasDoneAsMuch → LeadsOn opening steps s (Do t.0 (Delete k)) (Refused OutOfMemory) (record c { table = table })
         delete_spent table w = spent_leads opening steps s t.0 (Delete k) (record c { table = table }) may (stands_as_much opening steps s c h t.0 table w)
 
-        pub delete_left : (versions : VersionsData) → versions ≡ c.versions → (table : Txns (Node Transaction)) → IsWritten c.table table t.0 HasDoneAsMuch
+        pub delete_left : (versions : VersionsData) → versions ≡ c.versions → (table : Txns (Node KeptTransaction)) → IsWritten c.table table t.0 HasDoneAsMuch
             → LeadsOn opening steps s (Do t.0 (Delete k)) (Refused OutOfMemory) (record c { versions = versions; table = table })
         delete_left versions same table w = subst (λ (v : VersionsData). LeadsOn opening steps s (Do t.0 (Delete k)) (Refused OutOfMemory) (record c { versions = v; table = table })) (sym same) (delete_spent table w)
 
@@ -109,7 +109,7 @@ module _ (opening : Map) (steps : List Step) (s : State) (c : CoreData) (h : Sta
         pub absent_answers : found.version ≡ None → Absent ≡ answer_in s t.0 (Delete k)
         absent_answers e = sym (answer_is ∙ ap (λ (o : Option VersionNo). cond (is_some o) Deleted Absent) e)
 
-        pub absent_leads : found.version ≡ None → (table : Txns (Node Transaction)) → IsRecorded c.table table t (option_to_list found.depends_on) (Delete k) Absent
+        pub absent_leads : found.version ≡ None → (table : Txns (Node KeptTransaction)) → IsRecorded c.table table t (option_to_list found.depends_on) (Delete k) Absent
             → LeadsOn opening steps s (Do t.0 (Delete k)) Accepted (record c { table = table })
         absent_leads e table w = recorded_leads opening steps s c h t here.tx here.found (Delete k) Absent may (absent_answers e) refl (option_to_list found.depends_on) on table w
 
@@ -122,7 +122,7 @@ module _ (opening : Map) (steps : List Step) (s : State) (c : CoreData) (h : Sta
           pub deleted_live : IsSome (version_at c.versions.slots n)
           deleted_live = ap is_some (shown_there opening steps s c h t.0 here.tx here.found k n (ap (λ (x : Shown). x.version) (sym shown) ∙ e)).at
 
-          module _ (versions : VersionsData) (table : Txns (Node Transaction)) (w : IsRemoved c.versions versions c.table table t (option_to_list found.depends_on) n k) where
+          module _ (versions : VersionsData) (table : Txns (Node KeptTransaction)) (w : IsRemoved c.versions versions c.table table t (option_to_list found.depends_on) n k) where
             states : state_of c.table ≡ state_of w.recorded.roomy
             states = λ i u. sym ((own_changed c.table w.recorded.roomy t.0 HasMadeRoom w.recorded.room).states u) i
 

@@ -27,32 +27,33 @@ use Rattle.mvo_txn.specs.Txns as txns
 use Rattle.mvo_txn.specs.Txns.{Txns, state_of, kept_of, spent_clock}
 use Rattle.mvo_deps.specs.declared.node.Node.{Node}
 use Rattle.mvo_deps.proofs.Looks.{kept_restated, state_now, state_restated}
-use Rattle.mvo_tale.specs.declared.slot.Slot.{Slot}
-use Rattle.mvo_tale.specs.declared.slot.Slot.TheVariants.{Open}
+use Rattle.mvo_tale.specs.declared.tale_place.TalePlace.{TalePlace}
+use Rattle.mvo_tale.specs.declared.tale_place.TalePlace.TheVariants.{Open}
 use Rattle.mvo_tale.specs.Slots.{ends, open_end_at}
 use Rattle.mvo_tale.proofs.Moving.{grouped_opened}
 use Rattle.mvo_representation.specs.Table.{phase_as, phases_of}
-use Rattle.mvo_representation.specs.Order.{IsWritten as HasWritten, MayAbort, with_fronts}
+use Rattle.mvo_representation.specs.Order.{AreWrittenBy as HasWritten, MayAbort, with_fronts}
 use Rattle.mvo_representation.specs.WordLists.{HasWordLists}
 use Rattle.mvo_representation.proofs.Tabled.{active_is}
 use Rattle.mvo_versions.specs.Data.{VersionsData}
-use Rattle.mvo_core.specs.declared.transaction.Transaction.{Transaction}
+use Rattle.mvo_core.specs.declared.kept_transaction.KeptTransaction.{KeptTransaction}
 use Rattle.mvo_core.specs.Data.{CoreData, own_of}
-use Rattle.mvo_core.specs.Standing.{StandsFor, IsActive, IsPreparing, HasWorks, words_by, words_in}
+use Rattle.mvo_core.specs.Standing.{StandsFor, IsKeptActive, IsKeptPreparing, HasWorks, own_words_of, words_in}
 use Rattle.mvo_core.specs.Causes.{why_not_active, flag_of}
 use Rattle.mvo_core.specs.Aborting.{IsGivenUp}
 use Rattle.mvo_core.specs.Fronts.{comes_at_draw, numbers_in, AreInFront}
-use Rattle.mvo_core.specs.Keeping.{IsWritten, IsWrittenThen, IsPlaced, with_own_at}
+use Rattle.mvo_core.specs.Keeping.{IsWritten, IsWrittenThen, IsPlacedInTale, with_own_at}
 use Rattle.mvo_core.specs.Steps.{came, LeadsOn}
 use Rattle.mvo_core.proofs.SamePlaces.{stands_by_places}
 use Rattle.mvo_core.proofs.CausesTold.{none_active}
 use Rattle.mvo_core.proofs.EndCauses.{not_precommitted_is, or_first, or_last}
 use Rattle.mvo_core.proofs.EndLaws.{precommit_in_table, draw_in_order, precommit_in_lists, lists_are_written, fronts_in_numbers}
 use Rattle.mvo_core.proofs.GivenUp.{precommit_given_up}
-use Rattle.mvo_core.proofs.OwnChanged.{IsOwnChanged, own_changed, words_stay, some_own}
+use Rattle.mvo_core.proofs.OwnChanged.{IsOwnChanged, own_changed, words_stay}
 use Rattle.mvo_core.proofs.Rest.{HasRest, stands_then}
 use Rattle.mvo_core.proofs.KeptTale.{tale_opened, ends_upto}
 use Rattle.mvo_core.proofs.TaleMoves.{open_behind, open_last}
+use Rattle.mvo_core.proofs.Carried.{some_own}
 
 -- ---- numbers
 pub over_limit : (m n : ℕ) → n < m → nat_le m n ≡ false
@@ -62,17 +63,17 @@ over_limit m n lt = go (nat_le m n) refl
     go true e = absurd (let le = leb-true m n e in omega arith)
     go false e = refl
 
-none_refusal : (r : Refusal) → ◌≡◌ {A = Option Refusal} None (Some r) → ⊥
+pub none_refusal : (r : Refusal) → ◌≡◌ {A = Option Refusal} None (Some r) → ⊥
 none_refusal r q = cc
 
 not_true : (b : Bool) → not b ≡ true → b ≡ true → ⊥
 not_true b h e = false≢true (sym (ap not e) ∙ h)
 
 -- ---- what is written of one leaves the clock
-pub clock_written : (old new : Txns (Node Transaction)) (t : ℕ) (change : Transaction → Transaction → Type 0) → IsWritten old new t change → new.clock ≡ old.clock
+pub clock_written : (old new : Txns (Node KeptTransaction)) (t : ℕ) (change : KeptTransaction → KeptTransaction → Type 0) → IsWritten old new t change → new.clock ≡ old.clock
 clock_written old new t change w = ap (λ x. x.clock) w.is ∙ go (kept_of old t)
   where
-    go : (o : Option (Node Transaction)) → (with_own_at o old t w.after).clock ≡ old.clock
+    go : (o : Option (Node KeptTransaction)) → (with_own_at o old t w.after).clock ≡ old.clock
     go None = refl
     go (Some node) = refl
 
@@ -120,7 +121,7 @@ module _ (opening : Map) (steps : List Step) (s : State) (c : CoreData) (h : Sta
     abbrev r : ActiveTx
     r = found.0
 
-    module _ (placed : Txns (Node Transaction)) (change : IsOwnChanged c.table placed t.0 (IsPlaced (length c.tale))) where
+    module _ (placed : Txns (Node KeptTransaction)) (change : IsOwnChanged c.table placed t.0 (IsPlacedInTale (length c.tale))) where
       pub still_active : state_of placed t.0 ≡ Some Active
       still_active = change.states t.0 ∙ was_active
 
@@ -136,10 +137,10 @@ module _ (opening : Map) (steps : List Step) (s : State) (c : CoreData) (h : Sta
       end_is : placed.clock + 1 ≡ s.clock + 1
       end_is = ap (λ (n : ℕ). n + 1) clock
 
-      abbrev table : Txns (Node Transaction)
-      table = txns.after_prepare placed t.0
+      abbrev table : Txns (Node KeptTransaction)
+      table = txns.table_after_prepare placed t.0
 
-      abbrev tale : List Slot
+      abbrev tale : List TalePlace
       tale = c.tale ++ Open end' ∷ []
 
       own_drawn : (u : ℕ) → own_of table u ≡ own_of placed u
@@ -158,11 +159,11 @@ module _ (opening : Map) (steps : List Step) (s : State) (c : CoreData) (h : Sta
       others u ne = state_restated placed.seats t.0 (Preparing end') u ne ∙ change.states u
 
       same_words : words_in c.table ≡ words_in table
-      same_words = sym ((λ i u. words_by (own_drawn u i)) ∙ words_stay c.table placed t.0 (IsPlaced (length c.tale)) change (ap (λ w. w.words) change.changed.work))
+      same_words = sym ((λ i u. own_words_of (own_drawn u i)) ∙ words_stay c.table placed t.0 (IsPlacedInTale (length c.tale)) change (ap (λ w. w.words) change.changed.work))
 
       -- ---- what is kept of each
-      kept_active : IsActive c.table r × (r.id ≡ t.0)
-      kept_active = active_holds (IsActive c.table) t.0 s.active r found.1 h.works.active
+      kept_active : IsKeptActive c.table r × (r.id ≡ t.0)
+      kept_active = active_holds (IsKeptActive c.table) t.0 s.active r found.1 h.works.active
 
       before_is : change.before ≡ kept_active.0.own
       before_is = some_own change.before kept_active.0.own (sym change.was ∙ ap (own_of c.table) (sym its_id) ∙ kept_active.0.kept)
@@ -170,7 +171,7 @@ module _ (opening : Map) (steps : List Step) (s : State) (c : CoreData) (h : Sta
       beside : (u : ℕ) → u ≢ t.0 → own_of table u ≡ own_of c.table u
       beside u ne = own_drawn u ∙ change.beside u ne
 
-      new_one : IsPreparing table tale (to_stamped (s.clock + 1) r)
+      new_one : IsKeptPreparing table tale (to_stamped (s.clock + 1) r)
       new_one = record {
         own = change.after;
         kept = ap (own_of table) its_id ∙ own_drawn t.0 ∙ change.is;
@@ -186,10 +187,10 @@ module _ (opening : Map) (steps : List Step) (s : State) (c : CoreData) (h : Sta
 
       works : HasWorks (after_prepare s r (s.clock + 1)) table tale
       works = record {
-        active = each_filter (λ q. not (q.id == r.id)) (IsActive c.table) (IsActive table)
+        active = each_filter (λ q. not (q.id == r.id)) (IsKeptActive c.table) (IsKeptActive table)
             (λ q e w. record { own = w.own; kept = beside q.id (λ is. not_true (q.id == r.id) e (eq-eqb q.id r.id (is ∙ sym its_id))) ∙ w.kept; history = w.history }) s.active h.works.active;
-        preparing = each_append (λ y. y.settled ≡ false → IsPreparing table tale y) s.stamped (to_stamped (s.clock + 1) r ∷ [])
-            (each_both (λ y. y.id ≢ t.0) (λ y. y.settled ≡ false → IsPreparing c.table c.tale y) (λ y. y.settled ≡ false → IsPreparing table tale y)
+        preparing = each_append (λ y. y.settled ≡ false → IsKeptPreparing table tale y) s.stamped (to_stamped (s.clock + 1) r ∷ [])
+            (each_both (λ y. y.id ≢ t.0) (λ y. y.settled ≡ false → IsKeptPreparing c.table c.tale y) (λ y. y.settled ≡ false → IsKeptPreparing table tale y)
             (λ y ne w o. let p = w o in record {
               own = p.own;
               kept = beside y.id ne ∙ p.kept;
@@ -236,27 +237,27 @@ module _ (opening : Map) (steps : List Step) (s : State) (c : CoreData) (h : Sta
           (precommit_in_lists opening steps s (state_of c.table) c.versions.slots c.versions.lists c.versions.places (words_in c.table) r h.versions its_own h.words)))
           (subst (λ z. HasRest z table tale c) (sym state_then) rest)
 
-      stands_drawn : why_not_precommit s t.0 ≡ None → (versions : VersionsData) (new : List Slot) → AreInFront (comes_at_draw (state_of c.table) t.0) c.versions versions (words_in c.table t.0) → new ≡ tale
+      stands_drawn : why_not_precommit s t.0 ≡ None → (versions : VersionsData) (new : List TalePlace) → AreInFront (comes_at_draw (state_of c.table) t.0) c.versions versions (words_in c.table t.0) → new ≡ tale
           → StandsFor opening (steps ++ theory.steps_of s (Precommit t.0) Accepted) (after_precommit s t.0) (record c { versions = versions; table = table; tale = new })
       stands_drawn free versions new front is =
-          subst (λ (p : VersionsData × List Slot). StandsFor opening (steps ++ theory.steps_of s (Precommit t.0) Accepted) (after_precommit s t.0) (record c { versions = p.0; table = table; tale = p.1 }))
+          subst (λ (p : VersionsData × List TalePlace). StandsFor opening (steps ++ theory.steps_of s (Precommit t.0) Accepted) (after_precommit s t.0) (record c { versions = p.0; table = table; tale = p.1 }))
           (λ i. (record { slots = sym front.slots i; lists = sym front.lists i; places = versions.places }, sym is i))
           (stands_by_places opening _ _ _ versions.places front.places (drawn free))
 
     -- by what the table answers: with the clock below its limit, the end
-    module _ (place : ℕ) (last : place ≡ length c.tale) (e : Stamp) (drawn : e.0 ≡ c.table.clock + 1) (tale : List Slot) (opened : tale ≡ c.tale ++ Open e ∷ []) (versions : VersionsData) (front : AreInFront (comes_at_draw (state_of c.table) t.0) c.versions versions (words_in c.table t.0)) (lt : c.table.clock < MAX_STAMP) where
+    module _ (place : ℕ) (last : place ≡ length c.tale) (e : Stamp) (drawn : e.0 ≡ c.table.clock + 1) (tale : List TalePlace) (opened : tale ≡ c.tale ++ Open e ∷ []) (versions : VersionsData) (front : AreInFront (comes_at_draw (state_of c.table) t.0) c.versions versions (words_in c.table t.0)) (lt : c.table.clock < MAX_STAMP) where
       free : why_not_precommit s t.0 ≡ None
       free = why false (over_limit MAX_STAMP c.table.clock lt)
 
       pub unspent : spent_clock c.table.clock ≡ None
       unspent = ap (λ (b : Bool). cond b (Some ClockSpent) None) (over_limit MAX_STAMP c.table.clock lt)
 
-      pub draw_leads : (result : Result Stamp Refusal) (table : Txns (Node Transaction)) → OnOk result (IsWrittenThen c.table table t.0 (IsPlaced place) (λ x. txns.after_prepare x t.0)) → IfErr result (λ why. spent_clock c.table.clock ≡ Some why)
+      pub draw_leads : (result : Result Stamp Refusal) (table : Txns (Node KeptTransaction)) → OnOk result (IsWrittenThen c.table table t.0 (IsPlacedInTale place) (λ x. txns.table_after_prepare x t.0)) → IfErr result (λ why. spent_clock c.table.clock ≡ Some why)
           → LeadsOn opening steps s (Precommit t.0) (came result) (record c { versions = versions; table = table; tale = tale })
       draw_leads (Ok d) new w spent =
           let placed = w.between in
-          let change = own_changed c.table placed t.0 (IsPlaced (length c.tale)) (subst (λ (n : ℕ). IsWritten c.table placed t.0 (IsPlaced n)) last w.written) in
-          let same_clock = clock_written c.table placed t.0 (IsPlaced place) w.written in
+          let change = own_changed c.table placed t.0 (IsPlacedInTale (length c.tale)) (subst (λ (n : ℕ). IsWritten c.table placed t.0 (IsPlacedInTale n)) last w.written) in
+          let same_clock = clock_written c.table placed t.0 (IsPlacedInTale place) w.written in
           let tale_is : tale ≡ c.tale ++ Open (record { 0 = placed.clock + 1 }) ∷ [] = opened ∙ ap (λ (n : ℕ). c.tale ++ Open (record { 0 = n }) ∷ []) (drawn ∙ ap (λ (n : ℕ). n + 1) (sym same_clock)) in
           record {
             may = (free, tt);

@@ -16,17 +16,9 @@ use Rattle.std.specs.Prelude.{nat_le}
 use Rattle.mvo_core.specs.Data.{CoreData}
 use Rattle.mvo_core.specs.Standing.{StandsFor}
 use Rattle.mvo_core.specs.Causes.{unless_preparing_as, why_not_active, why_not_preparing}
-use Rattle.mvo_core.proofs.CausesTold.{not_active_is, not_preparing_is}
+use Rattle.mvo_core.proofs.CausesTold.{not_active_is, not_preparing_is, or_next_deep, or_none, some_none}
 
 -- ---- lists of causes
-or_next_deep : (a b c : Option Refusal) → or_next (or_next a b) c ≡ or_next a (or_next b c)
-or_next_deep None b c = refl
-or_next_deep (Some r) b c = refl
-
-or_none : (a : Option Refusal) → or_next a None ≡ a
-or_none None = refl
-or_none (Some r) = refl
-
 first_behind : (xs : List (Option Refusal)) (last : Option Refusal) → first_cause (xs ++ last ∷ []) ≡ or_next (first_cause xs) last
 first_behind [] last = or_none last
 first_behind (x ∷ xs) last = ap (or_next x) (first_behind xs last) ∙ sym (or_next_deep x (first_cause xs) last)
@@ -56,9 +48,6 @@ module _ (opening : Map) (steps : List Step) (s : State) (c : CoreData) (h : Sta
       ∙ sym (first_behind (unless_preparing s t) (when (not (was_valid (preparing_of t s.stamped))) NotValidated))
 
 -- ---- none stands: it is Preparing
-some_none : (r : Refusal) → ◌≡◌ {A = Option Refusal} (Some r) None → ⊥
-some_none r q = cc
-
 pub preparing_unended : (o : Option TxState) (flag : Option TxId) → unless_preparing_as o flag ≡ None → (e : Stamp) × (o ≡ Some (Preparing e))
 preparing_unended None flag e = absurd (some_none NoSuchTransaction e)
 preparing_unended (Some Active) flag e = absurd (some_none NotPreparing e)

@@ -13,21 +13,21 @@ use Rattle.mvo_representation.proofs.OrderOthers.{fronts_keep_numbers}
 use Rattle.mvo_representation.proofs.WordsKept.{check_keeps_lists, commit_keeps_lists}
 use Rattle.mvo_representation.proofs.WordsEnded.{precommit_keeps_lists, abort_keeps_lists}
 use Rattle.mvo_representation.proofs.WordsSaid.{lists_are_written as written_lists}
-use Rattle.mvo_core.specs.declared.transaction.Transaction.{Transaction}
+use Rattle.mvo_core.specs.declared.kept_transaction.KeptTransaction.{KeptTransaction}
 
-pub precommit_in_table : PrecommitInTable Transaction
+pub precommit_in_table : PrecommitInTable KeptTransaction
 precommit_in_table = table_prepared
 
-pub check_in_table : CheckInTable Transaction
+pub check_in_table : CheckInTable KeptTransaction
 check_in_table = table_checked
 
-pub commit_in_table : CommitInTable Transaction
+pub commit_in_table : CommitInTable KeptTransaction
 commit_in_table = table_committed
 
-pub abort_in_table : AbortInTable Transaction
+pub abort_in_table : AbortInTable KeptTransaction
 abort_in_table = table_aborted
 
-pub awaited_told : TellsAwaited Transaction
+pub awaited_told : TellsAwaited KeptTransaction
 awaited_told = awaited_is
 
 pub change_named : NamesChange

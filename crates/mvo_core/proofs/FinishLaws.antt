@@ -9,12 +9,12 @@ use Rattle.mvo_representation.proofs.OrderAborts.{leaving_keeps_order}
 use Rattle.mvo_representation.proofs.WordsSaid.{passing_keeps_lists, done_is_seen, none_is_unnamed}
 use Rattle.mvo_representation.proofs.WordsFinished.{finish_keeps_lists, last_is_unnamed, last_keeps_lists, leaving_keeps_lists}
 use Rattle.mvo_representation.proofs.WordsStand.{finished_stands}
-use Rattle.mvo_core.specs.declared.transaction.Transaction.{Transaction}
+use Rattle.mvo_core.specs.declared.kept_transaction.KeptTransaction.{KeptTransaction}
 
-pub word_in_table : WordInTable Transaction
+pub word_in_table : WordInTable KeptTransaction
 word_in_table = table_word
 
-pub leave_in_table : LeaveInTable Transaction
+pub leave_in_table : LeaveInTable KeptTransaction
 leave_in_table = table_left
 
 pub changed_now : ChangedIsNow

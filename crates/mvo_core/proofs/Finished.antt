@@ -32,14 +32,14 @@ use Rattle.mvo_representation.specs.Words.{end_in, ends_of}
 use Rattle.mvo_representation.specs.Table.{phase_as, phases_of}
 use Rattle.mvo_representation.specs.Order.{word_of_stamp}
 use Rattle.mvo_representation.specs.OrderLaws.{HaveNow}
-use Rattle.mvo_representation.specs.WordLists.{HasWordLists, HaveListNow, number_at, names_at, named, with_word, finished}
+use Rattle.mvo_representation.specs.WordLists.{HasWordLists, HaveListNow, number_at_word, names_at, places_naming, with_word, finished}
 use Rattle.mvo_representation.proofs.Tabled.{ended_is}
 use Rattle.mvo_representation.proofs.WordPlaces.{IsNamedAt, names_there}
-use Rattle.mvo_core.specs.declared.transaction.Transaction.{Transaction}
+use Rattle.mvo_core.specs.declared.kept_transaction.KeptTransaction.{KeptTransaction}
 use Rattle.mvo_core.specs.declared.answers.Finishing.{Finishing}
 use Rattle.mvo_core.specs.declared.answers.Finishing.TheVariants.{More, Done}
 use Rattle.mvo_core.specs.Data.{CoreData}
-use Rattle.mvo_core.specs.Standing.{StandsFor, words_by, words_in}
+use Rattle.mvo_core.specs.Standing.{StandsFor, own_words_of, words_in}
 use Rattle.mvo_core.specs.Steps.{LeadsOn}
 use Rattle.mvo_core.specs.Keeping.{IsWritten, HasDropped}
 use Rattle.mvo_core.specs.Finishing.{why_not_finished, IsFinalWord, HasDrawnEnd, from_own, HasPassed, IsFirstReplaced, IsNextReplaced}
@@ -92,11 +92,11 @@ ended_after : (s : State) (t : ℕ) (u : EndedTx) → ended_of t s.ended ≡ Som
 ended_after s t u e more = ap (λ (b : Bool). ended_of t (cond b (after_termination s t) (with_words (words_left t) s)).ended) more ∙ ended_with s t u e
 
 -- ---- what the code has done
-none_left : (t : ℕ) (table : Txns (Node Transaction)) → words_in (after_terminate table t) t ≡ []
-none_left t table = ap (λ o. words_by (option_map (λ n. n.own) (option_map (λ x. x.kept) o))) (get_removed table.seats t)
+none_left : (t : ℕ) (table : Txns (Node KeptTransaction)) → words_in (after_terminate table t) t ≡ []
+none_left t table = ap (λ o. own_words_of (option_map (λ n. n.own) (option_map (λ x. x.kept) o))) (get_removed table.seats t)
 
-left_list : (t : ℕ) (words : ℕ → List WordPlace) (table : Txns (Node Transaction)) → ((v : ℕ) → v ≢ t → words_in table v ≡ words v) → HaveListNow words (words_in (after_terminate table t)) t []
-left_list t words table others = record { others = λ v ne. ap (λ o. words_by (option_map (λ n. n.own) (option_map (λ x. x.kept) o))) (get_left table.seats t v ne) ∙ others v ne; here = none_left t table }
+left_list : (t : ℕ) (words : ℕ → List WordPlace) (table : Txns (Node KeptTransaction)) → ((v : ℕ) → v ≢ t → words_in table v ≡ words v) → HaveListNow words (words_in (after_terminate table t)) t []
+left_list t words table others = record { others = λ v ne. ap (λ o. own_words_of (option_map (λ n. n.own) (option_map (λ x. x.kept) o))) (get_left table.seats t v ne) ∙ others v ne; here = none_left t table }
 
 -- what is answered, and what the core stands for then
 pub record HasFinished (opening : Map) (steps : List Step) (s : State) (t : ℕ) (a : Finishing) (new : CoreData) : Type 0 where
@@ -106,7 +106,7 @@ pub record HasFinished (opening : Map) (steps : List Step) (s : State) (t : ℕ)
 answered : (b : Bool) (s : State) (t : ℕ) → is_done s t ≡ b → cond b Done More ≡ (if is_done s t then Done else More)
 answered b s t e = ap (λ (x : Bool). cond x Done More) (sym e)
 
-module _ (opening : Map) (steps : List Step) (s : State) (c : CoreData) (h : StandsFor opening steps s c) (u : EndedTx) (e : ended_of u.id s.ended ≡ Some u) (w : Held) (final : IsFinalWord (state_of c.table u.id) w) (between : Txns (Node Transaction)) (passed : IsWritten c.table between u.id (HasPassed c.versions.slots u.id)) where
+module _ (opening : Map) (steps : List Step) (s : State) (c : CoreData) (h : StandsFor opening steps s c) (u : EndedTx) (e : ended_of u.id s.ended ≡ Some u) (w : Held) (final : IsFinalWord (state_of c.table u.id) w) (between : Txns (Node KeptTransaction)) (passed : IsWritten c.table between u.id (HasPassed c.versions.slots u.id)) where
   may : MayCome s (Finish u.id) Accepted
   may = (sym (why_finished s c opening steps h u.id) ∙ final_none (state_of c.table u.id) w final, tt)
 
@@ -129,9 +129,9 @@ module _ (opening : Map) (steps : List Step) (s : State) (c : CoreData) (h : Sta
       (record { others = (list_written c.table between u.id (HasPassed c.versions.slots u.id) passed).others; here = list_passed }) h.words
 
   -- ---- no word was left
-  module _ (none : words_in between u.id ≡ []) (table : Txns (Node Transaction)) (again : IsWritten between table u.id (HasPassed c.versions.slots u.id)) where
-    none_there : named c.versions.slots u.id (words_in between u.id) ≡ []
-    none_there = ap (named c.versions.slots u.id) none
+  module _ (none : words_in between u.id ≡ []) (table : Txns (Node KeptTransaction)) (again : IsWritten between table u.id (HasPassed c.versions.slots u.id)) where
+    none_there : places_naming c.versions.slots u.id (words_in between u.id) ≡ []
+    none_there = ap (places_naming c.versions.slots u.id) none
 
     is_over : is_done s u.id ≡ true
     is_over = done_none s c.versions.slots (words_in between) u e first_lists none_there
@@ -158,8 +158,8 @@ module _ (opening : Map) (steps : List Step) (s : State) (c : CoreData) (h : Sta
         ∙ ap (from_own c.versions.slots u.id) (sym (list_was between table u.id (HasPassed c.versions.slots u.id) again) ∙ none)
 
   -- ---- the first one is replaced
-  module _ (p : WordPlace) (ps : List WordPlace) (is : words_in between u.id ≡ p ∷ ps) (versions : VersionsData) (reworded : IsReworded c.versions versions (number_at p) (with_word p w))
-      (dropped_table : Txns (Node Transaction)) (dropped : IsWritten between dropped_table u.id HasDropped) (table : Txns (Node Transaction)) (again : IsWritten dropped_table table u.id (HasPassed versions.slots u.id)) where
+  module _ (p : WordPlace) (ps : List WordPlace) (is : words_in between u.id ≡ p ∷ ps) (versions : VersionsData) (reworded : IsReworded c.versions versions (number_at_word p) (with_word p w))
+      (dropped_table : Txns (Node KeptTransaction)) (dropped : IsWritten between dropped_table u.id HasDropped) (table : Txns (Node KeptTransaction)) (again : IsWritten dropped_table table u.id (HasPassed versions.slots u.id)) where
     name : names_at c.versions.slots u.id p ≡ true
     name = first_named c.versions.slots u.id (words_in c.table u.id) p ps (sym list_passed ∙ is)
 
@@ -172,7 +172,7 @@ module _ (opening : Map) (steps : List Step) (s : State) (c : CoreData) (h : Sta
     third_beside : StandsBeside opening steps s (record c { versions = versions; table = dropped_table })
     third_beside = beside_written opening steps s (record c { versions = versions; table = between }) second_beside u e dropped_table HasDropped dropped
 
-    now : HaveNow c.versions.slots versions.slots (number_at p).0 (finished (ends_of (phases_of (state_of between))) u.id p there.version)
+    now : HaveNow c.versions.slots versions.slots (number_at_word p).0 (finished (ends_of (phases_of (state_of between))) u.id p there.version)
     now = finished_now opening steps s (record c { table = between }) first_beside u e versions w p there.version there.at word_is reworded
 
     list_dropped : words_in dropped_table u.id ≡ ps
@@ -228,12 +228,12 @@ abbrev pub answer_as : Option WordPlace → Finishing
 answer_as None = Done
 answer_as (Some q) = More
 
-abbrev pub table_as : Option WordPlace → Txns (Node Transaction) → ℕ → Txns (Node Transaction)
+abbrev pub table_as : Option WordPlace → Txns (Node KeptTransaction) → ℕ → Txns (Node KeptTransaction)
 table_as None table t = after_terminate table t
 table_as (Some q) table t = table
 
 module _ (opening : Map) (steps : List Step) (s : State) (c : CoreData) (h : StandsFor opening steps s c) where
-  by_first : (u : EndedTx) → ended_of u.id s.ended ≡ Some u → (w : Held) → IsFinalWord (state_of c.table u.id) w → (versions : VersionsData) (between table table' : Txns (Node Transaction))
+  by_first : (u : EndedTx) → ended_of u.id s.ended ≡ Some u → (w : Held) → IsFinalWord (state_of c.table u.id) w → (versions : VersionsData) (between table table' : Txns (Node KeptTransaction))
       → IsWritten c.table between u.id (HasPassed c.versions.slots u.id) → (first : Option WordPlace) → slice_get (words_in between u.id) 0 ≡ first → IsFirstReplaced c.versions versions between table u.id w first
       → IsWritten table table' u.id (HasPassed versions.slots u.id) → (o : Option WordPlace) → slice_get (words_in table' u.id) 0 ≡ o
       → HasFinished opening steps s u.id (answer_as o) (record c { versions = versions; table = table_as o table' u.id })
@@ -261,7 +261,7 @@ module _ (opening : Map) (steps : List Step) (s : State) (c : CoreData) (h : Sta
       go None f = last_finished opening steps s c h u e w final between passed p here.rest here.is versions r.0 table r.1 table' again (first_of (words_in table' u.id) f)
       go (Some q) f = let next = first_is (words_in table' u.id) q f in more_finished opening steps s c h u e w final between passed p here.rest here.is versions r.0 table r.1 table' again q next.rest next.is
 
-  pub finish_leads : (t : ℕ) (w : Held) → IsFinalWord (state_of c.table t) w → (versions : VersionsData) (table table' : Txns (Node Transaction)) → IsNextReplaced c.versions versions c.table table t w
+  pub finish_leads : (t : ℕ) (w : Held) → IsFinalWord (state_of c.table t) w → (versions : VersionsData) (table table' : Txns (Node KeptTransaction)) → IsNextReplaced c.versions versions c.table table t w
       → IsWritten table table' t (HasPassed versions.slots t) → (o : Option WordPlace) → o ≡ slice_get (words_in table' t) 0
       → HasFinished opening steps s t (answer_as o) (record c { versions = versions; table = table_as o table' t })
   finish_leads t w final versions table table' r again o left =
@@ -281,13 +281,13 @@ module _ (opening : Map) (steps : List Step) (s : State) (c : CoreData) (h : Sta
   }
 
   -- ---- by what the code found
-  pub finish_more : (t : ℕ) (w : Held) → IsFinalWord (state_of c.table t) w → (versions : VersionsData) (table table' : Txns (Node Transaction)) → IsNextReplaced c.versions versions c.table table t w
+  pub finish_more : (t : ℕ) (w : Held) → IsFinalWord (state_of c.table t) w → (versions : VersionsData) (table table' : Txns (Node KeptTransaction)) → IsNextReplaced c.versions versions c.table table t w
       → IsWritten table table' t (HasPassed versions.slots t) → (o : Option WordPlace) → o ≡ slice_get (words_in table' t) 0 → true ≡ is_some o
       → HasFinished opening steps s t More (record c { versions = versions; table = table' })
   finish_more t w final versions table table' r again None left is = absurd (true≢false is)
   finish_more t w final versions table table' r again (Some q) left is = finish_leads t w final versions table table' r again (Some q) left
 
-  pub finish_done : (t : ℕ) (w : Held) → IsFinalWord (state_of c.table t) w → (versions : VersionsData) (table table' end : Txns (Node Transaction)) → IsNextReplaced c.versions versions c.table table t w
+  pub finish_done : (t : ℕ) (w : Held) → IsFinalWord (state_of c.table t) w → (versions : VersionsData) (table table' end : Txns (Node KeptTransaction)) → IsNextReplaced c.versions versions c.table table t w
       → IsWritten table table' t (HasPassed versions.slots t) → (o : Option WordPlace) → o ≡ slice_get (words_in table' t) 0 → false ≡ is_some o → end ≡ after_terminate table' t
       → HasFinished opening steps s t Done (record c { versions = versions; table = end })
   finish_done t w final versions table table' end r again None left is gone =
@@ -306,12 +306,12 @@ module _ (opening : Map) (steps : List Step) (s : State) (c : CoreData) (h : Sta
       go (Some Aborted) e = tt
 
 -- ---- the table, once a word was replaced
-first_states : (old new : VersionsData) (table table' : Txns (Node Transaction)) (t : ℕ) (w : Held) (o : Option WordPlace) → IsFirstReplaced old new table table' t w o → state_of table ≡ state_of table'
+first_states : (old new : VersionsData) (table table' : Txns (Node KeptTransaction)) (t : ℕ) (w : Held) (o : Option WordPlace) → IsFirstReplaced old new table table' t w o → state_of table ≡ state_of table'
 first_states old new table table' t w None r = ap state_of (sym r.1)
 first_states old new table table' t w (Some p) r = same_states table table' t HasDropped r.1
 
-module _ (old new : VersionsData) (table table' : Txns (Node Transaction)) (t : ℕ) (w : Held) (r : IsNextReplaced old new table table' t w) where
-  pub replaced_ended : (end : Txns (Node Transaction)) → IsWritten table' end t (HasPassed new.slots t) → IsFinalWord (state_of table t) w → IsEnded (state_of end t)
+module _ (old new : VersionsData) (table table' : Txns (Node KeptTransaction)) (t : ℕ) (w : Held) (r : IsNextReplaced old new table table' t w) where
+  pub replaced_ended : (end : Txns (Node KeptTransaction)) → IsWritten table' end t (HasPassed new.slots t) → IsFinalWord (state_of table t) w → IsEnded (state_of end t)
   replaced_ended end again final =
       subst (λ states. IsEnded (states t))
       (same_states table r.between t (HasPassed old.slots t) r.passed ∙ first_states old new r.between table' t w (slice_get (words_in r.between t) 0) r.first ∙ same_states table' end t (HasPassed new.slots t) again)

@@ -23,37 +23,31 @@ use Rattle.mvo_theory.specs.Calls.{IsRefusal}
 use Rattle.mvo_theory.proofs.Finishing.{kept_closed}
 use Rattle.mvo_theory.proofs.Groups.{closed_at_low, closed_below_low, next_group_closes}
 use Rattle.mvo_txn.specs.Txns.{state_of, IsLowWater}
-use Rattle.mvo_deps.specs.declared.node.Node.{Node}
 use Rattle.mvo_tale.specs.declared.next_records.NextRecords.{NextRecords}
-use Rattle.mvo_tale.specs.declared.slot.Slot.{Slot}
+use Rattle.mvo_tale.specs.declared.tale_place.TalePlace.{TalePlace}
 use Rattle.mvo_tale.specs.Forgetting.{forgotten}
 use Rattle.mvo_tale.specs.Slots.{open_ends}
 use Rattle.mvo_tale.specs.Records.{fits}
 use Rattle.mvo_tale.specs.Next.{AreNextRecords}
 use Rattle.mvo_tale.proofs.KeptPlaces.{tale_closed}
 use Rattle.mvo_representation.specs.DependencyLaws.{CloseInTable}
-use Rattle.mvo_representation.specs.TableLaws.{TellsLowWater}
 use Rattle.mvo_representation.specs.WordLaws.{CloseKeepsLists}
 use Rattle.mvo_representation.specs.Indexes.{all_versions}
 use Rattle.mvo_representation.specs.Table.{phases_of}
 use Rattle.mvo_representation.proofs.TableSteps.{table_closed}
-use Rattle.mvo_representation.proofs.TableMarks.{low_water_is}
 use Rattle.mvo_representation.proofs.WordsKept.{close_keeps_lists}
 use Rattle.mvo_representation.proofs.Reworded.{kept_after_close}
-use Rattle.mvo_core.specs.declared.transaction.Transaction.{Transaction}
+use Rattle.mvo_core.specs.declared.kept_transaction.KeptTransaction.{KeptTransaction}
 use Rattle.mvo_core.specs.declared.answers.Closed.{Closed}
 use Rattle.mvo_core.specs.Data.{CoreData}
 use Rattle.mvo_core.specs.Standing.{StandsFor, Stands, words_in}
 use Rattle.mvo_core.specs.Closing.{IsClosedNow, IsNotClosed, HasClosed}
 use Rattle.mvo_core.proofs.KeptTale.{opens_above, next_group_kept}
-use Rattle.mvo_core.proofs.Trimmed.{stands_forgotten}
+use Rattle.mvo_core.proofs.Trimmed.{stands_forgotten, low_water_told}
 use Rattle.rtrb.specs.declared.producer.Producer.{Producer}
 
-close_in_table : CloseInTable Transaction
+close_in_table : CloseInTable KeptTransaction
 close_in_table = table_closed
-
-low_water_told : TellsLowWater (Node Transaction)
-low_water_told = low_water_is
 
 close_in_lists : CloseKeepsLists
 close_in_lists = close_keeps_lists
@@ -139,7 +133,7 @@ module _ (opening : Map) (steps : List Step) (s : State) (c : CoreData) (h : Sta
           (subst (λ (m : ℕ). min c.start n.mark.0 ≤ m) (sym h.start) (min-le_left c.start n.mark.0)) (min-le_right c.start n.mark.0)
 
       pub closed_now : (prev : Stamp) → prev.0 ≡ c.closed → KeepsRules (group_of c.closed n.mark.0 n.records.items)
-          → (tale : List Slot) → tale ≡ forgotten (min c.start n.mark.0) c.tale
+          → (tale : List TalePlace) → tale ≡ forgotten (min c.start n.mark.0) c.tale
           → IsClosedNow opening steps s (record { prev = prev; mark = n.mark }) (record c { tale = tale; closed = n.mark.0; grouped = n.next }) (group_of c.closed n.mark.0 n.records.items)
       closed_now prev was rules tale left = record {
         commits = in_state.taken;
@@ -148,7 +142,7 @@ module _ (opening : Map) (steps : List Step) (s : State) (c : CoreData) (h : Sta
         rules = rules;
         prev = sym was;
         mark = refl;
-        stands = subst (λ (xs : List Slot). StandsFor opening steps (after_close s n.mark.0) (record c { tale = xs; closed = n.mark.0; grouped = n.next })) (sym left) stands_closed;
+        stands = subst (λ (xs : List TalePlace). StandsFor opening steps (after_close s n.mark.0) (record c { tale = xs; closed = n.mark.0; grouped = n.next })) (sym left) stands_closed;
       }
 
     -- and all are settled up to its mark
@@ -175,8 +169,8 @@ module _ (opening : Map) (steps : List Step) (s : State) (c : CoreData) (h : Sta
 
 -- ---- a core stands for the state with the group
 pub stands_with_group : {c : CoreData} (i : Stands c) (low : ℕ) → IsLowWater c.table low → (n : NextRecords) → AreNextRecords c.tale c.closed low n → c.closed < n.mark.0
-    → (tale : List Slot) → tale ≡ forgotten (min c.start n.mark.0) c.tale → Stands (record c { tale = tale; closed = n.mark.0; grouped = n.next })
-stands_with_group {c} i low told n are up tale left = subst (λ (xs : List Slot). Stands (record c { tale = xs; closed = n.mark.0; grouped = n.next })) (sym left) (record {
+    → (tale : List TalePlace) → tale ≡ forgotten (min c.start n.mark.0) c.tale → Stands (record c { tale = tale; closed = n.mark.0; grouped = n.next })
+stands_with_group {c} i low told n are up tale left = subst (λ (xs : List TalePlace). Stands (record c { tale = xs; closed = n.mark.0; grouped = n.next })) (sym left) (record {
   opening = i.opening;
   steps = i.steps;
   state = after_close i.state n.mark.0;

@@ -28,7 +28,7 @@ use Rattle.mvo_chain.specs.declared.version.VersionNo.{VersionNo}
 use Rattle.mvo_visible.specs.Words.{names}
 use Rattle.mvo_visible.specs.Causes.{cause_of}
 use Rattle.mvo_visible.specs.Versions.{versions_at}
-use Rattle.mvo_visible.specs.Shown.{IsInOrder, shown_to}
+use Rattle.mvo_visible.specs.Shown.{AreVersionsInOrder, shown_to}
 use Rattle.mvo_representation.specs.Words.{NetEffect, with_effect, effect_by, as_net_effect, net_effect}
 use Rattle.mvo_representation.specs.Words.NetEffect.{Untouched, Removed, Puts, Clash}
 use Rattle.mvo_representation.specs.Versions.{Say, IsInside}
@@ -72,7 +72,7 @@ none_there w o = refl
 
 module _ (opening : Map) (steps : List Step) (s : State) (c : CoreData) (h : StandsFor opening steps s c) (r : ActiveTx) (f : active_of r.id s.active ≡ Some r) where
   -- a walk over the versions of the key shows what the rules say
-  pub in_order : (k : RowKey) → state_of c.table r.id ≡ Some Active → IsInOrder (state_of c.table) r.id r.id (versions_at c.versions.slots c.versions.lists k)
+  pub in_order : (k : RowKey) → state_of c.table r.id ≡ Some Active → AreVersionsInOrder (state_of c.table) r.id r.id (versions_at c.versions.slots c.versions.lists k)
   in_order k active = record {
     falling = order_falls opening steps s (state_of c.table) c.versions.slots c.versions.lists c.versions.places h.versions h.order k;
     own = order_has_own_in_front s.start (state_of c.table) c.versions.slots c.versions.lists r.id active h.order k;

@@ -33,7 +33,7 @@ use Rattle.mvo_representation.proofs.OrderOperations.{insert_keeps_order}
 use Rattle.mvo_representation.proofs.OrderSlots.{added_is_now}
 use Rattle.mvo_representation.proofs.Slots.{slot_filled}
 use Rattle.mvo_representation.proofs.WordsWritten.{insert_keeps_lists}
-use Rattle.mvo_core.specs.declared.transaction.Transaction.{Transaction}
+use Rattle.mvo_core.specs.declared.kept_transaction.KeptTransaction.{KeptTransaction}
 use Rattle.mvo_core.specs.Data.{CoreData}
 use Rattle.mvo_core.specs.Inserting.{IsInserted}
 use Rattle.mvo_core.specs.Keeping.{HasDoneMore}
@@ -45,7 +45,7 @@ use Rattle.mvo_core.proofs.Looked.{IsActiveHere, shown_in, none_is, key_is}
 use Rattle.mvo_core.proofs.OwnChanged.{IsOwnChanged, own_changed, own_weaker, words_beside, words_here, words_before, words_registered}
 
 module _ (opening : Map) (steps : List Step) (s : State) (c : CoreData) (h : StandsFor opening steps s c) (t : TxId) (row : RowData) (may : why_not_do s t.0 (Insert row) ≡ None) (here : IsActiveHere s c t.0)
-    (unseen : (shown_in c t.0 row.key).version ≡ None) (ids : List TxId) (on : AreDependencies s (Insert row) here.tx ids) (new : VersionsData) (table : Txns (Node Transaction))
+    (unseen : (shown_in c t.0 row.key).version ≡ None) (ids : List TxId) (on : AreDependencies s (Insert row) here.tx ids) (new : VersionsData) (table : Txns (Node KeptTransaction))
     (w : IsInserted c.versions new c.table table t ids row) (indexed : AreIndexed new) where
   roomy : CoreData
   roomy = record c { table = w.recorded.roomy }
@@ -80,10 +80,10 @@ module _ (opening : Map) (steps : List Step) (s : State) (c : CoreData) (h : Sta
       (slot_filled (with_room c.versions.slots) w.number.0 (fresh t.0 row) (hole_inside (with_room c.versions.slots) w.number.0 w.put.hole) (hole_empty (with_room c.versions.slots) w.number.0 w.put.hole)))
 
   -- ---- the table
-  registered : Txns (Node Transaction)
+  registered : Txns (Node KeptTransaction)
   registered = after_register_all w.recorded.roomy t ids
 
-  abbrev Done : Transaction → Transaction → Type 0
+  abbrev Done : KeptTransaction → KeptTransaction → Type 0
   Done = HasDoneMore (Insert row) Inserted (Begin w.number ∷ [])
 
   changed : IsOwnChanged (after_register_all w.recorded.roomy t ids) table t.0 Done

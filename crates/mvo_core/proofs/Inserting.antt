@@ -21,10 +21,10 @@ use Rattle.mvo_txn.specs.Txns.{Txns, state_of}
 use Rattle.mvo_deps.specs.declared.node.Node.{Node}
 use Rattle.mvo_visible.specs.declared.outcome.Shown.{Shown}
 use Rattle.mvo_visible.specs.Versions.{versions_at}
-use Rattle.mvo_visible.specs.Shown.{IsInOrder}
+use Rattle.mvo_visible.specs.Shown.{AreVersionsInOrder}
 use Rattle.mvo_versions.specs.Data.{VersionsData, AreIndexed}
 use Rattle.mvo_representation.specs.Dependencies.{AreDependencies}
-use Rattle.mvo_core.specs.declared.transaction.Transaction.{Transaction}
+use Rattle.mvo_core.specs.declared.kept_transaction.KeptTransaction.{KeptTransaction}
 use Rattle.mvo_core.specs.Causes.{why_not_put}
 use Rattle.mvo_core.specs.Data.{CoreData}
 use Rattle.mvo_core.specs.Inserting.{IsInserted}
@@ -61,17 +61,17 @@ module _ (opening : Map) (steps : List Step) (s : State) (c : CoreData) (h : Sta
     pub insert_starved : LeadsOn opening steps s (Do t.0 (Insert row)) (Refused OutOfMemory) c
     insert_starved = spent_leads opening steps s t.0 (Insert row) c may h
 
-    pub insert_spent : (table : Txns (Node Transaction)) → IsWritten c.table table t.0 HasDoneAsMuch → LeadsOn opening steps s (Do t.0 (Insert row)) (Refused OutOfMemory) (record c { table = table })
+    pub insert_spent : (table : Txns (Node KeptTransaction)) → IsWritten c.table table t.0 HasDoneAsMuch → LeadsOn opening steps s (Do t.0 (Insert row)) (Refused OutOfMemory) (record c { table = table })
     insert_spent table w = spent_leads opening steps s t.0 (Insert row) (record c { table = table }) may (stands_as_much opening steps s c h t.0 table w)
 
-    pub insert_spent_same : (new : VersionsData) → HasSameVersions c.versions new → (AreIndexed c.versions → AreIndexed new) → (table : Txns (Node Transaction)) → IsWritten c.table table t.0 HasDoneAsMuch
+    pub insert_spent_same : (new : VersionsData) → HasSameVersions c.versions new → (AreIndexed c.versions → AreIndexed new) → (table : Txns (Node KeptTransaction)) → IsWritten c.table table t.0 HasDoneAsMuch
         → LeadsOn opening steps s (Do t.0 (Insert row)) (Refused OutOfMemory) (record c { versions = new; table = table })
     insert_spent_same new same indexed table w =
         spent_leads opening steps s t.0 (Insert row) (record c { versions = new; table = table }) may
         (stands_same_versions opening steps s (record c { table = table }) (stands_as_much opening steps s c h t.0 table w) new same (indexed (record { numbers = h.versions.numbers; order = h.versions.order })))
 
     -- answered
-    module _ (found : Shown) (is : IsInOrder (state_of c.table) t.0 t.0 (versions_at c.versions.slots c.versions.lists row.key) → found ≡ shown_in c t.0 row.key) where
+    module _ (found : Shown) (is : AreVersionsInOrder (state_of c.table) t.0 t.0 (versions_at c.versions.slots c.versions.lists row.key) → found ≡ shown_in c t.0 row.key) where
       shown : found ≡ shown_in c t.0 row.key
       shown = is (versions_in_order opening steps s c h t.0 here.state row.key)
 
@@ -83,7 +83,7 @@ module _ (opening : Map) (steps : List Step) (s : State) (c : CoreData) (h : Sta
       pub exists_answers : is_some found.version ≡ true → Exists ≡ answer_in s t.0 (Insert row)
       exists_answers seen = sym (ap (λ b. cond b Exists Inserted) (key_is opening steps s c h t.0 here.tx here.found row.key ∙ ap (λ (x : Shown). is_some x.version) (sym shown) ∙ seen))
 
-      pub exists_leads : is_some found.version ≡ true → (table : Txns (Node Transaction)) → IsRecorded c.table table t (option_to_list found.depends_on) (Insert row) Exists
+      pub exists_leads : is_some found.version ≡ true → (table : Txns (Node KeptTransaction)) → IsRecorded c.table table t (option_to_list found.depends_on) (Insert row) Exists
           → LeadsOn opening steps s (Do t.0 (Insert row)) Accepted (record c { table = table })
       exists_leads seen table w = recorded_leads opening steps s c h t here.tx here.found (Insert row) Exists may (exists_answers seen) refl (option_to_list found.depends_on) on table w
 
@@ -91,7 +91,7 @@ module _ (opening : Map) (steps : List Step) (s : State) (c : CoreData) (h : Sta
       unseen : is_some found.version ≡ false → (shown_in c t.0 row.key).version ≡ None
       unseen e = ap (λ (x : Shown). x.version) (sym shown) ∙ none_shown found.version e
 
-      pub insert_leads : is_some found.version ≡ false → (new : VersionsData) (table : Txns (Node Transaction)) → IsInserted c.versions new c.table table t (option_to_list found.depends_on) row → (AreIndexed c.versions → AreIndexed new)
+      pub insert_leads : is_some found.version ≡ false → (new : VersionsData) (table : Txns (Node KeptTransaction)) → IsInserted c.versions new c.table table t (option_to_list found.depends_on) row → (AreIndexed c.versions → AreIndexed new)
           → LeadsOn opening steps s (Do t.0 (Insert row)) Accepted (record c { versions = new; table = table })
       insert_leads e new table w indexed =
           inserted_leads opening steps s c h t row may here (unseen e) (option_to_list found.depends_on) on new table w (indexed (record { numbers = h.versions.numbers; order = h.versions.order }))

@@ -1,5 +1,5 @@
 -- The tale stays that of the state where a place is opened, settled, left, checked or forgotten.
-use Rattle.std.proofs.Common.{◌≡◌, ℕ, zero, suc, ◌<◌, ◌≤◌, Bool, true, false, cond, List, [], ◌∷◌, ◌++◌, append_assoc, map, length, Option, None, Some, refl, sym, ap, ◌∙◌, subst, arith}
+use Rattle.std.proofs.Common.{◌≡◌, ℕ, zero, suc, ◌<◌, ◌≤◌, Bool, true, false, cond, List, [], ◌∷◌, ◌++◌, append_assoc, map, length, Some, refl, sym, ap, ◌∙◌, subst, arith}
 use Rattle.std.specs.Prelude.{slice_set, ◌==◌, ◌||◌, ◌&&◌, nat_le, filter}
 use Rattle.std.specs.List.{AllByRecursion}
 use Rattle.std.proofs.lemmas.Bool.{ne_eqb, le-ltb, lt-ltb}
@@ -13,8 +13,8 @@ use Rattle.mvo_theory.specs.Groups.{is_due, is_writing, IsLongest, mark_by, due,
 use Rattle.mvo_theory.specs.Sound.{IsRising, IsPast, IsStarted, IsPlaced}
 use Rattle.mvo_theory.proofs.Each.{each_append, each_back, each_map, each_weaker}
 use Rattle.mvo_theory.proofs.Stamped.{rising_both}
-use Rattle.mvo_tale.specs.declared.slot.Slot.{Slot}
-use Rattle.mvo_tale.specs.declared.slot.Slot.TheVariants.{Open, Settled, Empty}
+use Rattle.mvo_tale.specs.declared.tale_place.TalePlace.{TalePlace}
+use Rattle.mvo_tale.specs.declared.tale_place.TalePlace.TheVariants.{Open, Settled, Empty}
 use Rattle.mvo_tale.specs.declared.next_records.NextRecords.{NextRecords}
 use Rattle.mvo_tale.specs.Stored.{StoredCommit}
 use Rattle.mvo_tale.specs.Slots.{ends, open_ends, open_end_at, closed_up}
@@ -27,7 +27,7 @@ use Rattle.mvo_tale.proofs.KeptPlaces.{places_parted, places_joined}
 use Rattle.mvo_tale.proofs.NextGroups.{ends_of_places, open_ends_above, settled_to_places, places_opened}
 use Rattle.mvo_core.specs.Receipts.{Receipt, receipt, receipt_of, receipts_of, stored_commits}
 use Rattle.mvo_core.specs.Trimming.{stored_above}
-use Rattle.mvo_core.proofs.TaleMoves.{IsCommitOf, below_apart, filter_kept, places_settled, places_emptied, places_closed, places_flagged, places_checked}
+use Rattle.mvo_core.proofs.TaleMoves.{IsCommitOf, below_apart, filter_kept, places_settled, places_emptied, places_closed, places_flagged, places_checked, none_end}
 
 -- ---- those that are past
 rising_back : (xs ys : List StampedTx) → IsRising (xs ++ ys) → IsRising ys
@@ -56,10 +56,7 @@ past_apart start e (x ∷ xs) lt h =
     ∙ ap (λ (ys : List StampedTx). x ∷ ys) (past_apart start e xs lt h.1)
 
 -- ---- an open place stays where others are forgotten
-none_end : (e : ℕ) → ◌≡◌ {A = Option ℕ} None (Some e) → ⊥
-none_end e h = cc
-
-pub open_forgotten : (upto : ℕ) (slots : List Slot) (q d : ℕ) → open_end_at slots q ≡ Some d → open_end_at (forgotten upto slots) q ≡ Some d
+pub open_forgotten : (upto : ℕ) (slots : List TalePlace) (q d : ℕ) → open_end_at slots q ≡ Some d → open_end_at (forgotten upto slots) q ≡ Some d
 open_forgotten upto [] q d h = h
 open_forgotten upto (Open e ∷ slots) q d h = h
 open_forgotten upto (Settled c ∷ slots) zero d h = absurd (none_end d h)
@@ -85,7 +82,7 @@ due_gone start closed low (x ∷ xs) ys h = go (x.settled && nat_le x.end low) (
     go false r = r
 
 -- ---- the stored commits
-none_above : (start : ℕ) (front back : List Slot) (xs : List StampedTx) → ArePlacesOf front xs → AllByRecursion (IsPast start) xs → stored_above start (front ++ back) ≡ stored_above start back
+none_above : (start : ℕ) (front back : List TalePlace) (xs : List StampedTx) → ArePlacesOf front xs → AllByRecursion (IsPast start) xs → stored_above start (front ++ back) ≡ stored_above start back
 none_above start [] back xs h k = refl
 none_above start (Open e ∷ front) back [] h k = absurd h
 none_above start (Open e ∷ front) back (x ∷ xs) h k = none_above start front back xs h.1 k.1
@@ -98,7 +95,7 @@ none_above start (Settled c ∷ front) back (x ∷ xs) h k =
 none_above start (Empty ∷ front) back [] h k = none_above start front back [] h k
 none_above start (Empty ∷ front) back (x ∷ xs) h k = none_above start front back (x ∷ xs) h k
 
-all_above : (start : ℕ) (slots : List Slot) (xs : List StampedTx) → ArePlacesOf slots xs → AllByRecursion (λ x. start < x.end) xs → stored_above start slots ≡ receipts_of xs
+all_above : (start : ℕ) (slots : List TalePlace) (xs : List StampedTx) → ArePlacesOf slots xs → AllByRecursion (λ x. start < x.end) xs → stored_above start slots ≡ receipts_of xs
 all_above start [] [] h k = refl
 all_above start [] (x ∷ xs) h k = absurd h
 all_above start (Open e ∷ slots) [] h k = absurd h
@@ -118,7 +115,7 @@ all_above start (Empty ∷ slots) [] h k = all_above start slots [] h k
 all_above start (Empty ∷ slots) (x ∷ xs) h k = all_above start slots (x ∷ xs) h k
 
 -- ---- the tale of a state
-module _ (s : State) (slots : List Slot) (st : IsStarted s) (rising : IsRising s.stamped) (h : HasTale s slots) where
+module _ (s : State) (slots : List TalePlace) (st : IsStarted s) (rising : IsRising s.stamped) (h : HasTale s slots) where
   kept_past : AllByRecursion (IsPast s.start) h.kept
   kept_past = each_back (IsPast s.start) h.gone h.kept (subst (AllByRecursion (IsPast s.start)) h.parts st.past)
 
@@ -152,7 +149,7 @@ module _ (s : State) (slots : List Slot) (st : IsStarted s) (rising : IsRising s
         kept = h.kept;
         parts = h.parts;
         places = places_closed (slice_set slots p Empty) (h.kept ++ map (with_flag t e) (filter (not_at e) s.stamped))
-            (subst (λ (xs : List Slot). ArePlacesOf xs (h.kept ++ map (with_flag t e) (filter (not_at e) s.stamped))) (sym parts.are)
+            (subst (λ (xs : List TalePlace). ArePlacesOf xs (h.kept ++ map (with_flag t e) (filter (not_at e) s.stamped))) (sym parts.are)
             (places_joined parts.front parts.back h.kept (map (with_flag t e) (filter (not_at e) s.stamped)) parts.first (places_flagged t e parts.back (filter (not_at e) s.stamped) parts.second)));
         may = h.may;
       }
@@ -165,7 +162,7 @@ module _ (s : State) (slots : List Slot) (st : IsStarted s) (rising : IsRising s
         gone = h.gone;
         kept = h.kept;
         parts = h.parts;
-        places = subst (λ (xs : List Slot). ArePlacesOf xs (h.kept ++ map (with_check e v) s.stamped)) (sym parts.are)
+        places = subst (λ (xs : List TalePlace). ArePlacesOf xs (h.kept ++ map (with_check e v) s.stamped)) (sym parts.are)
             (places_joined parts.front parts.back h.kept (map (with_check e v) s.stamped) parts.first (places_checked e v parts.back s.stamped parts.second));
         may = h.may;
       }

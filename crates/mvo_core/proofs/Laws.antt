@@ -12,21 +12,21 @@ use Rattle.mvo_representation.proofs.OrderAborts.{begin_keeps_order}
 use Rattle.mvo_representation.proofs.TableRegistered.{table_answered}
 use Rattle.mvo_representation.proofs.WordsKept.{begin_keeps_lists}
 use Rattle.mvo_deps.specs.declared.node.Node.{Node}
-use Rattle.mvo_core.specs.declared.transaction.Transaction.{Transaction}
+use Rattle.mvo_core.specs.declared.kept_transaction.KeptTransaction.{KeptTransaction}
 
-pub flag_of_active_told : TellsFlagOfActive Transaction
+pub flag_of_active_told : TellsFlagOfActive KeptTransaction
 flag_of_active_told = flag_of_active_is
 
-pub flag_of_preparing_told : TellsFlagOfPreparing Transaction
+pub flag_of_preparing_told : TellsFlagOfPreparing KeptTransaction
 flag_of_preparing_told = flag_of_preparing_is
 
-pub why_not_begun_told : TellsWhyNotBegun (Node Transaction)
+pub why_not_begun_told : TellsWhyNotBegun (Node KeptTransaction)
 why_not_begun_told = why_not_begun_is
 
-pub begin_in_table : BeginInTable Transaction
+pub begin_in_table : BeginInTable KeptTransaction
 begin_in_table = table_begun
 
-pub write_in_table : WriteInTable Transaction
+pub write_in_table : WriteInTable KeptTransaction
 write_in_table = table_written
 
 pub call_keeps : EachCallKeeps
@@ -38,5 +38,5 @@ begin_in_order = begin_keeps_order
 pub begin_in_lists : BeginKeepsLists
 begin_in_lists = begin_keeps_lists
 
-pub answer_in_table : AnswerInTable Transaction
+pub answer_in_table : AnswerInTable KeptTransaction
 answer_in_table = table_answered

@@ -18,18 +18,18 @@ use Rattle.mvo_txn.specs.declared.state.TxState.TheVariants.{Active}
 use Rattle.mvo_txn.specs.Txns.{state_of}
 use Rattle.mvo_visible.specs.declared.outcome.Shown.{Shown}
 use Rattle.mvo_visible.specs.Versions.{versions_at}
-use Rattle.mvo_visible.specs.Shown.{IsInOrder, shown_to}
-use Rattle.mvo_representation.specs.Dependencies.{AreDependencies, named}
+use Rattle.mvo_visible.specs.Shown.{AreVersionsInOrder, shown_to}
+use Rattle.mvo_representation.specs.Dependencies.{AreDependencies, named_ids}
 use Rattle.mvo_representation.specs.Table.{IsShown, content_shown, phase_as}
 use Rattle.mvo_representation.proofs.OnWhom.{key_named}
 use Rattle.mvo_representation.proofs.OrderFalls.{order_falls, order_has_own_in_front}
 use Rattle.mvo_representation.proofs.Proved.{shows_snapshot, shown_is_there}
 use Rattle.mvo_representation.proofs.Tabled.{active_is}
-use Rattle.mvo_core.specs.declared.transaction.Transaction.{Transaction}
+use Rattle.mvo_core.specs.declared.kept_transaction.KeptTransaction.{KeptTransaction}
 use Rattle.mvo_core.specs.Causes.{why_not_active, flag_of}
 use Rattle.mvo_core.specs.Data.{CoreData, own_of}
 use Rattle.mvo_core.specs.Looking.{row_shown}
-use Rattle.mvo_core.specs.Standing.{StandsFor, IsActive}
+use Rattle.mvo_core.specs.Standing.{StandsFor, IsKeptActive}
 use Rattle.mvo_core.proofs.CausesTold.{none_active}
 
 -- ---- an Active transaction, in the state and in the table
@@ -37,7 +37,7 @@ pub record IsActiveHere (s : State) (c : CoreData) (t : ℕ) : Type 0 where
   pub tx : ActiveTx
   pub found : active_of t s.active ≡ Some tx
   pub state : state_of c.table t ≡ Some Active
-  pub own : Transaction
+  pub own : KeptTransaction
   pub kept : own_of c.table t ≡ Some own
   pub history : own.work.history ≡ tx.history
 
@@ -45,7 +45,7 @@ pub active_here : (opening : Map) (steps : List Step) (s : State) (c : CoreData)
 active_here opening steps s c h t none =
     let was = none_active (state_of c.table t) (flag_of c.table t) none in
     let found = active_is s t (sym (h.dependencies.stands.phases t) ∙ ap phase_as was) in
-    let w = active_holds (IsActive c.table) t s.active found.0 found.1 h.works.active in
+    let w = active_holds (IsKeptActive c.table) t s.active found.0 found.1 h.works.active in
     record {
       tx = found.0;
       found = found.1;
@@ -59,13 +59,13 @@ active_here opening steps s c h t none =
 abbrev pub shown_in : CoreData → ℕ → RowKey → Shown
 shown_in c t k = shown_to (state_of c.table) t t (versions_at c.versions.slots c.versions.lists k)
 
-listed : (o : Option TxId) → named o ≡ option_to_list o
+listed : (o : Option TxId) → named_ids o ≡ option_to_list o
 listed None = refl
 listed (Some id) = refl
 
 module _ (opening : Map) (steps : List Step) (s : State) (c : CoreData) (h : StandsFor opening steps s c) (t : ℕ) where
   -- a walk finds it
-  pub versions_in_order : state_of c.table t ≡ Some Active → (k : RowKey) → IsInOrder (state_of c.table) t t (versions_at c.versions.slots c.versions.lists k)
+  pub versions_in_order : state_of c.table t ≡ Some Active → (k : RowKey) → AreVersionsInOrder (state_of c.table) t t (versions_at c.versions.slots c.versions.lists k)
   versions_in_order active k = record {
     falling = order_falls opening steps s (state_of c.table) c.versions.slots c.versions.lists c.versions.places h.versions h.order k;
     own = order_has_own_in_front s.start (state_of c.table) c.versions.slots c.versions.lists t active h.order k;

@@ -1,41 +1,41 @@
 -- A word is replaced in one look at the transaction.
 use Rattle.std.proofs.Common.{◌≡◌, ℕ, List, [], ◌∷◌, Option, Some, drop, refl, sym, ap, ◌∙◌, subst}
 use Rattle.std.specs.Prelude.{slice_get}
-use Rattle.mvo_txn.specs.Txns.{Txns, kept_of, after_write}
+use Rattle.mvo_txn.specs.Txns.{Txns, kept_of, table_after_write}
 use Rattle.mvo_deps.specs.declared.node.Node.{Node}
 use Rattle.mvo_word.specs.declared.held.Held.{Held}
 use Rattle.mvo_work.specs.Work.{WorkData}
 use Rattle.mvo_work.specs.declared.word_place.WordPlace.{WordPlace}
 use Rattle.mvo_versions.specs.Data.{VersionsData}
-use Rattle.mvo_core.specs.declared.transaction.Transaction.{Transaction}
-use Rattle.mvo_core.specs.Standing.{words_by, words_in}
+use Rattle.mvo_core.specs.declared.kept_transaction.KeptTransaction.{KeptTransaction}
+use Rattle.mvo_core.specs.Standing.{own_words_of, words_in}
 use Rattle.mvo_core.specs.Keeping.{HasDropped}
 use Rattle.mvo_core.specs.Finishing.{from_own, HasPassed, IsFirstReplaced, IsOneReplaced, IsRewordedAt}
 use Rattle.mvo_core.proofs.Alone.{written_again}
 use Rattle.mvo_core.proofs.Carried.{own_here}
 use Rattle.mvo_core.proofs.Written.{written}
 
-module _ (old new : VersionsData) (table : Txns (Node Transaction)) (t : ℕ) (w : Held) (node : Node Transaction) (work : WorkData) (o : Option WordPlace)
+module _ (old new : VersionsData) (table : Txns (Node KeptTransaction)) (t : ℕ) (w : Held) (node : Node KeptTransaction) (work : WorkData) (o : Option WordPlace)
     (kept : Some node ≡ kept_of table t) (history : work.history ≡ node.own.work.history)
     (first : o ≡ slice_get (from_own old.slots t node.own.work.words) 0) (replaced : IsRewordedAt old new o w)
     (words : work.words ≡ from_own new.slots t (drop 1 (from_own old.slots t node.own.work.words))) where
   -- with these words, and what it has done
-  abbrev with_words : List WordPlace → Transaction
+  abbrev with_words : List WordPlace → KeptTransaction
   with_words ps = record node.own { work = record node.own.work { words = ps } }
 
-  abbrev table_with : List WordPlace → Txns (Node Transaction)
-  table_with ps = after_write table t (record node { own = with_words ps })
+  abbrev table_with : List WordPlace → Txns (Node KeptTransaction)
+  table_with ps = table_after_write table t (record node { own = with_words ps })
 
   first_with : (ps : List WordPlace) → slice_get (words_in (table_with ps) t) 0 ≡ slice_get ps 0
-  first_with ps = ap (λ q. slice_get (words_by q) 0) (own_here table t node (record node { own = with_words ps }) (sym kept))
+  first_with ps = ap (λ q. slice_get (own_words_of q) 0) (own_here table t node (record node { own = with_words ps }) (sym kept))
 
-  abbrev after : Transaction
+  abbrev after : KeptTransaction
   after = record node.own { work = work }
 
-  pub one_replaced : IsOneReplaced old new table (after_write table t (record node { own = after })) t w
+  pub one_replaced : IsOneReplaced old new table (table_after_write table t (record node { own = after })) t w
   one_replaced = go (from_own old.slots t node.own.work.words) refl
     where
-      go : (ps : List WordPlace) → from_own old.slots t node.own.work.words ≡ ps → IsOneReplaced old new table (after_write table t (record node { own = after })) t w
+      go : (ps : List WordPlace) → from_own old.slots t node.own.work.words ≡ ps → IsOneReplaced old new table (table_after_write table t (record node { own = after })) t w
       go [] e =
           let same : new ≡ old = subst (λ q. IsRewordedAt old new q w) (first ∙ ap (λ qs. slice_get qs 0) e) replaced in
           record {

@@ -13,7 +13,7 @@ use Rattle.mvo_theory.proofs.Chain.{chained_opened}
 use Rattle.mvo_theory.proofs.Runs.{kept_opened}
 use Rattle.mvo_word.specs.declared.held.Held.TheVariants.{At, Infinity}
 use Rattle.mvo_chain.specs.declared.version.Version.{Version}
-use Rattle.mvo_txn.specs.declared.seat.Seat.{Seat}
+use Rattle.mvo_txn.specs.declared.table_seat.TableSeat.{TableSeat}
 use Rattle.mvo_txn.specs.Txns.{no_txns, state_of}
 use Rattle.mvo_deps.specs.declared.node.Node.{Node}
 use Rattle.mvo_visible.specs.Words.{States}
@@ -32,11 +32,11 @@ use Rattle.mvo_representation.proofs.WordsKept.{opening_has_lists}
 use Rattle.mvo_collect.specs.Waiting.{WaitingData, AreWaiting, IsNothing}
 use Rattle.mvo_collect.proofs.Needed.{opening_waits}
 use Rattle.mvo_collect.proofs.Over.{opens_over}
-use Rattle.mvo_core.specs.declared.transaction.Transaction.{Transaction}
+use Rattle.mvo_core.specs.declared.kept_transaction.KeptTransaction.{KeptTransaction}
 use Rattle.mvo_core.specs.Data.{CoreData}
-use Rattle.mvo_core.specs.Standing.{OpensAs, Stands, words_by, words_in}
+use Rattle.mvo_core.specs.Standing.{HasOpenedOver, Stands, own_words_of, words_in}
 
-opened_table : OpenedTable Transaction
+opened_table : OpenedTable KeptTransaction
 opened_table = table_opened
 
 abbrev IsLoadedAt : ℕ → Version → Type 0
@@ -47,26 +47,26 @@ all_loaded mark [] = tt
 all_loaded mark (e ∷ es) = ((refl, refl), all_loaded mark es)
 
 module _ (rows : Map) (mark : ℕ) (v : VersionsData) (is : AreLoaded rows mark v) (indexed : AreIndexed v) where
-  phases : phases_of (state_of (no_txns {P = Node Transaction} mark)) ≡ phase_in (opened rows mark)
+  phases : phases_of (state_of (no_txns {P = Node KeptTransaction} mark)) ≡ phase_in (opened rows mark)
   phases = λ i u. (opened_table rows mark).stands.phases u i
 
-  versions : AreVersionsOf (opened rows mark) (phases_of (state_of (no_txns {P = Node Transaction} mark))) (all_versions v.slots)
+  versions : AreVersionsOf (opened rows mark) (phases_of (state_of (no_txns {P = Node KeptTransaction} mark))) (all_versions v.slots)
   versions =
       subst (λ p. AreVersionsOf (opened rows mark) p (all_versions v.slots)) (sym phases)
       (subst (AreVersionsOf (opened rows mark) (phase_in (opened rows mark))) (sym is) (opens_so rows mark))
 
-  in_order : AllStandInOrder mark (state_of (no_txns {P = Node Transaction} mark)) v.slots v.lists
+  in_order : AllStandInOrder mark (state_of (no_txns {P = Node KeptTransaction} mark)) v.slots v.lists
   in_order =
-      opening_stands_in_order rows mark (state_of (no_txns {P = Node Transaction} mark)) v.slots v.lists versions indexed.numbers
+      opening_stands_in_order rows mark (state_of (no_txns {P = Node KeptTransaction} mark)) v.slots v.lists versions indexed.numbers
       (subst (AllByRecursion (IsLoadedAt mark)) (sym is) (all_loaded mark (fin.entries rows)))
 
-  no_words : words_in (no_txns {P = Node Transaction} mark) ≡ (λ t. [])
-  no_words = λ i t. ap (λ o. words_by (option_map (λ (n : Node Transaction). n.own) (option_map (λ (x : Seat (Node Transaction)). x.kept) o))) (get-empty nat_cmp t) i
+  no_words : words_in (no_txns {P = Node KeptTransaction} mark) ≡ (λ t. [])
+  no_words = λ i t. ap (λ o. own_words_of (option_map (λ (n : Node KeptTransaction). n.own) (option_map (λ (x : TableSeat (Node KeptTransaction)). x.kept) o))) (get-empty nat_cmp t) i
 
-  words : HasWordLists (opened rows mark) v.slots (words_in (no_txns {P = Node Transaction} mark))
-  words = subst (HasWordLists (opened rows mark) v.slots) (sym no_words) (opening_has_lists rows mark (state_of (no_txns {P = Node Transaction} mark)) v.slots versions)
+  words : HasWordLists (opened rows mark) v.slots (words_in (no_txns {P = Node KeptTransaction} mark))
+  words = subst (HasWordLists (opened rows mark) v.slots) (sym no_words) (opening_has_lists rows mark (state_of (no_txns {P = Node KeptTransaction} mark)) v.slots versions)
 
-  pub opens : OpensAs rows mark (record { versions = v; table = no_txns mark; tale = []; start = mark; opening = mark; closed = mark; grouped = 0 })
+  pub opens : HasOpenedOver rows mark (record { versions = v; table = no_txns mark; tale = []; start = mark; opening = mark; closed = mark; grouped = 0 })
   opens = record {
     versions = record { kept = kept_opened rows mark; versions = versions; numbers = indexed.numbers; order = indexed.order };
     dependencies = opened_table rows mark;
@@ -85,10 +85,10 @@ module _ (rows : Map) (mark : ℕ) (v : VersionsData) (is : AreLoaded rows mark 
   opened_waits clock states w nothing = opening_waits clock mark states v.slots w (subst (AllByRecursion (IsLoadedAt mark)) (sym is) (all_loaded mark (fin.entries rows))) nothing
 
   -- what the table and the tale are
-  pub opens_as : (c : CoreData) → c.versions ≡ v → c.table ≡ no_txns mark → c.tale ≡ [] → c.start ≡ mark → c.opening ≡ mark → c.closed ≡ mark → c.grouped ≡ 0 → OpensAs rows mark c
+  pub opens_as : (c : CoreData) → c.versions ≡ v → c.table ≡ no_txns mark → c.tale ≡ [] → c.start ≡ mark → c.opening ≡ mark → c.closed ≡ mark → c.grouped ≡ 0 → HasOpenedOver rows mark c
   opens_as c is_versions is_table is_tale is_start is_opening is_closed is_grouped =
-      subst (OpensAs rows mark)
+      subst (HasOpenedOver rows mark)
       (λ i. record { versions = sym is_versions i; table = sym is_table i; tale = sym is_tale i; start = sym is_start i; opening = sym is_opening i; closed = sym is_closed i; grouped = sym is_grouped i }) opens
 
-pub opened_stands : (rows : Map) (mark : ℕ) (c : CoreData) → OpensAs rows mark c → Stands c
+pub opened_stands : (rows : Map) (mark : ℕ) (c : CoreData) → HasOpenedOver rows mark c → Stands c
 opened_stands rows mark c h = record { opening = rows; steps = []; state = opened rows mark; stands = h; closed = (chained_opened rows mark).closed }

@@ -5,63 +5,58 @@ use Rattle.std.specs.FinMap.{get}
 use Rattle.std.proofs.lemmas.Bool.{cases_eq}
 use Rattle.mvo_types.specs.declared.ids.TxId.{TxId}
 use Rattle.mvo_theory.specs.State.{State}
-use Rattle.mvo_txn.specs.declared.seat.Seat.{Seat}
-use Rattle.mvo_txn.specs.Txns.{Txns, state_of, kept_of, after_write}
+use Rattle.mvo_txn.specs.declared.table_seat.TableSeat.{TableSeat}
+use Rattle.mvo_txn.specs.Txns.{Txns, state_of, kept_of, table_after_write}
 use Rattle.mvo_deps.specs.declared.node.Node.{Node}
-use Rattle.mvo_deps.specs.Data.{DependencyData, is_among, with_dependency, with_dependent}
+use Rattle.mvo_deps.specs.Data.{DependencyData, is_id_among, with_dependency, with_dependent}
 use Rattle.mvo_deps.specs.Nodes.{data_of, after_change, changed_if, with_data, noted_on, after_register, after_register_all}
 use Rattle.mvo_deps.proofs.Changes.{get_changed}
 use Rattle.mvo_deps.proofs.Grown.{state_registered}
 use Rattle.mvo_representation.specs.Dependencies.{HasDependencies}
 use Rattle.mvo_representation.proofs.TableNodes.{written_state}
-use Rattle.mvo_core.specs.declared.transaction.Transaction.{Transaction}
+use Rattle.mvo_core.specs.declared.kept_transaction.KeptTransaction.{KeptTransaction}
 use Rattle.mvo_core.specs.Data.{own_of}
-use Rattle.mvo_core.specs.Standing.{words_by, words_in}
+use Rattle.mvo_core.specs.Standing.{own_words_of, words_in}
 use Rattle.mvo_core.specs.Keeping.{IsWritten, with_own_at}
 use Rattle.mvo_core.proofs.Laws.{write_in_table}
-use Rattle.mvo_core.proofs.Carried.{own_here, own_beside}
-
-none_own : (own : Transaction) → ◌≡◌ {A = Option Transaction} None (Some own) → ⊥
-none_own own q = cc
-
-pub some_own : (p q : Transaction) → ◌≡◌ {A = Option Transaction} (Some p) (Some q) → p ≡ q
-some_own p q e = cc
+use Rattle.mvo_core.proofs.Carried.{own_here, own_beside, some_own}
+use Rattle.mvo_core.proofs.WrittenThen.{none_own}
 
 -- ---- dependencies are registered
-own_data : (b : Bool) (f : DependencyData → DependencyData) (o : Option (Seat (Node Transaction)))
+own_data : (b : Bool) (f : DependencyData → DependencyData) (o : Option (TableSeat (Node KeptTransaction)))
     → option_map (λ n. n.own) (option_map (λ s. s.kept) (option_map (with_data (changed_if b f)) o)) ≡ option_map (λ n. n.own) (option_map (λ s. s.kept) o)
 own_data b f None = refl
 own_data b f (Some s) = refl
 
-module _ (table : Txns (Node Transaction)) where
+module _ (table : Txns (Node KeptTransaction)) where
   pub own_depending : (id : ℕ) (f : DependencyData → DependencyData) (u : ℕ) → own_of (after_change table id f) u ≡ own_of table u
   own_depending id f u =
       ap (λ o. option_map (λ n. n.own) (option_map (λ s. s.kept) o)) (get_changed table id f u)
       ∙ own_data (eqb u id) f (get table.seats u)
 
-own_noted : (table : Txns (Node Transaction)) (t on : TxId) (u : ℕ) → own_of (noted_on table t on) u ≡ own_of table u
+own_noted : (table : Txns (Node KeptTransaction)) (t on : TxId) (u : ℕ) → own_of (noted_on table t on) u ≡ own_of table u
 own_noted table t on u = own_depending (after_change table on.0 (with_dependent t)) t.0 (with_dependency on) u ∙ own_depending table on.0 (with_dependent t) u
 
-own_registered : (table : Txns (Node Transaction)) (t on : TxId) (u : ℕ) → own_of (after_register table t on) u ≡ own_of table u
-own_registered table t on u = go (is_among on (data_of table t).on) (is_among t (data_of table on).dependents)
+own_registered : (table : Txns (Node KeptTransaction)) (t on : TxId) (u : ℕ) → own_of (after_register table t on) u ≡ own_of table u
+own_registered table t on u = go (is_id_among on (data_of table t).on) (is_id_among t (data_of table on).dependents)
   where
     go : (a b : Bool) → own_of (cond a table (cond b table (noted_on table t on))) u ≡ own_of table u
     go true b = refl
     go false true = refl
     go false false = own_noted table t on u
 
-pub own_registered_all : (table : Txns (Node Transaction)) (t : TxId) (ids : List TxId) (u : ℕ) → own_of (after_register_all table t ids) u ≡ own_of table u
+pub own_registered_all : (table : Txns (Node KeptTransaction)) (t : TxId) (ids : List TxId) (u : ℕ) → own_of (after_register_all table t ids) u ≡ own_of table u
 own_registered_all table t [] u = refl
 own_registered_all table t (on ∷ ons) u = own_registered_all (after_register table t on) t ons u ∙ own_registered table t on u
 
-pub state_registered_all : (table : Txns (Node Transaction)) (t : TxId) (ids : List TxId) (u : ℕ) → state_of (after_register_all table t ids) u ≡ state_of table u
+pub state_registered_all : (table : Txns (Node KeptTransaction)) (t : TxId) (ids : List TxId) (u : ℕ) → state_of (after_register_all table t ids) u ≡ state_of table u
 state_registered_all table t [] u = refl
 state_registered_all table t (on ∷ ons) u = state_registered_all (after_register table t on) t ons u ∙ state_registered table t on u
 
 -- ---- what is kept of one changes
-pub record IsOwnChanged (old new : Txns (Node Transaction)) (t : ℕ) (change : Transaction → Transaction → Type 0) : Type 0 where
-  pub before : Transaction
-  pub after : Transaction
+pub record IsOwnChanged (old new : Txns (Node KeptTransaction)) (t : ℕ) (change : KeptTransaction → KeptTransaction → Type 0) : Type 0 where
+  pub before : KeptTransaction
+  pub after : KeptTransaction
   pub was : own_of old t ≡ Some before
   pub is : own_of new t ≡ Some after
   pub changed : change before after
@@ -69,11 +64,11 @@ pub record IsOwnChanged (old new : Txns (Node Transaction)) (t : ℕ) (change : 
   pub states : (u : ℕ) → state_of new u ≡ state_of old u
   pub dependencies : (s : State) → HasDependencies s old → HasDependencies s new
 
-module _ (old new : Txns (Node Transaction)) (t : ℕ) (change : Transaction → Transaction → Type 0) where
+module _ (old new : Txns (Node KeptTransaction)) (t : ℕ) (change : KeptTransaction → KeptTransaction → Type 0) where
   pub own_changed : IsWritten old new t change → IsOwnChanged old new t change
   own_changed w = go (kept_of old t) refl w.was
     where
-      here : (node : Node Transaction) → kept_of old t ≡ Some node → IsOwnChanged old (after_write old t (record node { own = w.after })) t change
+      here : (node : Node KeptTransaction) → kept_of old t ≡ Some node → IsOwnChanged old (table_after_write old t (record node { own = w.after })) t change
       here node k = record {
         before = w.before;
         after = w.after;
@@ -85,12 +80,12 @@ module _ (old new : Txns (Node Transaction)) (t : ℕ) (change : Transaction →
         dependencies = λ s h. write_in_table s old t node (record node { own = w.after }) h k refl;
       }
 
-      go : (o : Option (Node Transaction)) → kept_of old t ≡ o → option_map (λ n. n.own) o ≡ Some w.before → IsOwnChanged old new t change
+      go : (o : Option (Node KeptTransaction)) → kept_of old t ≡ o → option_map (λ n. n.own) o ≡ Some w.before → IsOwnChanged old new t change
       go None k e = absurd (none_own w.before e)
       go (Some node) k e = subst (λ x. IsOwnChanged old x t change) (sym (w.is ∙ ap (λ o. with_own_at o old t w.after) k)) (here node k)
 
 -- as much of it, or less
-pub own_weaker : (old new : Txns (Node Transaction)) (t : ℕ) (P Q : Transaction → Transaction → Type 0) → ((x y : Transaction) → P x y → Q x y)
+pub own_weaker : (old new : Txns (Node KeptTransaction)) (t : ℕ) (P Q : KeptTransaction → KeptTransaction → Type 0) → ((x y : KeptTransaction) → P x y → Q x y)
     → IsOwnChanged old new t P → IsOwnChanged old new t Q
 own_weaker old new t P Q f w = record {
   before = w.before;
@@ -104,7 +99,7 @@ own_weaker old new t P Q f w = record {
 }
 
 -- one change after another
-pub own_changed_twice : (a b c : Txns (Node Transaction)) (t : ℕ) (P Q R : Transaction → Transaction → Type 0) → ((x y z : Transaction) → P x y → Q y z → R x z)
+pub own_changed_twice : (a b c : Txns (Node KeptTransaction)) (t : ℕ) (P Q R : KeptTransaction → KeptTransaction → Type 0) → ((x y z : KeptTransaction) → P x y → Q y z → R x z)
     → IsOwnChanged a b t P → IsOwnChanged b c t Q → IsOwnChanged a c t R
 own_changed_twice a b c t P Q R f p q = record {
   before = p.before;
@@ -118,15 +113,15 @@ own_changed_twice a b c t P Q R f p q = record {
 }
 
 -- its list of words is the new one's, and the others have theirs
-module _ (old new : Txns (Node Transaction)) (t : ℕ) (change : Transaction → Transaction → Type 0) (w : IsOwnChanged old new t change) where
+module _ (old new : Txns (Node KeptTransaction)) (t : ℕ) (change : KeptTransaction → KeptTransaction → Type 0) (w : IsOwnChanged old new t change) where
   pub words_beside : (u : ℕ) → u ≢ t → words_in new u ≡ words_in old u
-  words_beside u ne = ap words_by (w.beside u ne)
+  words_beside u ne = ap own_words_of (w.beside u ne)
 
   pub words_here : words_in new t ≡ w.after.work.words
-  words_here = ap words_by w.is
+  words_here = ap own_words_of w.is
 
   pub words_before : words_in old t ≡ w.before.work.words
-  words_before = ap words_by w.was
+  words_before = ap own_words_of w.was
 
   pub words_stay : w.after.work.words ≡ w.before.work.words → words_in new ≡ words_in old
   words_stay same = λ i u. at u i
@@ -138,5 +133,5 @@ module _ (old new : Txns (Node Transaction)) (t : ℕ) (change : Transaction →
           (cases_eq u t)
 
 -- where dependencies were registered, the lists are those of before
-pub words_registered : (table : Txns (Node Transaction)) (t : TxId) (ids : List TxId) → words_in (after_register_all table t ids) ≡ words_in table
-words_registered table t ids = λ i u. words_by (own_registered_all table t ids u i)
+pub words_registered : (table : Txns (Node KeptTransaction)) (t : TxId) (ids : List TxId) → words_in (after_register_all table t ids) ≡ words_in table
+words_registered table t ids = λ i u. own_words_of (own_registered_all table t ids u i)

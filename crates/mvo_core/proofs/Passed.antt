@@ -8,17 +8,18 @@ use Rattle.mvo_theory.specs.State.{State, EndedTx, ended_of}
 use Rattle.mvo_theory.specs.Words.{is_done}
 use Rattle.mvo_theory.specs.Sound.{how_many}
 use Rattle.mvo_theory.proofs.Each.{each_weaker}
+use Rattle.mvo_theory.proofs.EndSteps.{filter_same}
 use Rattle.mvo_chain.specs.declared.version.Version.{Version}
 use Rattle.mvo_chain.specs.Slots.{Slots, version_at}
 use Rattle.mvo_hash.specs.Lists.{Lists}
-use Rattle.mvo_range.specs.Place.{Map as Places}
+use Rattle.mvo_range.specs.Place.{PlaceNumbers as Places}
 use Rattle.mvo_visible.specs.Words.{States}
 use Rattle.mvo_work.specs.declared.word_place.WordPlace.{WordPlace}
 use Rattle.mvo_representation.specs.Laws as representation
 use Rattle.mvo_representation.specs.Words.{Ends}
 use Rattle.mvo_representation.specs.OrderLaws.{HaveNow}
-use Rattle.mvo_representation.specs.WordLists.{WordLists, HasWordLists, HaveListNow, number_at, names_at, is_place, named, finished}
-use Rattle.mvo_representation.proofs.WordPlaces.{place_same, place_apart, counted_none, filter_same}
+use Rattle.mvo_representation.specs.WordLists.{WordLists, HasWordLists, HaveListNow, number_at_word, names_at, is_place, places_naming, finished}
+use Rattle.mvo_representation.proofs.WordPlaces.{place_same, place_apart, counted_none}
 use Rattle.mvo_representation.proofs.WordsFinished.{names_beside, named_before}
 use Rattle.mvo_core.specs.Finishing.{from_own}
 use Rattle.mvo_core.proofs.FinishLaws.{passing_in_lists, done_seen}
@@ -53,22 +54,22 @@ module _ (slots : Slots) (t : ℕ) where
       go false n f k = k f
 
   -- where it is empty, none names it
-  pub none_named : (ps : List WordPlace) → from_own slots t ps ≡ [] → named slots t ps ≡ []
+  pub none_named : (ps : List WordPlace) → from_own slots t ps ≡ [] → places_naming slots t ps ≡ []
   none_named [] e = refl
   none_named (p ∷ ps) e = go (names_at slots t p) e (none_named ps)
     where
-      go : (b : Bool) → cond b (p ∷ ps) (from_own slots t ps) ≡ [] → (from_own slots t ps ≡ [] → named slots t ps ≡ []) → cond b (p ∷ named slots t ps) (named slots t ps) ≡ []
+      go : (b : Bool) → cond b (p ∷ ps) (from_own slots t ps) ≡ [] → (from_own slots t ps ≡ [] → places_naming slots t ps ≡ []) → cond b (p ∷ places_naming slots t ps) (places_naming slots t ps) ≡ []
       go true f k = absurd (none_place p ps (sym f))
       go false f k = k f
 
   -- where it isn't, one does, and did where more were named
   pub some_named : (before : Slots) → ((q : WordPlace) → names_at slots t q ≡ true → names_at before t q ≡ true) → (ps : List WordPlace) (q : WordPlace) (qs : List WordPlace)
-      → from_own slots t ps ≡ q ∷ qs → 1 ≤ length (named before t ps)
+      → from_own slots t ps ≡ q ∷ qs → 1 ≤ length (places_naming before t ps)
   some_named before was [] q qs e = absurd (none_place q qs e)
   some_named before was (p ∷ ps) q qs e = go (names_at slots t p) refl (names_at before t p) refl e (some_named before was ps q qs)
     where
       go : (b : Bool) → names_at slots t p ≡ b → (a : Bool) → names_at before t p ≡ a → cond b (p ∷ ps) (from_own slots t ps) ≡ q ∷ qs
-          → (from_own slots t ps ≡ q ∷ qs → 1 ≤ length (named before t ps)) → 1 ≤ length (cond a (p ∷ named before t ps) (named before t ps))
+          → (from_own slots t ps ≡ q ∷ qs → 1 ≤ length (places_naming before t ps)) → 1 ≤ length (cond a (p ∷ places_naming before t ps) (places_naming before t ps))
       go b n true m f k = omega arith
       go true n false m f k = absurd (true≢false (sym (was p n) ∙ m))
       go false n false m f k = k f
@@ -93,7 +94,7 @@ same_lists words words' t ps is now = λ i u. at u i
 now_after : (words words1 words' : WordLists) (t : ℕ) (ps qs : List WordPlace) → HaveListNow words words1 t ps → HaveListNow words words' t qs → HaveListNow words1 words' t qs
 now_after words words1 words' t ps qs one both = record { others = λ u ne. both.others u ne ∙ sym (one.others u ne); here = both.here }
 
-module _ (opening : Map) (steps : List Step) (s : State) (states : States) (slots : Slots) (lists : Lists) (places : Places) (u : EndedTx) (h : representation.StandsFor opening steps s states slots lists places) (e : ended_of u.id s.ended ≡ Some u) where
+module _ (opening : Map) (steps : List Step) (s : State) (states : States) (slots : Slots) (lists : Lists) (places : Places) (u : EndedTx) (h : representation.VersionsStandFor opening steps s states slots lists places) (e : ended_of u.id s.ended ≡ Some u) where
   pub passes : (ps : List WordPlace) (words words' : WordLists) → words u.id ≡ ps → HaveListNow words words' u.id (from_own slots u.id ps) → HasWordLists s slots words → HasWordLists s slots words'
   passes [] words words' is now l = subst (HasWordLists s slots) (same_lists words words' u.id [] is now) l
   passes (p ∷ ps) words words' is now l = go (names_at slots u.id p) refl now (passes ps (with_list words u.id ps) words' (have_list words u.id ps).here)
@@ -107,14 +108,14 @@ module _ (opening : Map) (steps : List Step) (s : State) (states : States) (slot
 
 -- ---- whether it is done, once the first word is finished
 module _ (s : State) (slots slots' : Slots) (words : WordLists) (u : EndedTx) (e : ended_of u.id s.ended ≡ Some u) (l : HasWordLists s slots words) (p : WordPlace) (ps : List WordPlace) (is : words u.id ≡ p ∷ ps) (name : names_at slots u.id p ≡ true)
-    (ends : Ends) (v : Version) (at : version_at slots (number_at p) ≡ Some v) (now : HaveNow slots slots' (number_at p).0 (finished ends u.id p v)) where
-  done_is : is_done s u.id ≡ nat_le (length (p ∷ named slots u.id ps)) 1
-  done_is = done_seen s slots words u e l ∙ ap (λ qs. nat_le (length (named slots u.id qs)) 1) is ∙ ap (λ (b : Bool). nat_le (length (cond b (p ∷ named slots u.id ps) (named slots u.id ps))) 1) name
+    (ends : Ends) (v : Version) (at : version_at slots (number_at_word p) ≡ Some v) (now : HaveNow slots slots' (number_at_word p).0 (finished ends u.id p v)) where
+  done_is : is_done s u.id ≡ nat_le (length (p ∷ places_naming slots u.id ps)) 1
+  done_is = done_seen s slots words u e l ∙ ap (λ qs. nat_le (length (places_naming slots u.id qs)) 1) is ∙ ap (λ (b : Bool). nat_le (length (cond b (p ∷ places_naming slots u.id ps) (places_naming slots u.id ps))) 1) name
 
   pub not_done : (q : WordPlace) (qs : List WordPlace) → from_own slots' u.id ps ≡ q ∷ qs → is_done s u.id ≡ false
   not_done q qs f =
       let le = some_named slots' u.id slots (λ r n. named_before slots slots' ends u.id p v at now u.id r n) ps q qs f in
-      done_is ∙ lt-leb (length (p ∷ named slots u.id ps)) 1 (omega (arith, le))
+      done_is ∙ lt-leb (length (p ∷ places_naming slots u.id ps)) 1 (omega (arith, le))
 
   once_first : how_many (is_place p) ps ≡ 0
   once_first =
@@ -122,7 +123,7 @@ module _ (s : State) (slots slots' : Slots) (words : WordLists) (u : EndedTx) (e
       let z : cond {A = ℕ} (is_place p p) 1 0 ≡ 1 = ap (λ (b : Bool). cond b 1 0) (place_same p) in
       omega (arith, o, z)
 
-  others_same : named slots u.id ps ≡ named slots' u.id ps
+  others_same : places_naming slots u.id ps ≡ places_naming slots' u.id ps
   others_same = filter_same (names_at slots u.id) (names_at slots' u.id) ps
       (each_weaker (λ q. is_place p q ≡ false) (λ q. names_at slots u.id q ≡ names_at slots' u.id q)
       (λ q d. sym (names_beside slots slots' ends u.id p v at now u.id q (λ i. place_apart p q d (sym i)))) ps (counted_none p ps once_first))
@@ -131,5 +132,5 @@ module _ (s : State) (slots slots' : Slots) (words : WordLists) (u : EndedTx) (e
   done_now f = done_is ∙ ap (λ qs. nat_le (length (p ∷ qs)) 1) (others_same ∙ none_named slots' u.id ps f)
 
 -- no place is left
-pub done_none : (s : State) (slots : Slots) (words : WordLists) (u : EndedTx) → ended_of u.id s.ended ≡ Some u → HasWordLists s slots words → named slots u.id (words u.id) ≡ [] → is_done s u.id ≡ true
+pub done_none : (s : State) (slots : Slots) (words : WordLists) (u : EndedTx) → ended_of u.id s.ended ≡ Some u → HasWordLists s slots words → places_naming slots u.id (words u.id) ≡ [] → is_done s u.id ≡ true
 done_none s slots words u e l none = done_seen s slots words u e l ∙ ap (λ qs. nat_le (length qs) 1) none

@@ -21,8 +21,8 @@ use Rattle.mvo_txn.specs.Txns.{Txns, state_of}
 use Rattle.mvo_deps.specs.declared.node.Node.{Node}
 use Rattle.mvo_visible.specs.declared.outcome.Shown.{Shown}
 use Rattle.mvo_visible.specs.Versions.{versions_at}
-use Rattle.mvo_visible.specs.Shown.{IsInOrder}
-use Rattle.mvo_core.specs.declared.transaction.Transaction.{Transaction}
+use Rattle.mvo_visible.specs.Shown.{AreVersionsInOrder}
+use Rattle.mvo_core.specs.declared.kept_transaction.KeptTransaction.{KeptTransaction}
 use Rattle.mvo_core.specs.Causes.{why_not_look}
 use Rattle.mvo_core.specs.Data.{CoreData}
 use Rattle.mvo_core.specs.Keeping.{IsWritten, HasDoneAsMuch, IsRecorded}
@@ -53,11 +53,11 @@ module _ (opening : Map) (steps : List Step) (s : State) (c : CoreData) (h : Sta
     pub read_spent : LeadsOn opening steps s (Do t.0 (Read k)) (Refused OutOfMemory) c
     read_spent = spent_leads opening steps s t.0 (Read k) c may h
 
-    pub read_spent_roomy : (table : Txns (Node Transaction)) → IsWritten c.table table t.0 HasDoneAsMuch → LeadsOn opening steps s (Do t.0 (Read k)) (Refused OutOfMemory) (record c { table = table })
+    pub read_spent_roomy : (table : Txns (Node KeptTransaction)) → IsWritten c.table table t.0 HasDoneAsMuch → LeadsOn opening steps s (Do t.0 (Read k)) (Refused OutOfMemory) (record c { table = table })
     read_spent_roomy table w = spent_leads opening steps s t.0 (Read k) (record c { table = table }) may (stands_as_much opening steps s c h t.0 table w)
 
     -- answered
-    module _ (found : Shown) (is : IsInOrder (state_of c.table) t.0 t.0 (versions_at c.versions.slots c.versions.lists k) → found ≡ shown_in c t.0 k) (row : Option RowData)
+    module _ (found : Shown) (is : AreVersionsInOrder (state_of c.table) t.0 t.0 (versions_at c.versions.slots c.versions.lists k) → found ≡ shown_in c t.0 k) (row : Option RowData)
         (told : row ≡ row_shown c.versions.slots found.version) where
       shown : found ≡ shown_in c t.0 k
       shown = is (versions_in_order opening steps s c h t.0 here.state k)
@@ -68,7 +68,7 @@ module _ (opening : Map) (steps : List Step) (s : State) (c : CoreData) (h : Sta
       pub read_answers : Found row ≡ answer_in s t.0 (Read k)
       read_answers = ap Found row_there
 
-      pub read_leads : (table : Txns (Node Transaction)) → IsRecorded c.table table t (option_to_list found.depends_on) (Read k) (Found row)
+      pub read_leads : (table : Txns (Node KeptTransaction)) → IsRecorded c.table table t (option_to_list found.depends_on) (Read k) (Found row)
           → LeadsOn opening steps s (Do t.0 (Read k)) Accepted (record c { table = table })
       read_leads table w =
           recorded_leads opening steps s c h t here.tx here.found (Read k) (Found row) may read_answers refl (option_to_list found.depends_on)

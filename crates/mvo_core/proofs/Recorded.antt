@@ -9,17 +9,17 @@ use Rattle.mvo_deps.specs.declared.node.Node.{Node}
 use Rattle.mvo_deps.specs.Nodes.{after_register_all}
 use Rattle.mvo_deps.specs.Graph.{IsUnfinished}
 use Rattle.mvo_work.specs.Work.{HasRoom}
-use Rattle.mvo_core.specs.declared.transaction.Transaction.{Transaction}
+use Rattle.mvo_core.specs.declared.kept_transaction.KeptTransaction.{KeptTransaction}
 use Rattle.mvo_core.specs.Data.{own_of}
 use Rattle.mvo_core.specs.Keeping.{IsWritten, HasMadeRoom}
 use Rattle.mvo_core.proofs.Asked.{unfinished_if_own, if_own}
 use Rattle.mvo_core.proofs.OwnChanged.{IsOwnChanged, own_changed, own_registered_all}
 
 -- what is so of one that is there
-of_own : (table : Txns (Node Transaction)) (t : ℕ) (own : Transaction) (P : Transaction → Type 0) → own_of table t ≡ Some own → IfSome (own_of table t) P → P own
+of_own : (table : Txns (Node KeptTransaction)) (t : ℕ) (own : KeptTransaction) (P : KeptTransaction → Type 0) → own_of table t ≡ Some own → IfSome (own_of table t) P → P own
 of_own table t own P e h = subst (λ o. IfSome o P) e h
 
-module _ (old roomy : Txns (Node Transaction)) (t : TxId) (room : IsWritten old roomy t.0 HasMadeRoom) where
+module _ (old roomy : Txns (Node KeptTransaction)) (t : TxId) (room : IsWritten old roomy t.0 HasMadeRoom) where
   changed : IsOwnChanged old roomy t.0 HasMadeRoom
   changed = own_changed old roomy t.0 HasMadeRoom room
 
@@ -29,7 +29,7 @@ module _ (old roomy : Txns (Node Transaction)) (t : TxId) (room : IsWritten old 
   pub unfinished_roomy : IsUnfinished roomy t
   unfinished_roomy = unfinished_if_own roomy t.0 there_roomy
 
-  module _ (ids : List TxId) (table : Txns (Node Transaction)) (is : table ≡ after_register_all roomy t ids) where
+  module _ (ids : List TxId) (table : Txns (Node KeptTransaction)) (is : table ≡ after_register_all roomy t ids) where
     own_then : own_of table t.0 ≡ Some changed.after
     own_then = ap (λ x. own_of x t.0) is ∙ own_registered_all roomy t ids t.0 ∙ changed.is
 

@@ -38,9 +38,9 @@ use Rattle.mvo_representation.specs.Table.{phases_of, IsShown}
 use Rattle.mvo_representation.specs.WordLists.{HasWordLists, HaveListNow}
 use Rattle.mvo_representation.proofs.OrderOperations.{delete_keeps_order, update_keeps_order}
 use Rattle.mvo_representation.proofs.OrderSlots.{added_is_now, changed_is_now}
-use Rattle.mvo_representation.proofs.Slots.{slot_changed, slot_emptied}
+use Rattle.mvo_representation.proofs.Slots.{slot_changed, slot_emptied, none_version}
 use Rattle.mvo_representation.proofs.WordsWritten.{delete_keeps_lists, update_keeps_lists}
-use Rattle.mvo_core.specs.declared.transaction.Transaction.{Transaction}
+use Rattle.mvo_core.specs.declared.kept_transaction.KeptTransaction.{KeptTransaction}
 use Rattle.mvo_core.specs.Data.{CoreData}
 use Rattle.mvo_core.specs.Keeping.{HasDoneMore}
 use Rattle.mvo_core.specs.Looking.{cause_at}
@@ -50,9 +50,6 @@ use Rattle.mvo_core.proofs.Answered.{HasAnswered, IsAnswered, done_so}
 use Rattle.mvo_core.proofs.InTheWay.{shown, shown_there, row_there, may_end}
 
 -- ---- slots
-none_version : (v : Version) → ◌≡◌ {A = Option Version} None (Some v) → ⊥
-none_version v q = cc
-
 -- two slots are set in either order
 set_swap : (ss : Slots) (i j : ℕ) (x y : Option Version) → i ≢ j → slice_set (slice_set ss i x) j y ≡ slice_set (slice_set ss j y) i x
 set_swap [] i j x y ne = refl
@@ -63,7 +60,7 @@ set_swap (o ∷ ss) (suc i) (suc j) x y ne = ap (λ rest. o ∷ rest) (set_swap 
 
 -- ---- what is kept of one transaction
 -- its list is this then
-list_now : (table : Txns (Node Transaction)) (t : TxId) (ids : List TxId) (new : Txns (Node Transaction)) (op : Op) (a : AnswerData) (put : List WordPlace)
+list_now : (table : Txns (Node KeptTransaction)) (t : TxId) (ids : List TxId) (new : Txns (Node KeptTransaction)) (op : Op) (a : AnswerData) (put : List WordPlace)
     → IsOwnChanged (after_register_all table t ids) new t.0 (HasDoneMore op a put) → HaveListNow (words_in table) (words_in new) t.0 (words_in table t.0 ++ put)
 list_now table t ids new op a put w = record {
   others = λ u ne. words_beside (after_register_all table t ids) new t.0 (HasDoneMore op a put) w u ne ∙ ap (λ (f : ℕ → List WordPlace). f u) (words_registered table t ids);
@@ -88,7 +85,7 @@ module _ (opening : Map) (steps : List Step) (s : State) (c : CoreData) (h : Sta
   v = there.version
 
   abbrev Table : Type 0
-  Table = Txns (Node Transaction)
+  Table = Txns (Node KeptTransaction)
 
   may : MayEnd s (phases_of (state_of c.table)) r.id (all_versions c.versions.slots) v
   may = may_end opening steps s c h r f k n e free

@@ -11,7 +11,7 @@ use Rattle.mvo_theory.proofs.Single.{preparing_found, active_alone}
 use Rattle.mvo_txn.specs.declared.state.TxState.TheVariants.{Active, Preparing}
 use Rattle.mvo_txn.specs.Txns.{Txns, state_of}
 use Rattle.mvo_deps.specs.declared.node.Node.{Node}
-use Rattle.mvo_tale.specs.declared.slot.Slot.{Slot}
+use Rattle.mvo_tale.specs.declared.tale_place.TalePlace.{TalePlace}
 use Rattle.mvo_tale.specs.Kept.{HasTale}
 use Rattle.mvo_tale.specs.Next.{AreGroupedTo}
 use Rattle.mvo_representation.specs.Versions.{AreVersionsOf}
@@ -24,14 +24,14 @@ use Rattle.mvo_representation.specs.Table.{phase_as, phases_of}
 use Rattle.mvo_representation.proofs.Facts.{preparing_is}
 use Rattle.mvo_representation.proofs.Tabled.{active_is}
 use Rattle.mvo_hash.specs.Lists.{Lists}
-use Rattle.mvo_core.specs.declared.transaction.Transaction.{Transaction}
+use Rattle.mvo_core.specs.declared.kept_transaction.KeptTransaction.{KeptTransaction}
 use Rattle.mvo_collect.proofs.Over.{each_call_keeps_over}
 use Rattle.mvo_core.specs.Data.{CoreData}
 use Rattle.mvo_core.specs.Standing.{StandsFor, HasWorks, words_in}
 use Rattle.mvo_core.proofs.Laws.{call_keeps}
 
 -- the rest is that of the state: what is kept of each, the tale and the marks
-pub record HasRest (s : State) (table : Txns (Node Transaction)) (slots : List Slot) (c : CoreData) : Type 0 where
+pub record HasRest (s : State) (table : Txns (Node KeptTransaction)) (slots : List TalePlace) (c : CoreData) : Type 0 where
   pub works : HasWorks s table slots
   pub tale : HasTale s slots
   pub marks : s.marks ≡ record { opening = c.opening; closed = c.closed }
@@ -54,7 +54,7 @@ module _ (opening : Map) (steps : List Step) (s : State) (c : CoreData) (h : Sta
   phases = λ i u. h.dependencies.stands.phases u i
 
   -- a call that changes no version, and brings some to the front of their keys
-  pub stands_then : (call : Call) (r : Result) (table : Txns (Node Transaction)) (lists : Lists) (tale : List Slot) → MayCome s call r
+  pub stands_then : (call : Call) (r : Result) (table : Txns (Node KeptTransaction)) (lists : Lists) (tale : List TalePlace) → MayCome s call r
       → IsAfterCall s (phase_in s) call r (all_versions c.versions.slots) (all_versions c.versions.slots)
       → HasNumbers c.versions.slots lists
       → HasDependencies (after_call s call r) table

@@ -3,7 +3,7 @@ use Rattle.std.proofs.Common.{List, ◌∙◌}
 use Rattle.mvo_types.specs.Keys.{Map}
 use Rattle.mvo_model.specs.Trace.{Step}
 use Rattle.mvo_theory.specs.State.{State}
-use Rattle.mvo_range.specs.Place.{Map as Places}
+use Rattle.mvo_range.specs.Place.{PlaceNumbers as Places}
 use Rattle.mvo_versions.specs.Changes.{HaveSamePlaces}
 use Rattle.mvo_core.specs.Data.{CoreData}
 use Rattle.mvo_core.specs.Standing.{StandsFor}

@@ -14,7 +14,7 @@ use Rattle.mvo_types.specs.declared.entry.Entry.TheVariants.{Range}
 use Rattle.mvo_theory.specs.State.{State, snapshot}
 use Rattle.mvo_txn.specs.Txns.{Txns, state_of}
 use Rattle.mvo_deps.specs.declared.node.Node.{Node}
-use Rattle.mvo_core.specs.declared.transaction.Transaction.{Transaction}
+use Rattle.mvo_core.specs.declared.kept_transaction.KeptTransaction.{KeptTransaction}
 use Rattle.mvo_core.specs.Causes.{why_not_look}
 use Rattle.mvo_core.specs.Data.{CoreData}
 use Rattle.mvo_core.specs.Keeping.{IsRecorded}
@@ -43,7 +43,7 @@ module _ (opening : Map) (steps : List Step) (s : State) (c : CoreData) (h : Sta
     scan_answers = ap Rows rows_there
 
     -- with these ids, and these rows
-    pub scan_leads : (told : List RowData) → told ≡ rows → (ids : List TxId) → ids ≡ on → (table : Txns (Node Transaction)) → IsRecorded c.table table t ids (Scan of lo hi) (Rows told)
+    pub scan_leads : (told : List RowData) → told ≡ rows → (ids : List TxId) → ids ≡ on → (table : Txns (Node KeptTransaction)) → IsRecorded c.table table t ids (Scan of lo hi) (Rows told)
         → LeadsOn opening steps s (Do t.0 (Scan of lo hi)) Accepted (record c { table = table })
     scan_leads told same ids all table k =
         recorded_leads opening steps s c h t here.tx here.found (Scan of lo hi) (Rows told) (may_scan opening steps s c h t of lo hi none) (ap Rows (same ∙ rows_there)) refl on

@@ -1,6 +1,6 @@
 -- Whom a scan is told of place by place are those whom the rules name at the keys that it meets.
-use Rattle.std.proofs.Common.{◌≡◌, ℕ, ◌+◌, ◌<◌, ◌≤◌, suc, zero, Bool, true, false, cond, ◌||◌, List, [], ◌∷◌, map, filter, Option, None, Some, refl, sym, ap, ◌∙◌, subst, arith}
-use Rattle.std.specs.Prelude.{◌==◌, ◌&&◌, not, nat_lt, nat_le, is_some, slice_index_or}
+use Rattle.std.proofs.Common.{◌≡◌, ℕ, ◌+◌, ◌<◌, ◌≤◌, suc, Bool, true, false, cond, ◌||◌, List, [], ◌∷◌, map, filter, Option, None, Some, refl, sym, ap, ◌∙◌, subst, arith}
+use Rattle.std.specs.Prelude.{◌==◌, ◌&&◌, not, nat_lt, nat_le, slice_index_or}
 use Rattle.std.specs.List.{AllByRecursion, list_any}
 use Rattle.std.specs.FinMap as fin
 use Rattle.std.specs.Ordering.{eq_by_cmp}
@@ -16,34 +16,37 @@ use Rattle.mvo_theory.specs.Ranges.{shows, is_row_of}
 use Rattle.mvo_theory.specs.Sound.{how_many}
 use Rattle.mvo_theory.specs.State.{State}
 use Rattle.mvo_theory.proofs.Each.{each_weaker}
+use Rattle.mvo_theory.proofs.Footprints.{or_left, or_right}
 use Rattle.mvo_word.specs.declared.held.Held.{Held}
 use Rattle.mvo_word.specs.declared.held.Held.TheVariants.{At, By, Infinity}
 use Rattle.mvo_txn.specs.declared.state.TxState.{TxState}
 use Rattle.mvo_txn.specs.declared.state.TxState.TheVariants.{Active, Preparing, Committed, Aborted}
 use Rattle.mvo_chain.specs.declared.version.Version.{Version}
-use Rattle.mvo_chain.specs.Slots.{Slots, version_at}
+use Rattle.mvo_chain.specs.Slots.{version_at}
 use Rattle.mvo_hash.specs.Lists.{number, numbers_of}
-use Rattle.mvo_range.specs.declared.place.Place.{Place}
+use Rattle.mvo_range.specs.declared.sort_place.SortPlace.{SortPlace}
 use Rattle.mvo_range.specs.Place.{place_cmp, is_between}
 use Rattle.mvo_range.proofs.Places.{exact_places, places_total}
 use Rattle.mvo_validate.specs.Entries.{key_at}
-use Rattle.mvo_deps.specs.Data.{is_among}
+use Rattle.mvo_deps.specs.Data.{is_id_among}
+use Rattle.mvo_deps.proofs.Lists.{one}
 use Rattle.mvo_visible.specs.Words.{States, seen_in, seen_of}
 use Rattle.mvo_versions.specs.Data.{VersionsData}
 use Rattle.mvo_representation.specs.Dependencies.{named_at, is_met_at, AreNamedByScan}
-use Rattle.mvo_representation.specs.Indexes.{all_versions, is_of_key, HasNumbers, place_of, is_at_place, HasPlaces}
+use Rattle.mvo_representation.specs.Indexes.{all_versions, is_of_key, HasNumbers, version_place, is_at_place, HasPlaces}
 use Rattle.mvo_representation.specs.Table.{phase_as, phases_of}
 use Rattle.mvo_representation.specs.Words as words
 use Rattle.mvo_representation.specs.Words.{end_in, ends_of, stamp_in, meets}
-use Rattle.mvo_representation.proofs.RangeCheckedBy.{iff, any_slot}
-use Rattle.mvo_core.specs.Scanning.{is_below, is_up_to, is_met_by, is_met_at_place, shown_at, places_within, AreNamedAt}
+use Rattle.mvo_representation.proofs.RangeCheckedBy.{iff, any_slot, in_slot, none_number, some_there}
+use Rattle.mvo_representation.proofs.ShownTo.{one_is}
+use Rattle.mvo_core.specs.Scanning.{is_change_below, is_change_up_to, is_met_by, is_met_at_place, shown_at, places_within, AreNamedAt}
 
 -- ---- what others see in a word is its stamp
-below_is : (states : States) (w : Held) (b : ℕ) → is_below (seen_of states w) b ≡ words.is_below b (stamp_in (ends_of (phases_of states)) w)
+below_is : (states : States) (w : Held) (b : ℕ) → is_change_below (seen_of states w) b ≡ words.is_below b (stamp_in (ends_of (phases_of states)) w)
 below_is states (At s) b = refl
 below_is states (By t) b = go (states t.0)
   where
-    go : (o : Option TxState) → is_below (seen_in t o) b ≡ words.is_below b (end_in (phase_as o))
+    go : (o : Option TxState) → is_change_below (seen_in t o) b ≡ words.is_below b (end_in (phase_as o))
     go None = refl
     go (Some Active) = refl
     go (Some (Preparing e)) = refl
@@ -56,11 +59,11 @@ at_most_is a b =
     iff (nat_le a b) (nat_lt a (suc b)) (λ e. let l : a ≤ b = leb-true a b e in lt-ltb a (suc b) (omega (arith, l)))
     (λ e. let l : a < suc b = ltb-true a (suc b) e in le-leb a b (omega (arith, l)))
 
-up_to_is : (states : States) (w : Held) (b : ℕ) → is_up_to (seen_of states w) b ≡ words.is_up_to b (stamp_in (ends_of (phases_of states)) w)
+up_to_is : (states : States) (w : Held) (b : ℕ) → is_change_up_to (seen_of states w) b ≡ words.is_up_to b (stamp_in (ends_of (phases_of states)) w)
 up_to_is states (At s) b = at_most_is s.0 b
 up_to_is states (By t) b = go (states t.0)
   where
-    go : (o : Option TxState) → is_up_to (seen_in t o) b ≡ words.is_up_to b (end_in (phase_as o))
+    go : (o : Option TxState) → is_change_up_to (seen_in t o) b ≡ words.is_up_to b (end_in (phase_as o))
     go None = refl
     go (Some Active) = refl
     go (Some (Preparing e)) = at_most_is e.0 b
@@ -73,21 +76,6 @@ not_is true = refl
 not_is false = refl
 
 -- ---- numbers
-abbrev one : Bool → ℕ
-one b = cond b 1 0
-
-one_is : (b : Bool) → 1 ≤ cond b 1 0 → b ≡ true
-one_is true l = refl
-one_is false l = absurd (omega (arith, l))
-
-or_left : (a b : Bool) → a ≡ true → (a || b) ≡ true
-or_left true b e = refl
-or_left false b e = absurd (false≢true e)
-
-or_right : (a b : Bool) → b ≡ true → (a || b) ≡ true
-or_right true b e = refl
-or_right false b e = e
-
 -- one of the numbers that passes
 record FoundAt (f : ℕ → Bool) (ns : List ℕ) : Type 0 where
   pub n : ℕ
@@ -110,32 +98,9 @@ any_number f n (m ∷ ns) q le = go (m == n) refl le (λ l. any_number f n ns q 
     go true i l again = or_left (f m) (list_any f ns) (ap f (eqb-true m n i) ∙ q)
     go false i l again = or_right (f m) (list_any f ns) (again (omega (arith, l)))
 
--- ---- versions by number
-record InSlot (slots : Slots) (f : Version → Bool) : Type 0 where
-  pub number : ℕ
-  pub version : Version
-  pub at : slice_index_or slots number None ≡ Some version
-  pub passes : f version ≡ true
-
-in_slot : (f : Version → Bool) (slots : Slots) → list_any f (all_versions slots) ≡ true → InSlot slots f
-in_slot f [] e = absurd (false≢true e)
-in_slot f (None ∷ ss) e = let w = in_slot f ss e in record { number = suc w.number; version = w.version; at = w.at; passes = w.passes }
-in_slot f (Some v ∷ ss) e = go (f v) refl e (λ r. in_slot f ss r)
-  where
-    go : (b : Bool) → f v ≡ b → (b || list_any f (all_versions ss)) ≡ true → (list_any f (all_versions ss) ≡ true → InSlot ss f) → InSlot (Some v ∷ ss) f
-    go true q r again = record { number = zero; version = v; at = refl; passes = q }
-    go false q r again = let w = again r in record { number = suc w.number; version = w.version; at = w.at; passes = w.passes }
-
 -- ---- places of the range
-pub some_there : (o : Option ℕ) → is_some o ≡ true → (n : ℕ) × (o ≡ Some n)
-some_there None e = absurd (false≢true e)
-some_there (Some n) e = (n, refl)
-
-none_number : (n : ℕ) → ◌≡◌ {A = Option ℕ} None (Some n) → ⊥
-none_number n q = cc
-
 -- what is so at each place of the range is so at one that is there
-pub each_entry : (P : Place → Type 0) (table lo hi : ℕ) (p : Place) (n : ℕ) (es : List (Place × ℕ)) → is_between table lo hi (p, 0) ≡ true → fin.find place_cmp p es ≡ Some n
+pub each_entry : (P : SortPlace → Type 0) (table lo hi : ℕ) (p : SortPlace) (n : ℕ) (es : List (SortPlace × ℕ)) → is_between table lo hi (p, 0) ≡ true → fin.find place_cmp p es ≡ Some n
     → AllByRecursion P (map (λ e. e.0) (filter (is_between table lo hi) es)) → P p
 each_entry P table lo hi p n [] inside e h = absurd (none_number n e)
 each_entry P table lo hi p n (x ∷ xs) inside e h = go (eq_by_cmp place_cmp p x.0) refl e (is_between table lo hi x) refl h (λ r g. each_entry P table lo hi p n xs inside r g)
@@ -144,7 +109,7 @@ each_entry P table lo hi p n (x ∷ xs) inside e h = go (eq_by_cmp place_cmp p x
         → (i : Bool) → is_between table lo hi x ≡ i → AllByRecursion P (map (λ e. e.0) (cond i (x ∷ filter (is_between table lo hi) xs) (filter (is_between table lo hi) xs)))
         → (fin.find place_cmp p xs ≡ Some n → AllByRecursion P (map (λ e. e.0) (filter (is_between table lo hi) xs)) → P p) → P p
     go true q r true i g again = subst P (sym (tells_apart exact_places p x.0 q)) g.0
-    go true q r false i g again = absurd (false≢true (sym i ∙ ap (λ (y : Place). is_between table lo hi (y, 0)) (sym (tells_apart exact_places p x.0 q)) ∙ inside))
+    go true q r false i g again = absurd (false≢true (sym i ∙ ap (λ (y : SortPlace). is_between table lo hi (y, 0)) (sym (tells_apart exact_places p x.0 q)) ∙ inside))
     go false q r true i g again = again r g.1
     go false q r false i g again = again r g
 
@@ -154,18 +119,18 @@ module _ (s : State) (states : States) (vs : VersionsData) (t table lo hi : ℕ)
   counts v = words.is_below t (stamp_in (ends_of (phases_of states)) v.begin) && cond (words.is_up_to s.start (stamp_in (ends_of (phases_of states)) v.end)) false true
 
   abbrev counts_here : Version → Bool
-  counts_here v = is_below (seen_of states v.begin) t && not (is_up_to (seen_of states v.end) s.start)
+  counts_here v = is_change_below (seen_of states v.begin) t && not (is_change_up_to (seen_of states v.end) s.start)
 
   abbrev within : Version → Bool
   within v = (v.row.key.table == table) && (nat_le lo v.row.sort && nat_le v.row.sort hi)
 
   counts_is : (v : Version) → counts_here v ≡ counts v
   counts_is v =
-      ap (λ b. b && not (is_up_to (seen_of states v.end) s.start)) (below_is states v.begin t)
-      ∙ ap (λ b. words.is_below t (stamp_in (ends_of (phases_of states)) v.begin) && b) (not_is (is_up_to (seen_of states v.end) s.start) ∙ ap (λ b. cond b false true) (up_to_is states v.end s.start))
+      ap (λ b. b && not (is_change_up_to (seen_of states v.end) s.start)) (below_is states v.begin t)
+      ∙ ap (λ b. words.is_below t (stamp_in (ends_of (phases_of states)) v.begin) && b) (not_is (is_change_up_to (seen_of states v.end) s.start) ∙ ap (λ b. cond b false true) (up_to_is states v.end s.start))
 
   -- the key of a place of the range at which it meets a version
-  key_met : (p : Place) → is_between table lo hi (p, 0) ≡ true → is_met_at_place states vs s.start t p ≡ true → is_met_at states s vs.slots t table lo hi (key_at p) ≡ true
+  key_met : (p : SortPlace) → is_between table lo hi (p, 0) ≡ true → is_met_at_place states vs s.start t p ≡ true → is_met_at states s vs.slots t table lo hi (key_at p) ≡ true
   key_met p inside e = go (version_at vs.slots (number w.n)) refl w.passes
     where
       w : FoundAt (λ n. is_met_by states s.start t p.sort (version_at vs.slots (number n))) (numbers_of vs.lists (key_at p))
@@ -190,7 +155,7 @@ module _ (s : State) (states : States) (vs : VersionsData) (t table lo hi : ℕ)
 
   -- a place of the range at which it meets a version of the key
   record IsMetThere (q : RowKey) : Type 0 where
-    pub place : Place
+    pub place : SortPlace
     pub of : key_at place ≡ q
     pub inside : is_between table lo hi (place, 0) ≡ true
     pub held : ℕ
@@ -203,15 +168,15 @@ module _ (s : State) (states : States) (vs : VersionsData) (t table lo hi : ℕ)
       let v = w.version in
       let a = and_parts (counts v) (eq_by_cmp key_cmp q v.row.key && within v) w.passes in
       let b = and_parts (eq_by_cmp key_cmp q v.row.key) (within v) a.1 in
-      let held = some_there (fin.get vs.places (place_of v)) (ps.at (place_of v) ∙ any_slot (is_at_place (place_of v)) vs.slots w.number v w.at ((eq_by_cmp_equiv places_total).refl (place_of v))) in
+      let held = some_there (fin.get vs.places (version_place v)) (ps.at (version_place v) ∙ any_slot (is_at_place (version_place v)) vs.slots w.number v w.at ((eq_by_cmp_equiv places_total).refl (version_place v))) in
       let listed : is_of_key v.row.key (slice_index_or vs.slots w.number None) ≡ true = ap (is_of_key v.row.key) w.at ∙ (eq_by_cmp_equiv keys_total).refl v.row.key in
       let m : how_many (λ i. i == w.number) (numbers_of vs.lists v.row.key) ≡ 1 = ns.at v.row.key w.number ∙ ap one listed in
       record {
-        place = place_of v;
+        place = version_place v;
         of = sym (tells_apart exact_keys q v.row.key b.0);
         inside = b.1;
         held = held.0;
-        there = sym (fin.get-entries vs.places (place_of v)) ∙ held.1;
+        there = sym (fin.get-entries vs.places (version_place v)) ∙ held.1;
         met = any_number (λ n. is_met_by states s.start t v.row.sort (version_at vs.slots (number n))) w.number (numbers_of vs.lists v.row.key)
             (ap (is_met_by states s.start t v.row.sort) w.at ∙ and_from (v.row.sort == v.row.sort) (counts_here v) (eq-eqb v.row.sort v.row.sort refl) (counts_is v ∙ a.0)) (omega (arith, m));
       }
@@ -220,10 +185,10 @@ module _ (s : State) (states : States) (vs : VersionsData) (t table lo hi : ℕ)
   named_by_scan on h = record {
     each = λ q id e f.
         let w = met_there q e in
-        each_entry (λ p. (other : TxId) → is_met_at_place states vs s.start t p ≡ true → (shown_at states vs t p).depends_on ≡ Some other → is_among other on ≡ true)
+        each_entry (λ p. (other : TxId) → is_met_at_place states vs s.start t p ≡ true → (shown_at states vs t p).depends_on ≡ Some other → is_id_among other on ≡ true)
         table lo hi w.place w.held (fin.entries vs.places) w.inside w.there h.each id w.met (ap (named_at states vs.slots vs.lists t) w.of ∙ f);
     only = each_weaker
-        (λ id. (p : Place) × (is_between table lo hi (p, 0) ≡ true) × (is_met_at_place states vs s.start t p ≡ true) × ((shown_at states vs t p).depends_on ≡ Some id))
+        (λ id. (p : SortPlace) × (is_between table lo hi (p, 0) ≡ true) × (is_met_at_place states vs s.start t p ≡ true) × ((shown_at states vs t p).depends_on ≡ Some id))
         (λ id. (q : RowKey) × (is_met_at states s vs.slots t table lo hi q ≡ true) × (named_at states vs.slots vs.lists t q ≡ Some id))
         (λ id x. (key_at x.0, key_met x.0 x.1 x.2, x.3)) on h.only;
   }

@@ -14,7 +14,7 @@ use Rattle.mvo_theory.specs.Calls.Call.{Do}
 use Rattle.mvo_theory.specs.Calls.Result.{Refused}
 use Rattle.mvo_txn.specs.Txns.{Txns}
 use Rattle.mvo_deps.specs.declared.node.Node.{Node}
-use Rattle.mvo_core.specs.declared.transaction.Transaction.{Transaction}
+use Rattle.mvo_core.specs.declared.kept_transaction.KeptTransaction.{KeptTransaction}
 use Rattle.mvo_core.specs.Causes.{why_not_look}
 use Rattle.mvo_core.specs.Data.{CoreData}
 use Rattle.mvo_core.specs.Keeping.{IsWritten, HasDoneAsMuch}
@@ -37,5 +37,5 @@ module _ (opening : Map) (steps : List Step) (s : State) (c : CoreData) (h : Sta
     pub scan_spent : LeadsOn opening steps s (Do t.0 (Scan of lo hi)) (Refused OutOfMemory) c
     scan_spent = spent_leads opening steps s t.0 (Scan of lo hi) c may_scan h
 
-    pub scan_spent_roomy : (table : Txns (Node Transaction)) → IsWritten c.table table t.0 HasDoneAsMuch → LeadsOn opening steps s (Do t.0 (Scan of lo hi)) (Refused OutOfMemory) (record c { table = table })
+    pub scan_spent_roomy : (table : Txns (Node KeptTransaction)) → IsWritten c.table table t.0 HasDoneAsMuch → LeadsOn opening steps s (Do t.0 (Scan of lo hi)) (Refused OutOfMemory) (record c { table = table })
     scan_spent_roomy table w = spent_leads opening steps s t.0 (Scan of lo hi) (record c { table = table }) may_scan (stands_as_much opening steps s c h t.0 table w)

@@ -21,6 +21,8 @@ use Rattle.mvo_types.specs.RowData.{RowData, ContentData, row_with}
 use Rattle.mvo_types.specs.RowLists.{is_within, rows_by_key, rows_within}
 use Rattle.mvo_types.specs.Keys.{Map, key_cmp, row_at}
 use Rattle.mvo_types.proofs.Maps.{exact_keys, keys_total}
+use Rattle.mvo_types.proofs.Ordered.{Entries}
+use Rattle.mvo_types.proofs.Ranges.{first, second}
 use Rattle.mvo_model.specs.Serial.{scan_cmp, scan}
 use Rattle.mvo_model.specs.Trace.{Step}
 use Rattle.mvo_model.proofs.Scans.{scan_is, scan_total}
@@ -31,28 +33,21 @@ use Rattle.mvo_txn.specs.Txns.{state_of}
 use Rattle.mvo_chain.specs.declared.version.Version.{Version}
 use Rattle.mvo_chain.specs.declared.version.VersionNo.{VersionNo}
 use Rattle.mvo_chain.specs.Slots.{version_at}
-use Rattle.mvo_range.specs.declared.place.Place.{Place}
+use Rattle.mvo_range.specs.declared.sort_place.SortPlace.{SortPlace}
 use Rattle.mvo_range.specs.Place.{is_between}
 use Rattle.mvo_validate.specs.Entries.{key_at}
 use Rattle.mvo_representation.specs.Table.{place_with}
 use Rattle.mvo_representation.proofs.Proved.{rows_are_placed}
+use Rattle.mvo_representation.proofs.RowsPlaced.{none_content}
+use Rattle.mvo_representation.proofs.RangeCheckedBy.{some_there}
 use Rattle.mvo_core.specs.Data.{CoreData}
 use Rattle.mvo_core.specs.Looking.{row_shown}
-use Rattle.mvo_core.specs.Scanning.{row_of, row_with_sort, row_at_place, rows_at, places_within}
+use Rattle.mvo_core.specs.Scanning.{row_at_sort, row_with_sort, row_at_place, rows_at_places, places_within}
 use Rattle.mvo_core.specs.Standing.{StandsFor}
 use Rattle.mvo_core.proofs.Looked.{shown_in, row_is}
 use Rattle.mvo_core.proofs.SameRising.{IsIn, same_rising}
-use Rattle.mvo_core.proofs.ScanNamed.{each_entry, some_there}
-use Rattle.mvo_core.proofs.ScanRows.{IsAt, row_at_is, rows_rise}
-
-none_row : (r : RowData) → ◌≡◌ {A = Option RowData} None (Some r) → ⊥
-none_row r q = cc
-
-some_row : (a b : RowData) → ◌≡◌ {A = Option RowData} (Some a) (Some b) → a ≡ b
-some_row a b q = cc
-
-none_content : (h : ContentData) → ◌≡◌ {A = Option ContentData} None (Some h) → ⊥
-none_content h q = cc
+use Rattle.mvo_core.proofs.ScanNamed.{each_entry}
+use Rattle.mvo_core.proofs.ScanRows.{IsAt, row_at_is, rows_rise, none_row, of_range, some_row}
 
 some_content : (a b : ContentData) → ◌≡◌ {A = Option ContentData} (Some a) (Some b) → a ≡ b
 some_content a b q = cc
@@ -108,9 +103,6 @@ module _ {X : Type 0} where
       go false q j again = let w = again j in record { there = inr w.there; passes = w.passes }
 
 -- ---- the rows of a map
-abbrev Entries : Type 0
-Entries = List (RowKey × ContentData)
-
 abbrev whole : RowKey × ContentData → RowData
 whole e = row_with e.0 e.1
 
@@ -123,14 +115,6 @@ row_found k h (x ∷ xs) e = go (eq_by_cmp key_cmp k x.0) refl e (λ f. row_foun
         → IsIn (row_with k h) (whole x ∷ map whole xs)
     go true q f again = inl (ap (λ (j : RowKey). row_with j h) (tells_apart exact_keys k x.0 q) ∙ ap (row_with x.0) (sym (some_content x.1 h f)))
     go false q f again = inr (again f)
-
-first : (a b : Bool) → T (a && b) → T a
-first true b h = tt
-first false b h = h
-
-second : (a b : Bool) → T (a && b) → T b
-second true b h = h
-second false b h = absurd h
 
 -- an entry of a list that has the row
 pub record IsEntryOf (z : RowData) (es : Entries) : Type 0 where
@@ -192,10 +176,7 @@ module _ (m : Map) (table lo hi : ℕ) where
       record { content = e.content; row = e.row; held = fin.get-entries m z.key ∙ e.found; inside = w.passes }
 
 -- ---- the places of the range
-abbrev of_range : ℕ → ℕ → ℕ → List (Place × ℕ) → List Place
-of_range table lo hi es = map (λ e. e.0) (filter (is_between table lo hi) es)
-
-all_between : (table lo hi : ℕ) (es : List (Place × ℕ)) → AllByRecursion (λ p. is_between table lo hi (p, 0) ≡ true) (of_range table lo hi es)
+all_between : (table lo hi : ℕ) (es : List (SortPlace × ℕ)) → AllByRecursion (λ p. is_between table lo hi (p, 0) ≡ true) (of_range table lo hi es)
 all_between table lo hi [] = tt
 all_between table lo hi (e ∷ es) = go (is_between table lo hi e) refl (all_between table lo hi es)
   where
@@ -205,28 +186,28 @@ all_between table lo hi (e ∷ es) = go (is_between table lo hi e) refl (all_bet
     go false i r = r
 
 -- a row at a place of the range is of the range, and the other way round
-within_at : (table lo hi : ℕ) (p : Place) (z : RowData) → IsAt p z → is_between table lo hi (p, 0) ≡ true → is_within table lo hi z ≡ true
+within_at : (table lo hi : ℕ) (p : SortPlace) (z : RowData) → IsAt p z → is_between table lo hi (p, 0) ≡ true → is_within table lo hi z ≡ true
 within_at table lo hi p z w e =
     ap (λ (k : RowKey). (k.table == table) && (nat_le lo z.sort && nat_le z.sort hi)) w.key
     ∙ ap (λ (n : ℕ). (p.table == table) && (nat_le lo n && nat_le n hi)) w.sort ∙ e
 
 -- ---- the rows that a transaction is shown
 module _ (opening : Map) (steps : List Step) (s : State) (c : CoreData) (h : StandsFor opening steps s c) (t : ℕ) (r : ActiveTx) (f : active_of t s.active ≡ Some r) (table lo hi : ℕ) where
-  abbrev at : Place → Option RowData
+  abbrev at : SortPlace → Option RowData
   at p = row_at_place (state_of c.table) c.versions t p
 
-  abbrev here : List Place → List RowData
-  here ps = rows_at (state_of c.table) c.versions t ps
+  abbrev here : List SortPlace → List RowData
+  here ps = rows_at_places (state_of c.table) c.versions t ps
 
   -- a row that is shown at a place is the snapshot's
-  at_is : (p : Place) (z : RowData) → at p ≡ Some z → row_at (snapshot s t) (key_at p) ≡ Some z
+  at_is : (p : SortPlace) (z : RowData) → at p ≡ Some z → row_at (snapshot s t) (key_at p) ≡ Some z
   at_is p z e = sym (row_is opening steps s c h t r f (key_at p)) ∙ go (shown_in c t (key_at p)).version e
     where
       by : (b : Bool) (v : Version) → cond b (Some v.row) None ≡ Some z → ◌≡◌ {A = Option RowData} (Some v.row) (Some z)
       by true v i = i
       by false v i = absurd (none_row z i)
 
-      with_version : (o : Option Version) → row_of p.sort o ≡ Some z → option_map (λ v. v.row) o ≡ Some z
+      with_version : (o : Option Version) → row_at_sort p.sort o ≡ Some z → option_map (λ v. v.row) o ≡ Some z
       with_version None g = absurd (none_row z g)
       with_version (Some v) g = by (v.row.sort == p.sort) v g
 
@@ -235,10 +216,10 @@ module _ (opening : Map) (steps : List Step) (s : State) (c : CoreData) (h : Sta
       go (Some n) g = with_version (version_at c.versions.slots n) g
 
   -- the snapshot's row is shown at its place
-  is_at : (p : Place) (z : RowData) → z.sort ≡ p.sort → row_at (snapshot s t) (key_at p) ≡ Some z → at p ≡ Some z
+  is_at : (p : SortPlace) (z : RowData) → z.sort ≡ p.sort → row_at (snapshot s t) (key_at p) ≡ Some z → at p ≡ Some z
   is_at p z sort e = go (shown_in c t (key_at p)).version (row_is opening steps s c h t r f (key_at p) ∙ e)
     where
-      with_version : (o : Option Version) → option_map (λ v. v.row) o ≡ Some z → row_of p.sort o ≡ Some z
+      with_version : (o : Option Version) → option_map (λ v. v.row) o ≡ Some z → row_at_sort p.sort o ≡ Some z
       with_version None g = absurd (none_row z g)
       with_version (Some v) g =
           let same : v.row ≡ z = some_row v.row z g in
@@ -249,7 +230,7 @@ module _ (opening : Map) (steps : List Step) (s : State) (c : CoreData) (h : Sta
       go (Some n) g = with_version (version_at c.versions.slots n) g
 
   -- forth
-  forth_at : (ps : List Place) → AllByRecursion (λ p. is_between table lo hi (p, 0) ≡ true) ps → (z : RowData) → IsIn z (here ps) → IsIn z (scan (snapshot s t) table lo hi)
+  forth_at : (ps : List SortPlace) → AllByRecursion (λ p. is_between table lo hi (p, 0) ≡ true) ps → (z : RowData) → IsIn z (here ps) → IsIn z (scan (snapshot s t) table lo hi)
   forth_at [] all z i = absurd i
   forth_at (p ∷ ps) all z i = go (at p) refl i (λ j. forth_at ps all.1 z j)
     where
@@ -262,7 +243,7 @@ module _ (opening : Map) (steps : List Step) (s : State) (c : CoreData) (h : Sta
       go (Some b) e (inr j) again = again j
 
   -- back
-  listed : (z : RowData) (ps : List Place) → AllByRecursion (λ p. at p ≡ Some z → IsIn z (here ps)) ps
+  listed : (z : RowData) (ps : List SortPlace) → AllByRecursion (λ p. at p ≡ Some z → IsIn z (here ps)) ps
   listed z [] = tt
   listed z (p ∷ ps) = (
     (λ e. in_left z (option_to_list (at p)) (here ps) (subst (λ o. IsIn z (option_to_list o)) (sym e) (inl refl))),
@@ -272,7 +253,7 @@ module _ (opening : Map) (steps : List Step) (s : State) (c : CoreData) (h : Sta
   back : (z : RowData) → IsIn z (scan (snapshot s t) table lo hi) → IsIn z (here (places_within c.versions.places table lo hi))
   back z i =
       let w = of_scan (snapshot s t) table lo hi z i in
-      let p : Place = place_with z.key w.content in
+      let p : SortPlace = place_with z.key w.content in
       let sort : z.sort ≡ p.sort = ap (λ (x : RowData). x.sort) w.row in
       let id : r.id ≡ t = id_of t s.active r f in
       let there = some_there (fin.get c.versions.places p)
@@ -284,7 +265,7 @@ module _ (opening : Map) (steps : List Step) (s : State) (c : CoreData) (h : Sta
       (listed z (places_within c.versions.places table lo hi))
       (is_at p z sort (ap (option_map (row_with z.key)) w.held ∙ ap (λ (x : RowData). Some x) (sym w.row)))
     where
-      within_is : (p : Place) → z.sort ≡ p.sort → is_within table lo hi z ≡ ((z.key.table == table) && (nat_le lo p.sort && nat_le p.sort hi))
+      within_is : (p : SortPlace) → z.sort ≡ p.sort → is_within table lo hi z ≡ ((z.key.table == table) && (nat_le lo p.sort && nat_le p.sort hi))
       within_is p e = ap (λ (n : ℕ). (z.key.table == table) && (nat_le lo n && nat_le n hi)) e
 
   -- the rows are those of the scan, in its order

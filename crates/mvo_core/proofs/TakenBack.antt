@@ -1,5 +1,5 @@
 -- A version that was put and taken out again leaves the versions as they were.
-use Rattle.std.proofs.Common.{◌≡◌, ℕ, Bool, true, false, cond, not, List, [], ◌∷◌, None, Some, refl, sym, ap, ◌∙◌, inr}
+use Rattle.std.proofs.Common.{◌≡◌, ℕ, Bool, true, false, cond, not, ◌∷◌, None, Some, refl, sym, ap, ◌∙◌, inr}
 use Rattle.std.specs.Ordering.{eq_by_cmp}
 use Rattle.std.specs.FinMap as fin
 use Rattle.std.proofs.lemmas.Bool.{eq-eqb}
@@ -12,44 +12,33 @@ use Rattle.mvo_types.specs.RowData.{RowData}
 use Rattle.mvo_types.specs.Keys.{key_cmp}
 use Rattle.mvo_chain.specs.declared.version.VersionNo.{VersionNo}
 use Rattle.mvo_chain.specs.Slots.{version_at, with_room, with_slot}
-use Rattle.mvo_hash.specs.Lists.{Lists, or_empty, numbers_of, with_numbers, without, IsFresh}
+use Rattle.mvo_hash.specs.Lists.{Lists, numbers_of, without_number, IsNewNumber}
 use Rattle.mvo_hash.proofs.Unlinks.{without_absent}
 use Rattle.mvo_visible.specs.Fronts.{with_new, with_less}
 use Rattle.mvo_representation.specs.Steps.{fresh}
+use Rattle.mvo_representation.proofs.Numbers.{numbers_with}
 use Rattle.mvo_versions.specs.Data.{VersionsData}
 use Rattle.mvo_versions.specs.Changes.{IsPut, IsTakenOut}
 use Rattle.mvo_versions.proofs.Indexing.{emptied_again, hole_inside}
 use Rattle.mvo_core.specs.Looking.{HasSameVersions}
 
-numbers_with : (lists : Lists) (k : RowKey) (ns : List ℕ) (q : RowKey) → numbers_of (with_numbers lists k ns) q ≡ cond (eq_by_cmp key_cmp q k) ns (numbers_of lists q)
-numbers_with lists k [] q = ap or_empty (fin.get-remove keys_total lists k q) ∙ go (eq_by_cmp key_cmp q k)
-  where
-    go : (b : Bool) → or_empty (cond b None (fin.get lists q)) ≡ cond b [] (numbers_of lists q)
-    go true = refl
-    go false = refl
-numbers_with lists k (n ∷ ns) q = ap or_empty (fin.get-insert keys_total lists k (n ∷ ns) q) ∙ go (eq_by_cmp key_cmp q k)
-  where
-    go : (b : Bool) → or_empty (cond b (Some (n ∷ ns)) (fin.get lists q)) ≡ cond b (n ∷ ns) (numbers_of lists q)
-    go true = refl
-    go false = refl
-
 -- a new number that is taken out again
-numbers_back : (lists : Lists) (k : RowKey) (n : ℕ) → IsFresh lists n → (q : RowKey) → numbers_of (with_less (with_new lists k n) k n) q ≡ numbers_of lists q
+numbers_back : (lists : Lists) (k : RowKey) (n : ℕ) → IsNewNumber lists n → (q : RowKey) → numbers_of (with_less (with_new lists k n) k n) q ≡ numbers_of lists q
 numbers_back lists k n unused q =
-    numbers_with (with_new lists k n) k (without n (numbers_of (with_new lists k n) k)) q
+    numbers_with (with_new lists k n) k (without_number n (numbers_of (with_new lists k n) k)) q
     ∙ go (eq_by_cmp key_cmp q k) refl
   where
     here : numbers_of (with_new lists k n) k ≡ n ∷ numbers_of lists k
     here = numbers_with lists k (n ∷ numbers_of lists k) k
         ∙ ap (λ b. cond b (n ∷ numbers_of lists k) (numbers_of lists k)) ((eq_by_cmp_equiv keys_total).refl k)
 
-    less : without n (numbers_of (with_new lists k n) k) ≡ numbers_of lists k
-    less = ap (without n) here
-        ∙ ap (λ b. cond (not b) (n ∷ without n (numbers_of lists k)) (without n (numbers_of lists k))) (eq-eqb n n refl)
+    less : without_number n (numbers_of (with_new lists k n) k) ≡ numbers_of lists k
+    less = ap (without_number n) here
+        ∙ ap (λ b. cond (not b) (n ∷ without_number n (numbers_of lists k)) (without_number n (numbers_of lists k))) (eq-eqb n n refl)
         ∙ without_absent n (numbers_of lists k) (unused.at k)
 
     go : (b : Bool) → eq_by_cmp key_cmp q k ≡ b
-        → cond b (without n (numbers_of (with_new lists k n) k)) (numbers_of (with_new lists k n) q) ≡ numbers_of lists q
+        → cond b (without_number n (numbers_of (with_new lists k n) k)) (numbers_of (with_new lists k n) q) ≡ numbers_of lists q
     go true e = less ∙ ap (numbers_of lists) (sym (tells_apart exact_keys q k e))
     go false e = numbers_with lists k (n ∷ numbers_of lists k) q ∙ ap (λ b. cond b (n ∷ numbers_of lists k) (numbers_of lists q)) e
 

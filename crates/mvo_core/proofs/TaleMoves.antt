@@ -7,65 +7,63 @@ use Rattle.mvo_types.specs.declared.ids.Stamp.{Stamp}
 use Rattle.mvo_theory.specs.State.{StampedTx}
 use Rattle.mvo_theory.specs.Changes.{with_settled, with_check, with_flag, not_at}
 use Rattle.mvo_theory.specs.Sound.{IsRising}
-use Rattle.mvo_tale.specs.declared.slot.Slot.{Slot}
-use Rattle.mvo_tale.specs.declared.slot.Slot.TheVariants.{Open, Settled, Empty}
+use Rattle.mvo_tale.specs.declared.tale_place.TalePlace.{TalePlace}
+use Rattle.mvo_tale.specs.declared.tale_place.TalePlace.TheVariants.{Open, Settled, Empty}
 use Rattle.mvo_tale.specs.Stored.{StoredCommit}
 use Rattle.mvo_tale.specs.Slots.{open_end_of, open_end_at, and_place, without_empty_back, or_all, closed_up}
 use Rattle.mvo_tale.specs.Timeline.{IsStoredAs, IsPlaceOf, ArePlacesOf}
+use Rattle.mvo_tale.proofs.Rising.{same_end}
 
-none_end : (e : ℕ) → ◌≡◌ {A = Option ℕ} None (Some e) → ⊥
+pub none_end : (e : ℕ) → ◌≡◌ {A = Option ℕ} None (Some e) → ⊥
 none_end e h = cc
-
-same_end : (d e : ℕ) → ◌≡◌ {A = Option ℕ} (Some d) (Some e) → d ≡ e
-same_end d e h = cc
 
 -- ---- the open places of others
 apart_ends : (o : Option ℕ) (e d : ℕ) → o ≡ Some e → o ≡ Some d → d ≢ e → ⊥
 apart_ends o e d p q ne = ne (same_end d e (sym q ∙ p))
 
-pub open_beside : (slots : List Slot) (p q : ℕ) (y : Slot) (e d : ℕ) → open_end_at slots p ≡ Some e → open_end_at slots q ≡ Some d → d ≢ e → open_end_at (slice_set slots p y) q ≡ Some d
+pub open_beside : (slots : List TalePlace) (p q : ℕ) (y : TalePlace) (e d : ℕ) → open_end_at slots p ≡ Some e → open_end_at slots q ≡ Some d → d ≢ e → open_end_at (slice_set slots p y) q ≡ Some d
 open_beside [] p q y e d at h ne = absurd (none_end d h)
 open_beside (x ∷ xs) zero zero y e d at h ne = absurd (apart_ends (open_end_of x) e d at h ne)
 open_beside (x ∷ xs) zero (suc q) y e d at h ne = h
 open_beside (x ∷ xs) (suc p) zero y e d at h ne = h
 open_beside (x ∷ xs) (suc p) (suc q) y e d at h ne = open_beside xs p q y e d at h ne
 
-kept_first : (x : Slot) (ys : List Slot) (d : ℕ) → open_end_of x ≡ Some d → open_end_at (and_place x ys) zero ≡ Some d
+kept_first : (x : TalePlace) (ys : List TalePlace) (d : ℕ) → open_end_of x ≡ Some d → open_end_at (and_place x ys) zero ≡ Some d
 kept_first (Open e) [] d h = h
 kept_first (Open e) (y ∷ ys) d h = h
 kept_first (Settled c) ys d h = absurd (none_end d h)
 kept_first Empty ys d h = absurd (none_end d h)
 
-kept_later : (x : Slot) (ys : List Slot) (q d : ℕ) → open_end_at ys q ≡ Some d → open_end_at (and_place x ys) (suc q) ≡ Some d
+kept_later : (x : TalePlace) (ys : List TalePlace) (q d : ℕ) → open_end_at ys q ≡ Some d → open_end_at (and_place x ys) (suc q) ≡ Some d
 kept_later x [] q d h = absurd (none_end d h)
 kept_later x (y ∷ ys) q d h = h
 
-open_without : (slots : List Slot) (q d : ℕ) → open_end_at slots q ≡ Some d → open_end_at (without_empty_back slots) q ≡ Some d
+open_without : (slots : List TalePlace) (q d : ℕ) → open_end_at slots q ≡ Some d → open_end_at (without_empty_back slots) q ≡ Some d
 open_without [] q d h = absurd (none_end d h)
 open_without (x ∷ xs) zero d h = kept_first x (without_empty_back xs) d h
 open_without (x ∷ xs) (suc q) d h = kept_later x (without_empty_back xs) q d (open_without xs q d h)
 
-open_closed : (slots : List Slot) (q d : ℕ) → open_end_at slots q ≡ Some d → open_end_at (closed_up slots) q ≡ Some d
+open_closed : (slots : List TalePlace) (q d : ℕ) → open_end_at slots q ≡ Some d → open_end_at (closed_up slots) q ≡ Some d
 open_closed slots q d h = go (without_empty_back slots) (open_without slots q d h)
   where
-    go : (ws : List Slot) → open_end_at ws q ≡ Some d → open_end_at (or_all slots ws) q ≡ Some d
+    go : (ws : List TalePlace) → open_end_at ws q ≡ Some d → open_end_at (or_all slots ws) q ≡ Some d
     go [] k = h
     go (w ∷ ws) k = k
 
-pub open_left : (slots : List Slot) (p q e d : ℕ) → open_end_at slots p ≡ Some e → open_end_at slots q ≡ Some d → d ≢ e → open_end_at (closed_up (slice_set slots p Empty)) q ≡ Some d
+pub open_left : (slots : List TalePlace) (p q e d : ℕ) → open_end_at slots p ≡ Some e → open_end_at slots q ≡ Some d → d ≢ e → open_end_at (closed_up (slice_set slots p Empty)) q ≡ Some d
 open_left slots p q e d at h ne = open_closed (slice_set slots p Empty) q d (open_beside slots p q Empty e d at h ne)
 
-pub open_behind : (slots : List Slot) (y : Slot) (q d : ℕ) → open_end_at slots q ≡ Some d → open_end_at (slots ++ y ∷ []) q ≡ Some d
+pub open_behind : (slots : List TalePlace) (y : TalePlace) (q d : ℕ) → open_end_at slots q ≡ Some d → open_end_at (slots ++ y ∷ []) q ≡ Some d
 open_behind [] y q d h = absurd (none_end d h)
 open_behind (x ∷ xs) y zero d h = h
 open_behind (x ∷ xs) y (suc q) d h = open_behind xs y q d h
 
-pub open_last : (slots : List Slot) (e : Stamp) → open_end_at (slots ++ Open e ∷ []) (length slots) ≡ Some e.0
+pub open_last : (slots : List TalePlace) (e : Stamp) → open_end_at (slots ++ Open e ∷ []) (length slots) ≡ Some e.0
 open_last [] e = refl
 open_last (x ∷ xs) e = open_last xs e
 
 -- ---- an end at an open place is that of one behind
-end_among : (slots : List Slot) (xs : List StampedTx) (p d e : ℕ) → ArePlacesOf slots xs → open_end_at slots p ≡ Some e → AllByRecursion (λ y. d < y.end) xs → d < e
+end_among : (slots : List TalePlace) (xs : List StampedTx) (p d e : ℕ) → ArePlacesOf slots xs → open_end_at slots p ≡ Some e → AllByRecursion (λ y. d < y.end) xs → d < e
 end_among [] xs p d e h at k = absurd (none_end e at)
 end_among (Open f ∷ slots) [] p d e h at k = absurd h
 end_among (Open f ∷ slots) (x ∷ xs) zero d e h at k =
@@ -108,7 +106,7 @@ or_right false b p = p
 settled_as : (e : ℕ) (c : StoredCommit) (x : StampedTx) → IsStoredAs c x → IsStoredAs c (with_settled e x)
 settled_as e c x h = record { settled = or_left x.settled (x.end == e) h.settled; id = h.id; end' = h.end'; history = h.history }
 
-others_settled : (e : ℕ) (slots : List Slot) (xs : List StampedTx) → ArePlacesOf slots xs → AllByRecursion (λ y. e < y.end) xs → ArePlacesOf slots (map (with_settled e) xs)
+others_settled : (e : ℕ) (slots : List TalePlace) (xs : List StampedTx) → ArePlacesOf slots xs → AllByRecursion (λ y. e < y.end) xs → ArePlacesOf slots (map (with_settled e) xs)
 others_settled e [] [] h k = tt
 others_settled e [] (x ∷ xs) h k = absurd h
 others_settled e (Open d ∷ slots) [] h k = absurd h
@@ -118,7 +116,7 @@ others_settled e (Settled c ∷ slots) (x ∷ xs) h k = (settled_as e c x h.0, o
 others_settled e (Empty ∷ slots) [] h k = others_settled e slots [] h k
 others_settled e (Empty ∷ slots) (x ∷ xs) h k = others_settled e slots (x ∷ xs) h k
 
-pub places_settled : (slots : List Slot) (xs : List StampedTx) (p : ℕ) (c : StoredCommit) → ArePlacesOf slots xs → IsRising xs → open_end_at slots p ≡ Some c.end → AllByRecursion (IsCommitOf c) xs
+pub places_settled : (slots : List TalePlace) (xs : List StampedTx) (p : ℕ) (c : StoredCommit) → ArePlacesOf slots xs → IsRising xs → open_end_at slots p ≡ Some c.end → AllByRecursion (IsCommitOf c) xs
     → ArePlacesOf (slice_set slots p (Settled c)) (map (with_settled c.end) xs)
 places_settled [] xs p c h r at k = absurd (none_end c.end at)
 places_settled (Open d ∷ slots) [] p c h r at k = absurd h
@@ -154,7 +152,7 @@ none_out : (e : ℕ) (xs : List StampedTx) → AllByRecursion (λ y. e < y.end) 
 none_out e [] k = refl
 none_out e (x ∷ xs) k = ap (λ ys. x ∷ ys) (none_out e xs k.1) ∙ filter_kept e x xs (above_apart x.end e k.0)
 
-pub places_emptied : (slots : List Slot) (xs : List StampedTx) (p e : ℕ) → ArePlacesOf slots xs → IsRising xs → open_end_at slots p ≡ Some e → ArePlacesOf (slice_set slots p Empty) (filter (not_at e) xs)
+pub places_emptied : (slots : List TalePlace) (xs : List StampedTx) (p e : ℕ) → ArePlacesOf slots xs → IsRising xs → open_end_at slots p ≡ Some e → ArePlacesOf (slice_set slots p Empty) (filter (not_at e) xs)
 places_emptied [] xs p e h r at = absurd (none_end e at)
 places_emptied (Open d ∷ slots) [] p e h r at = absurd h
 places_emptied (Open d ∷ slots) (x ∷ xs) zero e h r at =
@@ -162,7 +160,7 @@ places_emptied (Open d ∷ slots) (x ∷ xs) zero e h r at =
     let rest : xs ≡ filter (not_at e) (x ∷ xs) = none_out e xs (subst (λ (n : ℕ). AllByRecursion (λ y. n < y.end) xs) is r.0) ∙ filter_out e x xs is in
     emptied slots (filter (not_at e) (x ∷ xs)) (subst (ArePlacesOf slots) rest h.1)
   where
-    emptied : (slots : List Slot) (ys : List StampedTx) → ArePlacesOf slots ys → ArePlacesOf (Empty ∷ slots) ys
+    emptied : (slots : List TalePlace) (ys : List StampedTx) → ArePlacesOf slots ys → ArePlacesOf (Empty ∷ slots) ys
     emptied slots [] g = g
     emptied slots (y ∷ ys) g = g
 places_emptied (Open d ∷ slots) (x ∷ xs) (suc p) e h r at =
@@ -180,7 +178,7 @@ places_emptied (Empty ∷ slots) (x ∷ xs) (suc p) e h r at = go (filter (not_a
     go [] g = g
     go (y ∷ ys) g = g
 
-pub places_flagged : (t e : ℕ) (slots : List Slot) (xs : List StampedTx) → ArePlacesOf slots xs → ArePlacesOf slots (map (with_flag t e) xs)
+pub places_flagged : (t e : ℕ) (slots : List TalePlace) (xs : List StampedTx) → ArePlacesOf slots xs → ArePlacesOf slots (map (with_flag t e) xs)
 places_flagged t e [] [] h = tt
 places_flagged t e [] (x ∷ xs) h = absurd h
 places_flagged t e (Open d ∷ slots) [] h = absurd h
@@ -190,20 +188,20 @@ places_flagged t e (Settled c ∷ slots) (x ∷ xs) h = (record { settled = h.0.
 places_flagged t e (Empty ∷ slots) [] h = places_flagged t e slots [] h
 places_flagged t e (Empty ∷ slots) (x ∷ xs) h = places_flagged t e slots (x ∷ xs) h
 
-empty_and : (ys : List Slot) (xs : List StampedTx) → ArePlacesOf ys xs → ArePlacesOf (and_place Empty ys) xs
+empty_and : (ys : List TalePlace) (xs : List StampedTx) → ArePlacesOf ys xs → ArePlacesOf (and_place Empty ys) xs
 empty_and [] xs h = h
 empty_and (y ∷ ys) [] h = h
 empty_and (y ∷ ys) (x ∷ xs) h = h
 
-open_and : (d : Stamp) (ys : List Slot) (x : StampedTx) (xs : List StampedTx) → IsPlaceOf (Open d) x → ArePlacesOf ys xs → ArePlacesOf (and_place (Open d) ys) (x ∷ xs)
+open_and : (d : Stamp) (ys : List TalePlace) (x : StampedTx) (xs : List StampedTx) → IsPlaceOf (Open d) x → ArePlacesOf ys xs → ArePlacesOf (and_place (Open d) ys) (x ∷ xs)
 open_and d [] x xs g h = (g, h)
 open_and d (y ∷ ys) x xs g h = (g, h)
 
-settled_and : (c : StoredCommit) (ys : List Slot) (x : StampedTx) (xs : List StampedTx) → IsPlaceOf (Settled c) x → ArePlacesOf ys xs → ArePlacesOf (and_place (Settled c) ys) (x ∷ xs)
+settled_and : (c : StoredCommit) (ys : List TalePlace) (x : StampedTx) (xs : List StampedTx) → IsPlaceOf (Settled c) x → ArePlacesOf ys xs → ArePlacesOf (and_place (Settled c) ys) (x ∷ xs)
 settled_and c [] x xs g h = (g, h)
 settled_and c (y ∷ ys) x xs g h = (g, h)
 
-places_without : (slots : List Slot) (xs : List StampedTx) → ArePlacesOf slots xs → ArePlacesOf (without_empty_back slots) xs
+places_without : (slots : List TalePlace) (xs : List StampedTx) → ArePlacesOf slots xs → ArePlacesOf (without_empty_back slots) xs
 places_without [] xs h = h
 places_without (Open d ∷ slots) [] h = absurd h
 places_without (Open d ∷ slots) (x ∷ xs) h = open_and d (without_empty_back slots) x xs h.0 (places_without slots xs h.1)
@@ -212,15 +210,15 @@ places_without (Settled c ∷ slots) (x ∷ xs) h = settled_and c (without_empty
 places_without (Empty ∷ slots) [] h = empty_and (without_empty_back slots) [] (places_without slots [] h)
 places_without (Empty ∷ slots) (x ∷ xs) h = empty_and (without_empty_back slots) (x ∷ xs) (places_without slots (x ∷ xs) h)
 
-pub places_closed : (slots : List Slot) (xs : List StampedTx) → ArePlacesOf slots xs → ArePlacesOf (closed_up slots) xs
+pub places_closed : (slots : List TalePlace) (xs : List StampedTx) → ArePlacesOf slots xs → ArePlacesOf (closed_up slots) xs
 places_closed slots xs h = go (without_empty_back slots) (places_without slots xs h)
   where
-    go : (ws : List Slot) → ArePlacesOf ws xs → ArePlacesOf (or_all slots ws) xs
+    go : (ws : List TalePlace) → ArePlacesOf ws xs → ArePlacesOf (or_all slots ws) xs
     go [] k = h
     go (w ∷ ws) k = k
 
 -- ---- a check leaves them
-pub places_checked : (e : ℕ) (v : Bool) (slots : List Slot) (xs : List StampedTx) → ArePlacesOf slots xs → ArePlacesOf slots (map (with_check e v) xs)
+pub places_checked : (e : ℕ) (v : Bool) (slots : List TalePlace) (xs : List StampedTx) → ArePlacesOf slots xs → ArePlacesOf slots (map (with_check e v) xs)
 places_checked e v [] [] h = tt
 places_checked e v [] (x ∷ xs) h = absurd h
 places_checked e v (Open d ∷ slots) [] h = absurd h

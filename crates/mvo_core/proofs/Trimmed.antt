@@ -20,7 +20,7 @@ use Rattle.mvo_theory.proofs.Each.{each_filter, each_weaker}
 use Rattle.mvo_theory.proofs.Kept.{kept_trimmed}
 use Rattle.mvo_txn.specs.Txns.{state_of, IsOldestBegin, IsLowWater}
 use Rattle.mvo_deps.specs.declared.node.Node.{Node}
-use Rattle.mvo_tale.specs.declared.slot.Slot.{Slot}
+use Rattle.mvo_tale.specs.declared.tale_place.TalePlace.{TalePlace}
 use Rattle.mvo_tale.specs.Forgetting.{forgotten}
 use Rattle.mvo_tale.proofs.KeptPlaces.{tale_trimmed, tale_forgotten}
 use Rattle.mvo_tale.proofs.Moving.{grouped_forgotten}
@@ -40,14 +40,14 @@ use Rattle.mvo_representation.proofs.TableMarks.{oldest_begin_is, low_water_is}
 use Rattle.mvo_representation.proofs.TableSteps.{table_trimmed}
 use Rattle.mvo_representation.proofs.WordsKept.{trim_keeps_lists}
 use Rattle.mvo_collect.proofs.Over.{over_trimmed}
-use Rattle.mvo_core.specs.declared.transaction.Transaction.{Transaction}
+use Rattle.mvo_core.specs.declared.kept_transaction.KeptTransaction.{KeptTransaction}
 use Rattle.mvo_core.specs.Data.{CoreData}
-use Rattle.mvo_core.specs.Standing.{StandsFor, IsPreparing, words_in}
+use Rattle.mvo_core.specs.Standing.{StandsFor, IsKeptPreparing, words_in}
 use Rattle.mvo_core.specs.Steps.{LeadsOn}
-use Rattle.mvo_core.specs.Trimming.{is_within, IsTaleOf}
+use Rattle.mvo_core.specs.Trimming.{may_trim_to, IsTaleOf}
 use Rattle.mvo_core.proofs.KeptTale.{open_forgotten, stored_is}
 
-trim_in_table : TrimInTable Transaction
+trim_in_table : TrimInTable KeptTransaction
 trim_in_table = table_trimmed
 
 trim_in_order : TrimKeepsOrder
@@ -56,10 +56,10 @@ trim_in_order = trim_keeps_order
 trim_in_lists : TrimKeepsLists
 trim_in_lists = trim_keeps_lists
 
-oldest_told : TellsOldestBegin (Node Transaction)
+oldest_told : TellsOldestBegin (Node KeptTransaction)
 oldest_told = oldest_begin_is
 
-low_water_told : TellsLowWater (Node Transaction)
+pub low_water_told : TellsLowWater (Node KeptTransaction)
 low_water_told = low_water_is
 
 -- ---- what is both trimmed and in a group is forgotten
@@ -71,7 +71,7 @@ stands_forgotten opening steps s c h upto trimmed grouped = record {
   order = h.order;
   works = record {
     active = h.works.active;
-    preparing = each_weaker (λ x. x.settled ≡ false → IsPreparing c.table c.tale x) (λ x. x.settled ≡ false → IsPreparing c.table (forgotten upto c.tale) x)
+    preparing = each_weaker (λ x. x.settled ≡ false → IsKeptPreparing c.table c.tale x) (λ x. x.settled ≡ false → IsKeptPreparing c.table (forgotten upto c.tale) x)
         (λ x w open'. let p = w open' in record {
           own = p.own;
           kept = p.kept;
@@ -101,23 +101,23 @@ module _ (opening : Map) (steps : List Step) (s : State) (c : CoreData) (h : Sta
 
   module _ (m oldest low : ℕ) (begin : IsOldestBegin c.table oldest) (water : IsLowWater c.table low) where
     -- ---- the three tests
-    test_is : is_trim s m ≡ is_within m c.start oldest low
+    test_is : is_trim s m ≡ may_trim_to m c.start oldest low
     test_is =
         let o = oldest_told opening steps s c.table oldest h.versions.kept h.dependencies.stands begin in
         let l = low_water_told opening steps s c.table low h.versions.kept h.dependencies.stands water in
         λ i. nat_lt (h.start i) m && (nat_le m (sym o i) && nat_le m (sym l i))
 
-    why_is : (b : Bool) → is_within m c.start oldest low ≡ b → why_not_trim s m ≡ first_cause (when (not b) NothingToDo ∷ [])
+    why_is : (b : Bool) → may_trim_to m c.start oldest low ≡ b → why_not_trim s m ≡ first_cause (when (not b) NothingToDo ∷ [])
     why_is b e = ap (λ (d : Bool). first_cause (when (not d) NothingToDo ∷ [])) (test_is ∙ e)
 
-    pub trim_refused : is_within m c.start oldest low ≡ false → LeadsOn opening steps s (Trim m) (Refused NothingToDo) c
+    pub trim_refused : may_trim_to m c.start oldest low ≡ false → LeadsOn opening steps s (Trim m) (Refused NothingToDo) c
     trim_refused isnt = record {
       may = subst (λ o. IsRefusal true o NothingToDo) (sym (why_is false isnt)) refl;
       stands = subst (λ ys. StandsFor opening ys s c) (sym (append-nil steps)) h;
     }
 
     -- ---- what is up to the new start goes into its rows
-    module _ (yes : is_within m c.start oldest low ≡ true) where
+    module _ (yes : may_trim_to m c.start oldest low ≡ true) where
       free : why_not_trim s m ≡ None
       free = why_is true yes
 
@@ -144,7 +144,7 @@ module _ (opening : Map) (steps : List Step) (s : State) (c : CoreData) (h : Sta
         order = trim_in_order opening steps s (state_of c.table) c.versions.slots c.versions.lists c.versions.places m h.versions free h.order;
         works = record {
           active = h.works.active;
-          preparing = each_filter (λ x. not (is_to m x)) (λ x. x.settled ≡ false → IsPreparing c.table c.tale x) (λ x. x.settled ≡ false → IsPreparing c.table c.tale x) (λ x e w. w) s.stamped h.works.preparing;
+          preparing = each_filter (λ x. not (is_to m x)) (λ x. x.settled ≡ false → IsKeptPreparing c.table c.tale x) (λ x. x.settled ≡ false → IsKeptPreparing c.table c.tale x) (λ x e w. w) s.stamped h.works.preparing;
         };
         words = trim_in_lists opening steps s (state_of c.table) c.versions.slots c.versions.lists c.versions.places (words_in c.table) m h.versions free h.words;
         tale = tale_trimmed s m c.tale h.versions.kept.sound.rising (omega (arith, above)) h.tale;
@@ -154,7 +154,7 @@ module _ (opening : Map) (steps : List Step) (s : State) (c : CoreData) (h : Sta
         over = over_trimmed s m free h.over;
       }
 
-      pub trim_leads : (tale : List Slot) → tale ≡ forgotten (min m c.closed) c.tale → LeadsOn opening steps s (Trim m) Accepted (record c { start = m; tale = tale })
+      pub trim_leads : (tale : List TalePlace) → tale ≡ forgotten (min m c.closed) c.tale → LeadsOn opening steps s (Trim m) Accepted (record c { start = m; tale = tale })
       trim_leads tale left = record {
         may = (free, tt);
         stands = subst (λ ys. StandsFor opening ys (after_trim s m) (record c { start = m; tale = tale })) (sym (append-nil steps))

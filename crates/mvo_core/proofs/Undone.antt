@@ -25,7 +25,7 @@ use Rattle.mvo_deps.specs.declared.node.Node.{Node}
 use Rattle.mvo_deps.specs.Data as deps
 use Rattle.mvo_deps.specs.Nodes.{IsReported}
 use Rattle.mvo_deps.specs.Graph.{KeepsGraphAtAbort}
-use Rattle.mvo_tale.specs.declared.slot.Slot.{Slot}
+use Rattle.mvo_tale.specs.declared.tale_place.TalePlace.{TalePlace}
 use Rattle.mvo_tale.specs.Slots.{open_end_at}
 use Rattle.mvo_tale.proofs.Moving.{grouped_left}
 use Rattle.mvo_representation.specs.Table.{phase_as, phases_of}
@@ -33,10 +33,10 @@ use Rattle.mvo_representation.specs.Order.{MayAbort, is_put_by, with_fronts}
 use Rattle.mvo_representation.specs.WordLists.{HasWordLists}
 use Rattle.mvo_representation.proofs.Facts.{found_holds}
 use Rattle.mvo_versions.specs.Data.{VersionsData}
-use Rattle.mvo_core.specs.declared.transaction.Transaction.{Transaction}
+use Rattle.mvo_core.specs.declared.kept_transaction.KeptTransaction.{KeptTransaction}
 use Rattle.mvo_core.specs.Data.{CoreData, own_of}
 use Rattle.mvo_core.specs.Own.{own_place}
-use Rattle.mvo_core.specs.Standing.{StandsFor, Stands, IsActive, IsPreparing, HasWorks, words_in}
+use Rattle.mvo_core.specs.Standing.{StandsFor, Stands, IsKeptActive, IsKeptPreparing, HasWorks, words_in}
 use Rattle.mvo_core.specs.Causes.{why_not_undo}
 use Rattle.mvo_core.specs.Aborting.{HasOpenPlace, tale_left}
 use Rattle.mvo_core.specs.Fronts.{numbers_in, AreInFront}
@@ -78,14 +78,14 @@ module _ (opening : Map) (steps : List Step) (s : State) (c : CoreData) (h : Sta
     pub found : preparing_of t s.stamped ≡ Some x
     pub is : x.id ≡ t
     pub unsettled : x.settled ≡ false
-    pub own : Transaction
+    pub own : KeptTransaction
     pub kept : own_of c.table t ≡ Some own
-    pub same : IsPreparing c.table c.tale x
+    pub same : IsKeptPreparing c.table c.tale x
     pub own_is : same.own ≡ own
 
   pub kept_of_preparing : (t : ℕ) (x : StampedTx) → preparing_of t s.stamped ≡ Some x → IsKeptOfPreparing t x
   kept_of_preparing t x f =
-      let p = found_holds (λ y. y.settled ≡ false → IsPreparing c.table c.tale y) t s.stamped x f h.works.preparing in
+      let p = found_holds (λ y. y.settled ≡ false → IsKeptPreparing c.table c.tale y) t s.stamped x f h.works.preparing in
       let k = p.0 p.2 in
       record {
         found = f;
@@ -112,14 +112,14 @@ module _ (opening : Map) (steps : List Step) (s : State) (c : CoreData) (h : Sta
       go (Some Aborted) was = tt
 
   -- ---- what the state has beside versions and dependencies
-  module _ (t : ℕ) (table : Txns (Node Transaction)) (w : HasWorks s table c.tale) where
+  module _ (t : ℕ) (table : Txns (Node KeptTransaction)) (w : HasWorks s table c.tale) where
     abbrev place : ℕ
     place = own_place (own_of c.table t)
 
     rest_of_active : HasRest (after_abort_of s t None) table c.tale c
     rest_of_active = record {
       works = record {
-        active = each_filter (λ r. not (r.id == t)) (IsActive table) (IsActive table) (λ r e p. p) s.active w.active;
+        active = each_filter (λ r. not (r.id == t)) (IsKeptActive table) (IsKeptActive table) (λ r e p. p) s.active w.active;
         preparing = w.preparing;
       };
       tale = h.tale;
@@ -131,11 +131,11 @@ module _ (opening : Map) (steps : List Step) (s : State) (c : CoreData) (h : Sta
     rest_of_preparing : (e : Stamp) (x : StampedTx) → preparing_of t s.stamped ≡ Some x → HasRest (after_abort_of s t (Some x)) table (tale_left (Some (Preparing e)) c.tale place) c
     rest_of_preparing e x f = record {
       works = record {
-        active = each_map (active_with_flag t x.end) (IsActive table) (IsActive table) (λ r p. record { own = p.own; kept = p.kept; history = p.history }) s.active w.active;
-        preparing = each_map (with_flag t x.end) (λ y. y.settled ≡ false → IsPreparing table left y) (λ y. y.settled ≡ false → IsPreparing table left y)
+        active = each_map (active_with_flag t x.end) (IsKeptActive table) (IsKeptActive table) (λ r p. record { own = p.own; kept = p.kept; history = p.history }) s.active w.active;
+        preparing = each_map (with_flag t x.end) (λ y. y.settled ≡ false → IsKeptPreparing table left y) (λ y. y.settled ≡ false → IsKeptPreparing table left y)
             (λ y p open'. let q = p open' in record { own = q.own; kept = q.kept; history = q.history; checked = q.checked; valid = q.valid; place = q.place })
             (filter (not_at x.end) s.stamped)
-            (each_filter (not_at x.end) (λ y. y.settled ≡ false → IsPreparing table c.tale y) (λ y. y.settled ≡ false → IsPreparing table left y)
+            (each_filter (not_at x.end) (λ y. y.settled ≡ false → IsKeptPreparing table c.tale y) (λ y. y.settled ≡ false → IsKeptPreparing table left y)
             (λ y ne p open'. let q = p open' in record {
               own = q.own;
               kept = q.kept;
@@ -151,7 +151,7 @@ module _ (opening : Map) (steps : List Step) (s : State) (c : CoreData) (h : Sta
       grouped = grouped_left c.tale c.grouped c.closed place (ap is_some at) h.grouped;
       start = h.start;
     } where
-      left : List Slot
+      left : List TalePlace
       left = tale_left (Some (Preparing e)) c.tale place
 
       at : open_end_at c.tale place ≡ Some x.end
@@ -167,7 +167,7 @@ module _ (opening : Map) (steps : List Step) (s : State) (c : CoreData) (h : Sta
     rest_aborted (Some Aborted) was un = absurd un
 
   -- ---- the core
-  module _ (t : TxId) (unended : IsUnended (state_of c.table t.0)) (untold table : Txns (Node Transaction)) (is : untold ≡ txns.after_change c.table t.0 Aborted) (told : IsReported (deps.after_abort t) untold table t) (graph : KeepsGraphAtAbort untold table t) where
+  module _ (t : TxId) (unended : IsUnended (state_of c.table t.0)) (untold table : Txns (Node KeptTransaction)) (is : untold ≡ txns.table_after_change c.table t.0 Aborted) (told : IsReported (deps.after_dependency_abort t) untold table t) (graph : KeepsGraphAtAbort untold table t) where
     may : MayCome s (Rollback t.0) Accepted
     may = (sym (not_undone_is opening steps s c h t.0) ∙ may_undo (state_of c.table t.0) unended, tt)
 
@@ -178,13 +178,13 @@ module _ (opening : Map) (steps : List Step) (s : State) (c : CoreData) (h : Sta
     numbers = numbers_in (words_in table t.0)
 
     same_words : words_in c.table ≡ words_in table
-    same_words = words_same (deps.after_abort t) c.table untold table t Aborted is told
+    same_words = words_same (deps.after_dependency_abort t) c.table untold table t Aborted is told
 
     works : HasWorks s table c.tale
-    works = works_carried s c.table table c.tale (says_same (deps.after_abort t) c.table untold table t Aborted is told) h.works
+    works = works_carried s c.table table c.tale (says_same (deps.after_dependency_abort t) c.table untold table t Aborted is told) h.works
 
     here : state_of table t.0 ≡ Some Aborted
-    here = let was = was_state (state_of c.table t.0) unended in stands_now (deps.after_abort t) c.table untold table t Aborted is told was.0 was.1
+    here = let was = was_state (state_of c.table t.0) unended in stands_now (deps.after_dependency_abort t) c.table untold table t Aborted is told was.0 was.1
 
     undone : StandsFor opening (steps ++ Aborts t.0 ∷ []) (after_abort s t.0) (record c {
       versions = record c.versions { lists = with_fronts (is_put_by t.0) c.versions.slots c.versions.lists numbers };
@@ -195,22 +195,22 @@ module _ (opening : Map) (steps : List Step) (s : State) (c : CoreData) (h : Sta
         (fronts_in_numbers (is_put_by t.0) c.versions.slots c.versions.lists numbers h.versions.numbers)
         (abort_in_table opening steps s c.table untold table t h.versions.kept h.dependencies unended is told graph)
         (abort_in_order opening steps s (state_of c.table) (state_of table) c.versions.slots c.versions.lists c.versions.places t.0 numbers h.versions open'
-        (others_stand (deps.after_abort t) c.table untold table t Aborted is told) here
-        (subst (λ (ws : ℕ → List Rattle.mvo_work.specs.declared.word_place.WordPlace.WordPlace). Rattle.mvo_representation.specs.Order.IsWritten t.0 c.versions.slots (numbers_in (ws t.0))) same_words
+        (others_stand (deps.after_dependency_abort t) c.table untold table t Aborted is told) here
+        (subst (λ (ws : ℕ → List Rattle.mvo_work.specs.declared.word_place.WordPlace.WordPlace). Rattle.mvo_representation.specs.Order.AreWrittenBy t.0 c.versions.slots (numbers_in (ws t.0))) same_words
         (lists_are_written opening steps s (state_of c.table) c.versions.slots c.versions.lists c.versions.places (words_in c.table) t.0 h.versions open' h.words))
         h.order)
         (subst (HasWordLists (after_abort s t.0) c.versions.slots) same_words
         (abort_in_lists opening steps s (state_of c.table) c.versions.slots c.versions.lists c.versions.places (words_in c.table) t.0 h.versions open' h.words))
         (rest_aborted t.0 table works (state_of c.table t.0) refl unended)
 
-    pub stands_undone : (versions : VersionsData) (tale : List Slot) → AreInFront (is_put_by t.0) c.versions versions (words_in table t.0) → tale ≡ tale_left (state_of c.table t.0) c.tale (own_place (own_of c.table t.0))
+    pub stands_undone : (versions : VersionsData) (tale : List TalePlace) → AreInFront (is_put_by t.0) c.versions versions (words_in table t.0) → tale ≡ tale_left (state_of c.table t.0) c.tale (own_place (own_of c.table t.0))
         → StandsFor opening (steps ++ Aborts t.0 ∷ []) (after_abort s t.0) (record c { versions = versions; table = table; tale = tale })
     stands_undone versions tale front left =
-        subst (λ (p : VersionsData × List Slot). StandsFor opening (steps ++ Aborts t.0 ∷ []) (after_abort s t.0) (record c { versions = p.0; table = table; tale = p.1 }))
+        subst (λ (p : VersionsData × List TalePlace). StandsFor opening (steps ++ Aborts t.0 ∷ []) (after_abort s t.0) (record c { versions = p.0; table = table; tale = p.1 }))
         (λ i. (record { slots = sym front.slots i; lists = sym front.lists i; places = versions.places }, sym left i))
         (stands_by_places opening _ _ _ versions.places front.places undone)
 
-    pub stands_aborted : IsClosedAt s.marks.closed s → (versions : VersionsData) (tale : List Slot) → AreInFront (is_put_by t.0) c.versions versions (words_in table t.0) → tale ≡ tale_left (state_of c.table t.0) c.tale (own_place (own_of c.table t.0))
+    pub stands_aborted : IsClosedAt s.marks.closed s → (versions : VersionsData) (tale : List TalePlace) → AreInFront (is_put_by t.0) c.versions versions (words_in table t.0) → tale ≡ tale_left (state_of c.table t.0) c.tale (own_place (own_of c.table t.0))
         → Stands (record c { versions = versions; table = table; tale = tale })
     stands_aborted closed versions tale front left = record {
       opening = opening;

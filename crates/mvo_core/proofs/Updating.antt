@@ -27,13 +27,13 @@ use Rattle.mvo_deps.specs.Nodes.{after_register_all}
 use Rattle.mvo_visible.specs.declared.outcome.Shown.{Shown}
 use Rattle.mvo_visible.specs.Words.{States}
 use Rattle.mvo_visible.specs.Versions.{versions_at}
-use Rattle.mvo_visible.specs.Shown.{IsInOrder, shown_to}
+use Rattle.mvo_visible.specs.Shown.{AreVersionsInOrder, shown_to}
 use Rattle.mvo_work.specs.declared.word_place.WordPlace.TheVariants.{Begin, End}
 use Rattle.mvo_representation.specs.Dependencies.{AreDependencies, tx_id}
 use Rattle.mvo_representation.specs.Steps.{ended_by}
 use Rattle.mvo_versions.specs.Data.{VersionsData}
 use Rattle.mvo_versions.specs.Changes.{IsPut, IsReworded}
-use Rattle.mvo_core.specs.declared.transaction.Transaction.{Transaction}
+use Rattle.mvo_core.specs.declared.kept_transaction.KeptTransaction.{KeptTransaction}
 use Rattle.mvo_core.specs.Causes.{why_not_put}
 use Rattle.mvo_core.specs.Data.{CoreData}
 use Rattle.mvo_core.specs.Ending.{IsReplaced, IsLeft}
@@ -71,7 +71,7 @@ module _ (opening : Map) (steps : List Step) (s : State) (c : CoreData) (h : Sta
     behind : why_not_do s t.0 (Update row) ≡ conflicts (conflict s t.0 row.key)
     behind = sym (not_updated_is opening steps s c h t.0 row) ∙ ap (λ o. or_next o (conflicts (conflict s t.0 row.key))) none
 
-    module _ (found : Shown) (is : IsInOrder (state_of c.table) t.0 t.0 (versions_at c.versions.slots c.versions.lists row.key) → found ≡ shown_in c t.0 row.key) where
+    module _ (found : Shown) (is : AreVersionsInOrder (state_of c.table) t.0 t.0 (versions_at c.versions.slots c.versions.lists row.key) → found ≡ shown_in c t.0 row.key) where
       shown : found ≡ shown_in c t.0 row.key
       shown = is (versions_in_order opening steps s c h t.0 here.state row.key)
 
@@ -99,10 +99,10 @@ module _ (opening : Map) (steps : List Step) (s : State) (c : CoreData) (h : Sta
         pub update_starved : LeadsOn opening steps s (Do t.0 (Update row)) (Refused OutOfMemory) c
         update_starved = spent_leads opening steps s t.0 (Update row) c may h
 
-        pub update_spent : (table : Txns (Node Transaction)) → IsWritten c.table table t.0 HasDoneAsMuch → LeadsOn opening steps s (Do t.0 (Update row)) (Refused OutOfMemory) (record c { table = table })
+        pub update_spent : (table : Txns (Node KeptTransaction)) → IsWritten c.table table t.0 HasDoneAsMuch → LeadsOn opening steps s (Do t.0 (Update row)) (Refused OutOfMemory) (record c { table = table })
         update_spent table w = spent_leads opening steps s t.0 (Update row) (record c { table = table }) may (stands_as_much opening steps s c h t.0 table w)
 
-        pub update_left : (versions : VersionsData) (table : Txns (Node Transaction)) → IsLeft c.versions versions c.table table t
+        pub update_left : (versions : VersionsData) (table : Txns (Node KeptTransaction)) → IsLeft c.versions versions c.table table t
             → LeadsOn opening steps s (Do t.0 (Update row)) (Refused OutOfMemory) (record c { versions = versions; table = table })
         update_left versions table w = spent_leads opening steps s t.0 (Update row) (record c { versions = versions; table = table }) may
             (stands_same_versions opening steps s (record c { table = table }) (stands_as_much opening steps s c h t.0 table w.own) versions w.versions
@@ -112,7 +112,7 @@ module _ (opening : Map) (steps : List Step) (s : State) (c : CoreData) (h : Sta
         pub absent_answers : found.version ≡ None → Absent ≡ answer_in s t.0 (Update row)
         absent_answers e = sym (answer_is ∙ ap (λ (o : Option VersionNo). cond (is_some o) Updated Absent) e)
 
-        pub absent_leads : found.version ≡ None → (table : Txns (Node Transaction)) → IsRecorded c.table table t (option_to_list found.depends_on) (Update row) Absent
+        pub absent_leads : found.version ≡ None → (table : Txns (Node KeptTransaction)) → IsRecorded c.table table t (option_to_list found.depends_on) (Update row) Absent
             → LeadsOn opening steps s (Do t.0 (Update row)) Accepted (record c { table = table })
         absent_leads e table w = recorded_leads opening steps s c h t here.tx here.found (Update row) Absent may (absent_answers e) refl (option_to_list found.depends_on) on table w
 
@@ -125,7 +125,7 @@ module _ (opening : Map) (steps : List Step) (s : State) (c : CoreData) (h : Sta
           pub updated_live : IsSome (version_at c.versions.slots n)
           updated_live = ap is_some (shown_there opening steps s c h t.0 here.tx here.found row.key n (ap (λ (x : Shown). x.version) (sym shown) ∙ e)).at
 
-          module _ (versions : VersionsData) (table : Txns (Node Transaction)) (w : IsReplaced c.versions versions c.table table t (option_to_list found.depends_on) n row) where
+          module _ (versions : VersionsData) (table : Txns (Node KeptTransaction)) (w : IsReplaced c.versions versions c.table table t (option_to_list found.depends_on) n row) where
             states : state_of c.table ≡ state_of w.recorded.roomy
             states = λ i u. sym ((own_changed c.table w.recorded.roomy t.0 HasMadeRoom w.recorded.room).states u) i
 

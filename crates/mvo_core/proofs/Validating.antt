@@ -26,11 +26,11 @@ use Rattle.mvo_representation.specs.Order.{AllStandInOrder}
 use Rattle.mvo_representation.specs.WordLists.{HasWordLists}
 use Rattle.mvo_representation.proofs.Facts.{found_holds}
 use Rattle.mvo_representation.proofs.Unsettled.{alone, found_itself, some_same}
-use Rattle.mvo_core.specs.declared.transaction.Transaction.{Transaction}
+use Rattle.mvo_core.specs.declared.kept_transaction.KeptTransaction.{KeptTransaction}
 use Rattle.mvo_core.specs.declared.answers.Validation.TheVariants as validation
 use Rattle.mvo_core.specs.Data.{CoreData, own_of}
 use Rattle.mvo_core.specs.Own.{is_own_valid, own_entry, own_check, is_last_check, checked_as}
-use Rattle.mvo_core.specs.Standing.{StandsFor, IsActive, IsPreparing, words_in}
+use Rattle.mvo_core.specs.Standing.{StandsFor, IsKeptActive, IsKeptPreparing, words_in}
 use Rattle.mvo_core.specs.Causes.{why_not_preparing, flag_of}
 use Rattle.mvo_core.specs.Checking.{change_between, change_for}
 use Rattle.mvo_core.specs.Aborting.{IsGivenUp}
@@ -39,10 +39,11 @@ use Rattle.mvo_core.specs.Steps.{LeadsOn}
 use Rattle.mvo_core.proofs.EndCauses.{not_validated_is, preparing_unended, or_first, or_last}
 use Rattle.mvo_core.proofs.EndLaws.{change_named, stamps_fall, check_in_table, check_in_lists}
 use Rattle.mvo_core.proofs.GivenUp.{validate_given_up}
-use Rattle.mvo_core.proofs.OwnChanged.{IsOwnChanged, own_changed, words_stay, some_own}
+use Rattle.mvo_core.proofs.OwnChanged.{IsOwnChanged, own_changed, words_stay}
 use Rattle.mvo_core.proofs.Rest.{HasRest, preparing_there, stands_then}
 use Rattle.mvo_core.proofs.KeptTale.{tale_checked}
 use Rattle.mvo_core.proofs.Undone.{IsKeptOfPreparing, kept_of_preparing}
+use Rattle.mvo_core.proofs.Carried.{some_own}
 
 -- ---- what is found, and what is refused
 failed_by : (o : Option Stamp) → differs (option_map (λ stamp. stamp.0) o) ≡ option_map ValidationFailed o
@@ -157,7 +158,7 @@ module _ (opening : Map) (steps : List Step) (s : State) (c : CoreData) (h : Sta
       abbrev last : Bool
       last = nat_le (length (entries x.history)) (x.checked + 1)
 
-      last_is : (own : Transaction) → own_of c.table t ≡ Some own → is_last_check own ≡ last
+      last_is : (own : KeptTransaction) → own_of c.table t ≡ Some own → is_last_check own ≡ last
       last_is own w =
           ap is_last_check (some_own own kept.own (sym w ∙ kept.kept) ∙ sym kept.own_is)
           ∙ ap (λ ts. nat_le (length (entries ts)) (kept.same.own.checked + 1)) kept.same.history
@@ -172,7 +173,7 @@ module _ (opening : Map) (steps : List Step) (s : State) (c : CoreData) (h : Sta
           ∙ ap checked_as (last_is kept.own kept.kept)
           ∙ sym (ap (λ (b : Bool). cond b validation.Valid validation.More) (ap is_valid_at found.1 ∙ ap (λ (b : Bool). b || last) x_unvalid))
 
-      module _ (table : Txns (Node Transaction)) (counted : IsWritten c.table table t IsCounted) where
+      module _ (table : Txns (Node KeptTransaction)) (counted : IsWritten c.table table t IsCounted) where
         change : IsOwnChanged c.table table t IsCounted
         change = own_changed c.table table t IsCounted counted
 
@@ -188,7 +189,7 @@ module _ (opening : Map) (steps : List Step) (s : State) (c : CoreData) (h : Sta
         now_valid : (with_check x.end last x).valid ≡ last
         now_valid = ap (λ (b : Bool). cond b last x.valid) same_end
 
-        own_checked : IsPreparing table c.tale (with_check x.end last x)
+        own_checked : IsKeptPreparing table c.tale (with_check x.end last x)
         own_checked = record {
           own = change.after;
           kept = ap (own_of table) kept.is ∙ change.is;
@@ -203,7 +204,7 @@ module _ (opening : Map) (steps : List Step) (s : State) (c : CoreData) (h : Sta
           place = ap (Rattle.mvo_tale.specs.Slots.open_end_at c.tale) (change.changed.place ∙ ap (λ own. own.place) before_is) ∙ kept.same.place;
         }
 
-        beside_checked : (y : StampedTx) → (y.end == x.end) ≡ false → y.id ≢ t → IsPreparing c.table c.tale y → IsPreparing table c.tale (with_check x.end last y)
+        beside_checked : (y : StampedTx) → (y.end == x.end) ≡ false → y.id ≢ t → IsKeptPreparing c.table c.tale y → IsKeptPreparing table c.tale (with_check x.end last y)
         beside_checked y apart ne w = record {
           own = w.own;
           kept = change.beside y.id ne ∙ w.kept;
@@ -216,19 +217,19 @@ module _ (opening : Map) (steps : List Step) (s : State) (c : CoreData) (h : Sta
         abbrev Alone : StampedTx → Type 0
         Alone y = (y.settled ≡ false → (y.id == t) ≡ (y.end == x.end)) × (y.settled ≡ false → preparing_of y.id s.stamped ≡ Some y)
 
-        one_checked : (y : StampedTx) → Alone y → (y.settled ≡ false → IsPreparing c.table c.tale y) → y.settled ≡ false → IsPreparing table c.tale (with_check x.end last y)
+        one_checked : (y : StampedTx) → Alone y → (y.settled ≡ false → IsKeptPreparing c.table c.tale y) → y.settled ≡ false → IsKeptPreparing table c.tale (with_check x.end last y)
         one_checked y a w o =
             ⊎_elim
-            (λ is. subst (λ (z : StampedTx). IsPreparing table c.tale (with_check x.end last z)) (some_same x y (sym found.1 ∙ sym (ap (λ (n : ℕ). preparing_of n s.stamped) is) ∙ a.1 o)) own_checked)
+            (λ is. subst (λ (z : StampedTx). IsKeptPreparing table c.tale (with_check x.end last z)) (some_same x y (sym found.1 ∙ sym (ap (λ (n : ℕ). preparing_of n s.stamped) is) ∙ a.1 o)) own_checked)
             (λ ne. beside_checked y (sym (a.0 o) ∙ ne_eqb y.id t ne) ne (w o))
             (cases_eq y.id t)
 
         rest_checked : HasRest (after_check s x.end last) table c.tale c
         rest_checked = record {
           works = record {
-            active = each_both (λ r. r.id ≢ t) (IsActive c.table) (IsActive table) (λ r ne w. record { own = w.own; kept = change.beside r.id ne ∙ w.kept; history = w.history }) s.active active_beside h.works.active;
-            preparing = each_map (with_check x.end last) (λ y. Alone y × (y.settled ≡ false → IsPreparing c.table c.tale y)) (λ y. y.settled ≡ false → IsPreparing table c.tale y) (λ y p o. one_checked y p.0 p.1 o) s.stamped
-                (each_both Alone (λ y. y.settled ≡ false → IsPreparing c.table c.tale y) (λ y. Alone y × (y.settled ≡ false → IsPreparing c.table c.tale y)) (λ y a b. (a, b)) s.stamped
+            active = each_both (λ r. r.id ≢ t) (IsKeptActive c.table) (IsKeptActive table) (λ r ne w. record { own = w.own; kept = change.beside r.id ne ∙ w.kept; history = w.history }) s.active active_beside h.works.active;
+            preparing = each_map (with_check x.end last) (λ y. Alone y × (y.settled ≡ false → IsKeptPreparing c.table c.tale y)) (λ y. y.settled ≡ false → IsKeptPreparing table c.tale y) (λ y p o. one_checked y p.0 p.1 o) s.stamped
+                (each_both Alone (λ y. y.settled ≡ false → IsKeptPreparing c.table c.tale y) (λ y. Alone y × (y.settled ≡ false → IsKeptPreparing c.table c.tale y)) (λ y a b. (a, b)) s.stamped
                 (each_both (λ y. y.settled ≡ false → (y.id == t) ≡ (y.end == x.end)) (λ y. y.settled ≡ false → preparing_of y.id s.stamped ≡ Some y) Alone (λ y a b. (a, b)) s.stamped
                 (alone s h.versions.kept.single h.versions.kept.sound.rising t x found.1) (found_itself s h.versions.kept.single))
                 h.works.preparing);

@@ -15,9 +15,9 @@ use Rattle.mvo_chain.specs.declared.version.VersionNo.{VersionNo}
 use Rattle.mvo_chain.specs.Slots.{Slots, version_at, with_room, with_slot}
 use Rattle.mvo_hash.specs.Lists.{number}
 use Rattle.mvo_txn.specs.declared.state.TxState.TheVariants.{Active}
-use Rattle.mvo_txn.specs.Txns.{Txns, state_of, kept_of, after_begin, after_terminate}
+use Rattle.mvo_txn.specs.Txns.{Txns, state_of, kept_of, table_after_begin, after_terminate}
 use Rattle.mvo_deps.specs.declared.node.Node.{Node}
-use Rattle.mvo_deps.specs.Data.{DependencyData, is_among, with_dependency, with_dependent}
+use Rattle.mvo_deps.specs.Data.{DependencyData, is_id_among, with_dependency, with_dependent}
 use Rattle.mvo_deps.specs.Nodes.{data_of, after_change_at, after_change, noted_on, after_register, after_register_all}
 use Rattle.mvo_visible.specs.Words.{States}
 use Rattle.mvo_work.specs.declared.word_place.WordPlace.{WordPlace}
@@ -29,18 +29,19 @@ use Rattle.mvo_representation.specs.Table.{phase_as, phases_of}
 use Rattle.mvo_representation.specs.Indexes.{all_versions}
 use Rattle.mvo_representation.specs.OrderLaws.{HaveNow}
 use Rattle.mvo_representation.specs.Steps.{IsOneMore, IsOneChanged, fresh, ended_by}
-use Rattle.mvo_representation.specs.WordLists.{number_at, with_word, finished}
+use Rattle.mvo_representation.specs.WordLists.{number_at_word, with_word, finished}
 use Rattle.mvo_representation.proofs.OrderSlots.{added_is_now, changed_is_now}
 use Rattle.mvo_representation.proofs.Slots.{slot_filled, slot_changed}
 use Rattle.mvo_representation.proofs.TableNodes.{begun_state, begun_others, left_state, left_others}
 use Rattle.mvo_representation.proofs.WordPlaces.{names_there}
+use Rattle.mvo_representation.proofs.Decided.{none_end}
 use Rattle.mvo_collect.specs.declared.ended.Ended.{Ended}
-use Rattle.mvo_collect.specs.Waiting.{WaitingData, AreWaiting, AreRising, waits, is_buried, is_by}
+use Rattle.mvo_collect.specs.Waiting.{WaitingData, AreWaiting, HaveRisingEnds, waits, is_buried, is_by}
 use Rattle.mvo_collect.specs.Collecting.{is_dead_in}
 use Rattle.mvo_collect.specs.Laws.{with_owed, and_dead}
 use Rattle.mvo_collect.proofs.Needed.{open_is_owed}
 use Rattle.mvo_collect.proofs.Awaited.{table_keeps_waiting, room_keeps_waiting, put_keeps_waiting, end_keeps_waiting, finish_keeps_waiting}
-use Rattle.mvo_core.specs.declared.transaction.Transaction.{Transaction}
+use Rattle.mvo_core.specs.declared.kept_transaction.KeptTransaction.{KeptTransaction}
 use Rattle.mvo_core.specs.Collecting.{is_open_end, is_open_end_at, counted_off}
 use Rattle.mvo_core.specs.Ending.{IsRemoved, IsReplaced}
 use Rattle.mvo_core.specs.Finishing.{IsFinalWord, HasPassed, from_own, IsFirstReplaced, IsNextReplaced}
@@ -60,7 +61,7 @@ use Rattle.mvo_core.proofs.SameVersions.{same_all, same_at}
 pub waits_so : (clock : ℕ) (states : States) (slots : Slots) (w w' : WaitingData) → w'.ended ≡ w.ended → w'.dead ≡ w.dead → w'.owed ≡ w.owed → AreWaiting clock states slots w → AreWaiting clock states slots w'
 waits_so clock states slots w w' ended dead owed h = record {
   each = λ n v at. let a = h.each n v at in record { ended = λ e q. ap (waits e n) ended ∙ a.ended e q; dead = λ q. ap (is_buried n) dead ∙ a.dead q; later = a.later };
-  rising = subst AreRising (sym ended) h.rising;
+  rising = subst HaveRisingEnds (sym ended) h.rising;
   drawn = subst (λ (xs : List Ended). AllByRecursion (λ x. x.end.0 ≤ clock) xs) (sym ended) h.drawn;
   owed = h.owed ∙ sym owed;
 }
@@ -72,54 +73,54 @@ pub waits_roomy_ended : (clock : ℕ) (states : States) (slots : Slots) (w w' : 
 waits_roomy_ended clock states slots w w' room is h = waits_so clock states slots w w' (ap (λ (x : WaitingData). x.ended) is) (ap (λ (x : WaitingData). x.dead) is) (ap (λ (x : WaitingData). x.owed) is) h
 
 -- ---- tables where each stands alike
-pub record AreAlike (old new : Txns (Node Transaction)) : Type 0 where
+pub record AreAlike (old new : Txns (Node KeptTransaction)) : Type 0 where
   pub clock : new.clock ≡ old.clock
   pub states : (u : ℕ) → state_of new u ≡ state_of old u
 
-pub alike_twice : (a b c : Txns (Node Transaction)) → AreAlike a b → AreAlike b c → AreAlike a c
+pub alike_twice : (a b c : Txns (Node KeptTransaction)) → AreAlike a b → AreAlike b c → AreAlike a c
 alike_twice a b c p q = record { clock = q.clock ∙ p.clock; states = λ u. q.states u ∙ p.states u }
 
-pub alike_written : (old new : Txns (Node Transaction)) (t : ℕ) (change : Transaction → Transaction → Type 0) → IsWritten old new t change → AreAlike old new
+pub alike_written : (old new : Txns (Node KeptTransaction)) (t : ℕ) (change : KeptTransaction → KeptTransaction → Type 0) → IsWritten old new t change → AreAlike old new
 alike_written old new t change w = record { clock = clock_written old new t change w; states = (own_changed old new t change w).states }
 
-pub clock_changed : (table : Txns (Node Transaction)) (id : ℕ) (f : DependencyData → DependencyData) → (after_change table id f).clock ≡ table.clock
+pub clock_changed : (table : Txns (Node KeptTransaction)) (id : ℕ) (f : DependencyData → DependencyData) → (after_change table id f).clock ≡ table.clock
 clock_changed table id f = go (kept_of table id)
   where
-    go : (o : Option (Node Transaction)) → (after_change_at o table id f).clock ≡ table.clock
+    go : (o : Option (Node KeptTransaction)) → (after_change_at o table id f).clock ≡ table.clock
     go None = refl
     go (Some node) = refl
 
-clock_registered : (table : Txns (Node Transaction)) (t on : TxId) → (after_register table t on).clock ≡ table.clock
-clock_registered table t on = go (is_among on (data_of table t).on) (is_among t (data_of table on).dependents)
+clock_registered : (table : Txns (Node KeptTransaction)) (t on : TxId) → (after_register table t on).clock ≡ table.clock
+clock_registered table t on = go (is_id_among on (data_of table t).on) (is_id_among t (data_of table on).dependents)
   where
     go : (a b : Bool) → (cond a table (cond b table (noted_on table t on))).clock ≡ table.clock
     go true b = refl
     go false true = refl
     go false false = clock_changed (after_change table on.0 (with_dependent t)) t.0 (with_dependency on) ∙ clock_changed table on.0 (with_dependent t)
 
-clock_registered_all : (table : Txns (Node Transaction)) (t : TxId) (ids : List TxId) → (after_register_all table t ids).clock ≡ table.clock
+clock_registered_all : (table : Txns (Node KeptTransaction)) (t : TxId) (ids : List TxId) → (after_register_all table t ids).clock ≡ table.clock
 clock_registered_all table t [] = refl
 clock_registered_all table t (on ∷ ons) = clock_registered_all (after_register table t on) t ons ∙ clock_registered table t on
 
-pub alike_registered : (table : Txns (Node Transaction)) (t : TxId) (ids : List TxId) → AreAlike table (after_register_all table t ids)
+pub alike_registered : (table : Txns (Node KeptTransaction)) (t : TxId) (ids : List TxId) → AreAlike table (after_register_all table t ids)
 alike_registered table t ids = record { clock = clock_registered_all table t ids; states = state_registered_all table t ids }
 
-pub alike_recorded : (old new : Txns (Node Transaction)) (t : TxId) (ids : List TxId) (op : Op) (answer : AnswerData) → IsRecorded old new t ids op answer → AreAlike old new
+pub alike_recorded : (old new : Txns (Node KeptTransaction)) (t : TxId) (ids : List TxId) (op : Op) (answer : AnswerData) → IsRecorded old new t ids op answer → AreAlike old new
 alike_recorded old new t ids op answer w =
     alike_twice old w.roomy new (alike_written old w.roomy t.0 HasMadeRoom w.room)
     (alike_twice w.roomy (after_register_all w.roomy t ids) new (alike_registered w.roomy t ids) (alike_written (after_register_all w.roomy t ids) new t.0 (IsTold op answer) w.told))
 
-pub alike_recorded_with : (old new : Txns (Node Transaction)) (t : TxId) (ids : List TxId) (op : Op) (answer : AnswerData) (put : List WordPlace) → IsRecordedWith old new t ids op answer put → AreAlike old new
+pub alike_recorded_with : (old new : Txns (Node KeptTransaction)) (t : TxId) (ids : List TxId) (op : Op) (answer : AnswerData) (put : List WordPlace) → IsRecordedWith old new t ids op answer put → AreAlike old new
 alike_recorded_with old new t ids op answer put w =
     alike_twice old w.roomy new (alike_written old w.roomy t.0 HasMadeRoom w.room)
     (alike_twice w.roomy (after_register_all w.roomy t ids) new (alike_registered w.roomy t ids) (alike_written (after_register_all w.roomy t ids) new t.0 (HasDoneMore op answer put) w.done))
 
-pub waits_alike : (old new : Txns (Node Transaction)) (slots : Slots) (w : WaitingData) → AreAlike old new → AreWaiting old.clock (state_of old) slots w → AreWaiting new.clock (state_of new) slots w
+pub waits_alike : (old new : Txns (Node KeptTransaction)) (slots : Slots) (w : WaitingData) → AreAlike old new → AreWaiting old.clock (state_of old) slots w → AreWaiting new.clock (state_of new) slots w
 waits_alike old new slots w a h = table_keeps_waiting old.clock new.clock (state_of old) (state_of new) slots w (let c = a.clock in omega (arith, c))
     (λ t e q. ap (λ o. end_in (phase_as o)) (sym (a.states t)) ∙ q) h
 
 -- ---- one stands otherwise, and no word gets a stamp
-pub waits_beside : (old new : Txns (Node Transaction)) (t : ℕ) (slots : Slots) (w : WaitingData) → old.clock ≤ new.clock → ((u : ℕ) → u ≢ t → state_of new u ≡ state_of old u)
+pub waits_beside : (old new : Txns (Node KeptTransaction)) (t : ℕ) (slots : Slots) (w : WaitingData) → old.clock ≤ new.clock → ((u : ℕ) → u ≢ t → state_of new u ≡ state_of old u)
     → ((e : ℕ) → end_in (phase_as (state_of new t)) ≡ Some e → end_in (phase_as (state_of old t)) ≡ Some e) → AreWaiting old.clock (state_of old) slots w → AreWaiting new.clock (state_of new) slots w
 waits_beside old new t slots w le others here h = table_keeps_waiting old.clock new.clock (state_of old) (state_of new) slots w le
     (λ u e q.
@@ -128,16 +129,13 @@ waits_beside old new t slots w le others here h = table_keeps_waiting old.clock 
     (λ ne. ap (λ o. end_in (phase_as o)) (sym (others u ne)) ∙ q)
     (cases_eq u t)) h
 
-none_end : (e : ℕ) → ◌≡◌ {A = Option ℕ} None (Some e) → ⊥
-none_end e q = cc
-
-pub waits_begun : (old new : Txns (Node Transaction)) (node : Node Transaction) (slots : Slots) (w : WaitingData) → new ≡ after_begin old node → AreWaiting old.clock (state_of old) slots w → AreWaiting new.clock (state_of new) slots w
-waits_begun old new node slots w is h = subst (λ (x : Txns (Node Transaction)). AreWaiting x.clock (state_of x) slots w) (sym is)
-    (waits_beside old (after_begin old node) (old.clock + 1) slots w (omega arith) (begun_others old node)
+pub waits_begun : (old new : Txns (Node KeptTransaction)) (node : Node KeptTransaction) (slots : Slots) (w : WaitingData) → new ≡ table_after_begin old node → AreWaiting old.clock (state_of old) slots w → AreWaiting new.clock (state_of new) slots w
+waits_begun old new node slots w is h = subst (λ (x : Txns (Node KeptTransaction)). AreWaiting x.clock (state_of x) slots w) (sym is)
+    (waits_beside old (table_after_begin old node) (old.clock + 1) slots w (omega arith) (begun_others old node)
     (λ e q. absurd (none_end e (ap (λ o. end_in (phase_as o)) (sym (begun_state old node)) ∙ q))) h)
 
-pub waits_gone : (old new : Txns (Node Transaction)) (t : ℕ) (slots : Slots) (w : WaitingData) → new ≡ after_terminate old t → AreWaiting old.clock (state_of old) slots w → AreWaiting new.clock (state_of new) slots w
-waits_gone old new t slots w is h = subst (λ (x : Txns (Node Transaction)). AreWaiting x.clock (state_of x) slots w) (sym is)
+pub waits_gone : (old new : Txns (Node KeptTransaction)) (t : ℕ) (slots : Slots) (w : WaitingData) → new ≡ after_terminate old t → AreWaiting old.clock (state_of old) slots w → AreWaiting new.clock (state_of new) slots w
+waits_gone old new t slots w is h = subst (λ (x : Txns (Node KeptTransaction)). AreWaiting x.clock (state_of x) slots w) (sym is)
     (waits_beside old (after_terminate old t) t slots w (omega arith) (left_others old t)
     (λ e q. absurd (none_end e (ap (λ o. end_in (phase_as o)) (sym (left_state old t)) ∙ q))) h)
 
@@ -185,7 +183,7 @@ waits_ended clock states old new t n b w w' active there r test is h =
     (end_keeps_waiting clock states old.slots new.slots w t n.0 w'.room v.0 active v.1 (changed_here old new n (ended_by t) v.0 v.1 r) (changed_one old new n (ended_by t) v.0 v.1 r) h)
 
 -- ---- an insert
-module _ (old new : VersionsData) (table after : Txns (Node Transaction)) (t : TxId) (ids : List TxId) (w roomy : WaitingData) (room : roomy ≡ record w { room = roomy.room }) where
+module _ (old new : VersionsData) (table after : Txns (Node KeptTransaction)) (t : TxId) (ids : List TxId) (w roomy : WaitingData) (room : roomy ≡ record w { room = roomy.room }) where
   pub waits_inserted : (row : RowData) (last : WaitingData) → IsInserted old new table after t ids row → last ≡ record roomy { owed = roomy.owed + 1; room = roomy.room - 1 }
       → AreWaiting table.clock (state_of table) old.slots w → AreWaiting after.clock (state_of after) new.slots last
   waits_inserted row last p is h =
@@ -230,7 +228,7 @@ owed_for clock states slots w t ps o first h p e =
     let here = first_is (from_own slots t ps) p (sym first ∙ e) in
     open_is_owed clock states slots w t p h (first_named slots t ps p here.rest here.is)
 
-module _ (old new : VersionsData) (table table' end : Txns (Node Transaction)) (t : ℕ) (f : Held) (r : IsNextReplaced old new table table' t f) (final : IsFinalWord (state_of table t) f) (again : IsWritten table' end t (HasPassed new.slots t)) where
+module _ (old new : VersionsData) (table table' end : Txns (Node KeptTransaction)) (t : ℕ) (f : Held) (r : IsNextReplaced old new table table' t f) (final : IsFinalWord (state_of table t) f) (again : IsWritten table' end t (HasPassed new.slots t)) where
   list_passed : words_in r.between t ≡ from_own old.slots t (words_in table t)
   list_passed =
       (list_written table r.between t (HasPassed old.slots t) r.passed).here ∙ r.passed.changed.words
@@ -240,7 +238,7 @@ module _ (old new : VersionsData) (table table' end : Txns (Node Transaction)) (
   alike_passed = alike_written table r.between t (HasPassed old.slots t) r.passed
 
   alike_last : (o : Option WordPlace) → IsFirstReplaced old new r.between table' t f o → AreAlike r.between end
-  alike_last None q = subst (λ (x : Txns (Node Transaction)). AreAlike x end) q.1 (alike_written table' end t (HasPassed new.slots t) again)
+  alike_last None q = subst (λ (x : Txns (Node KeptTransaction)). AreAlike x end) q.1 (alike_written table' end t (HasPassed new.slots t) again)
   alike_last (Some p) q = alike_twice r.between table' end (alike_written r.between table' t HasDropped q.1) (alike_written table' end t (HasPassed new.slots t) again)
 
   by_place : (w w' : WaitingData) (o : Option WordPlace) → o ≡ slice_get (words_in r.between t) 0 → IsFirstReplaced old new r.between table' t f o → w' ≡ counted_off new.slots o w w'.room
@@ -251,11 +249,11 @@ module _ (old new : VersionsData) (table table' end : Txns (Node Transaction)) (
       let here = first_is (words_in r.between t) p (sym first) in
       let name = first_named old.slots t (words_in table t) p here.rest (sym list_passed ∙ here.is) in
       let there = names_there old.slots t p name in
-      let told : IsReworded old new (number_at p) (finished ends t p) = subst (λ (x : Held). IsReworded old new (number_at p) (with_word p x)) (final_is (state_of table t) f final) q.0 in
-      let now = changed_here old new (number_at p) (finished ends t p) there.version there.at told in
+      let told : IsReworded old new (number_at_word p) (finished ends t p) = subst (λ (x : Held). IsReworded old new (number_at_word p) (with_word p x)) (final_is (state_of table t) f final) q.0 in
+      let now = changed_here old new (number_at_word p) (finished ends t p) there.version there.at told in
       subst (AreWaiting table.clock (state_of table) new.slots)
-      (sym (is ∙ ap (λ o. and_dead (is_dead_in o) (number_at p).0 (with_owed w (w.owed - 1) w'.room)) now.here))
-      (finish_keeps_waiting table.clock (state_of table) old.slots new.slots w t w'.room p there.version there.at name now (changed_one old new (number_at p) (finished ends t p) there.version there.at told) h)
+      (sym (is ∙ ap (λ o. and_dead (is_dead_in o) (number_at_word p).0 (with_owed w (w.owed - 1) w'.room)) now.here))
+      (finish_keeps_waiting table.clock (state_of table) old.slots new.slots w t w'.room p there.version there.at name now (changed_one old new (number_at_word p) (finished ends t p) there.version there.at told) h)
 
   pub waits_finished : (w w' : WaitingData) (o : Option WordPlace) → o ≡ slice_get (from_own old.slots t (words_in table t)) 0 → w' ≡ counted_off new.slots o w w'.room
       → AreWaiting table.clock (state_of table) old.slots w → AreWaiting end.clock (state_of end) new.slots w'
@@ -265,14 +263,14 @@ module _ (old new : VersionsData) (table table' end : Txns (Node Transaction)) (
       waits_alike table end new.slots w' (alike_twice table r.between end alike_passed (alike_last o q)) (by_place w w' o at q is h)
 
 -- ---- a write for which memory is wanting
-pub waits_spent : (table after : Txns (Node Transaction)) (t : ℕ) (old new : VersionsData) (w roomy : WaitingData) → roomy ≡ record w { room = roomy.room } → HasSameVersions old new → IsWritten table after t HasDoneAsMuch
+pub waits_spent : (table after : Txns (Node KeptTransaction)) (t : ℕ) (old new : VersionsData) (w roomy : WaitingData) → roomy ≡ record w { room = roomy.room } → HasSameVersions old new → IsWritten table after t HasDoneAsMuch
     → AreWaiting table.clock (state_of table) old.slots w → AreWaiting after.clock (state_of after) new.slots roomy
 waits_spent table after t old new w roomy room same much h =
     waits_alike table after new.slots roomy (alike_written table after t HasDoneAsMuch much)
     (waits_same table.clock (state_of table) old new roomy same (waits_roomy table.clock (state_of table) old.slots w roomy roomy.room room h))
 
 -- ---- a begin, whatever it comes to
-pub begun_waits : (old new : Txns (Node Transaction)) (node : Node Transaction) (slots : Slots) (w : WaitingData) (r : Result TxId Refusal) → OnOk r (new ≡ after_begin old node) → OnErr r (new ≡ old)
+pub begun_waits : (old new : Txns (Node KeptTransaction)) (node : Node KeptTransaction) (slots : Slots) (w : WaitingData) (r : Result TxId Refusal) → OnOk r (new ≡ table_after_begin old node) → OnErr r (new ≡ old)
     → AreWaiting old.clock (state_of old) slots w → AreWaiting new.clock (state_of new) slots w
 begun_waits old new node slots w (Ok t) is same h = waits_begun old new node slots w is h
-begun_waits old new node slots w (Err e) is same h = subst (λ (x : Txns (Node Transaction)). AreWaiting x.clock (state_of x) slots w) (sym same) h
+begun_waits old new node slots w (Err e) is same h = subst (λ (x : Txns (Node KeptTransaction)). AreWaiting x.clock (state_of x) slots w) (sym same) h

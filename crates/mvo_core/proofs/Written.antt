@@ -2,9 +2,9 @@
 use Rattle.std.proofs.Common.{◌≡◌, ℕ, Some, sym, ap, subst}
 use Rattle.std.specs.Prelude.{Result, Ok, Err, OnOk, OnErr, IfSome}
 use Rattle.std.specs.Option.{option_map}
-use Rattle.mvo_txn.specs.Txns.{Txns, kept_of, after_write}
+use Rattle.mvo_txn.specs.Txns.{Txns, kept_of, table_after_write}
 use Rattle.mvo_deps.specs.declared.node.Node.{Node}
-use Rattle.mvo_core.specs.declared.transaction.Transaction.{Transaction}
+use Rattle.mvo_core.specs.declared.kept_transaction.KeptTransaction.{KeptTransaction}
 use Rattle.mvo_core.specs.Data.{own_of}
 use Rattle.mvo_core.specs.Keeping.{with_own_at, IsWritten}
 
@@ -21,9 +21,9 @@ always_err A (Ok x) h = tt
 always_err A (Err e) h = h
 
 -- what is kept of it becomes this
-pub written : (table : Txns (Node Transaction)) (t : ℕ) (node : Node Transaction) (after : Transaction) (change : Transaction → Transaction → Type 0)
+pub written : (table : Txns (Node KeptTransaction)) (t : ℕ) (node : Node KeptTransaction) (after : KeptTransaction) (change : KeptTransaction → KeptTransaction → Type 0)
     → Some node ≡ kept_of table t → change node.own after
-    → IsWritten table (after_write table t (record node { own = after })) t change
+    → IsWritten table (table_after_write table t (record node { own = after })) t change
 written table t node after change kept h = record {
   before = node.own;
   after = after;
@@ -33,6 +33,6 @@ written table t node after change kept h = record {
 }
 
 -- what is required of it holds of what was kept
-pub required : (table : Txns (Node Transaction)) (t : ℕ) (node : Node Transaction) (P : Transaction → Type 0)
+pub required : (table : Txns (Node KeptTransaction)) (t : ℕ) (node : Node KeptTransaction) (P : KeptTransaction → Type 0)
     → Some node ≡ kept_of table t → IfSome (own_of table t) P → P node.own
 required table t node P kept h = subst (λ o. IfSome (option_map (λ n. n.own) o) P) (sym kept) h

@@ -10,8 +10,8 @@ use Rattle.mvo_theory.specs.Steps.{after_abort, after_refusal, steps_of_refusal}
 use Rattle.mvo_txn.specs.declared.state.TxState.{TxState}
 use Rattle.mvo_txn.specs.declared.state.TxState.TheVariants.{Active, Preparing, Committed, Aborted}
 use Rattle.mvo_txn.specs.Txns.{state_of, IsUnended}
-use Rattle.mvo_tale.specs.declared.slot.Slot.{Slot}
-use Rattle.mvo_tale.specs.declared.slot.Slot.TheVariants.{Empty}
+use Rattle.mvo_tale.specs.declared.tale_place.TalePlace.{TalePlace}
+use Rattle.mvo_tale.specs.declared.tale_place.TalePlace.TheVariants.{Empty}
 use Rattle.mvo_tale.specs.Slots.{open_end_at, closed_up}
 use Rattle.mvo_core.specs.Data.{CoreData}
 use Rattle.mvo_core.specs.Standing.{StandsFor}
@@ -35,7 +35,7 @@ IsAborted old t new = (opening : Map) (steps : List Step) (s : State)
     → StandsFor opening (steps ++ Aborts t ∷ []) (after_abort s t) new
 
 -- a Preparing one has an open place in the tale
-abbrev pub HasOpenPlace : Option TxState → List Slot → ℕ → Type 0
+abbrev pub HasOpenPlace : Option TxState → List TalePlace → ℕ → Type 0
 HasOpenPlace None slots place = ⊤
 HasOpenPlace (Some Active) slots place = ⊤
 HasOpenPlace (Some (Preparing e)) slots place = IsSome (open_end_at slots place)
@@ -43,7 +43,7 @@ HasOpenPlace (Some (Committed e)) slots place = ⊤
 HasOpenPlace (Some Aborted) slots place = ⊤
 
 -- the tale that it leaves
-abbrev pub tale_left : Option TxState → List Slot → ℕ → List Slot
+abbrev pub tale_left : Option TxState → List TalePlace → ℕ → List TalePlace
 tale_left None slots place = slots
 tale_left (Some Active) slots place = slots
 tale_left (Some (Preparing e)) slots place =

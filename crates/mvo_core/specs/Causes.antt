@@ -16,7 +16,7 @@ use Rattle.mvo_txn.specs.declared.state.TxState.TheVariants.{Active, Preparing, 
 use Rattle.mvo_txn.specs.Txns.{Txns, state_of}
 use Rattle.mvo_deps.specs.declared.node.Node.{Node}
 use Rattle.mvo_deps.specs.Nodes.{data_of}
-use Rattle.mvo_core.specs.declared.transaction.Transaction.{Transaction}
+use Rattle.mvo_core.specs.declared.kept_transaction.KeptTransaction.{KeptTransaction}
 use Rattle.mvo_core.specs.Data.{own_of}
 
 abbrev pub flag_refusal : Option TxId → Option Refusal
@@ -24,7 +24,7 @@ flag_refusal None = None
 flag_refusal (Some id) = Some (DependencyAborted id)
 
 -- the flag of a transaction
-abbrev pub flag_of : Txns (Node Transaction) → ℕ → Option TxId
+abbrev pub flag_of : Txns (Node KeptTransaction) → ℕ → Option TxId
 flag_of table t = (data_of table (record { 0 = t })).aborted
 
 abbrev pub unless_active_as : Option TxState → Option TxId → Option Refusal
@@ -41,10 +41,10 @@ unless_preparing_as (Some (Preparing e)) flag = flag_refusal flag
 unless_preparing_as (Some (Committed e)) flag = Some Ended
 unless_preparing_as (Some Aborted) flag = Some Ended
 
-abbrev pub why_not_active : Txns (Node Transaction) → ℕ → Option Refusal
+abbrev pub why_not_active : Txns (Node KeptTransaction) → ℕ → Option Refusal
 why_not_active table t = unless_active_as (state_of table t) (flag_of table t)
 
-abbrev pub why_not_preparing : Txns (Node Transaction) → ℕ → Option Refusal
+abbrev pub why_not_preparing : Txns (Node KeptTransaction) → ℕ → Option Refusal
 why_not_preparing table t = unless_preparing_as (state_of table t) (flag_of table t)
 
 abbrev pub why_not_undo : Option TxState → Option Refusal
@@ -54,21 +54,21 @@ why_not_undo (Some (Preparing e)) = None
 why_not_undo (Some (Committed e)) = Some Ended
 why_not_undo (Some Aborted) = Some Ended
 
-abbrev pub over_entries : Option Transaction → Entry → Bool
+abbrev pub over_entries : Option KeptTransaction → Entry → Bool
 over_entries None e = false
 over_entries (Some own) e = is_entry_too_many own.work.history e
 
-abbrev pub over_writes : Option Transaction → RowKey → Bool
+abbrev pub over_writes : Option KeptTransaction → RowKey → Bool
 over_writes None k = false
 over_writes (Some own) k = is_write_too_many own.work.history k
 
-abbrev pub is_entry_over : Txns (Node Transaction) → ℕ → Entry → Bool
+abbrev pub is_entry_over : Txns (Node KeptTransaction) → ℕ → Entry → Bool
 is_entry_over table t e = over_entries (own_of table t) e
 
-abbrev pub is_write_over : Txns (Node Transaction) → ℕ → RowKey → Bool
+abbrev pub is_write_over : Txns (Node KeptTransaction) → ℕ → RowKey → Bool
 is_write_over table t k = over_writes (own_of table t) k
 
-abbrev pub why_not_look : Txns (Node Transaction) → ℕ → ℕ → Entry → Option Refusal
+abbrev pub why_not_look : Txns (Node KeptTransaction) → ℕ → ℕ → Entry → Option Refusal
 why_not_look table t of e = first_cause (
     why_not_active table t
     ∷ when (nat_lt MAX_TABLE of) BadTable
@@ -82,7 +82,7 @@ why_not_write ts k = first_cause (
     ∷ when (is_write_too_many ts k) TooManyWrites
     ∷ [])
 
-abbrev pub why_not_put : Txns (Node Transaction) → ℕ → RowData → Option Refusal
+abbrev pub why_not_put : Txns (Node KeptTransaction) → ℕ → RowData → Option Refusal
 why_not_put table t row = first_cause (
     why_not_active table t
     ∷ when (nat_lt MAX_TABLE row.key.table) BadTable
@@ -91,7 +91,7 @@ why_not_put table t row = first_cause (
     ∷ when (is_write_over table t row.key) TooManyWrites
     ∷ [])
 
-abbrev pub why_not_remove : Txns (Node Transaction) → ℕ → RowKey → Option Refusal
+abbrev pub why_not_remove : Txns (Node KeptTransaction) → ℕ → RowKey → Option Refusal
 why_not_remove table t k = first_cause (
     why_not_active table t
     ∷ when (nat_lt MAX_TABLE k.table) BadTable

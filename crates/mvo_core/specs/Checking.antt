@@ -12,7 +12,7 @@ use Rattle.mvo_versions.specs.Data.{VersionsData}
 use Rattle.mvo_visible.specs.Shown.{AllHaveFallingStamps}
 use Rattle.mvo_txn.specs.Txns.{Txns, state_of}
 use Rattle.mvo_deps.specs.declared.node.Node.{Node}
-use Rattle.mvo_core.specs.declared.transaction.Transaction.{Transaction}
+use Rattle.mvo_core.specs.declared.kept_transaction.KeptTransaction.{KeptTransaction}
 use Rattle.mvo_core.specs.declared.next_check.NextCheck.{NextCheck}
 use Rattle.mvo_core.specs.declared.next_check.NextCheck.TheVariants.{Refused, Valid, Differs, Same}
 use Rattle.mvo_core.specs.Causes.{why_not_preparing}
@@ -35,12 +35,12 @@ change_for (Some (Committed end')) states v t entry = None
 change_for (Some Aborted) states v t entry = None
 
 -- so it is with the next entry of this one, where the versions stand in order
-abbrev pub IsNextChange : Txns (Node Transaction) → VersionsData → ℕ → Option ℕ → Type 0
+abbrev pub IsNextChange : Txns (Node KeptTransaction) → VersionsData → ℕ → Option ℕ → Type 0
 IsNextChange table v t change = AllHaveFallingStamps (state_of table) v.slots v.lists
     → change ≡ change_for (state_of table t) (state_of table) v t (own_entry (own_of table t))
 
 -- what a look at a transaction that is to be validated tells: each says that no earlier one was due
-abbrev pub IsNextCheck : Txns (Node Transaction) → VersionsData → TxId → NextCheck → Type 0
+abbrev pub IsNextCheck : Txns (Node KeptTransaction) → VersionsData → TxId → NextCheck → Type 0
 IsNextCheck table v t (Refused r) = why_not_preparing table t.0 ≡ Some r
 IsNextCheck table v t Valid = IsCalled table t true
 IsNextCheck table v t (Differs stamp) =

@@ -13,7 +13,7 @@ use Rattle.mvo_work.specs.declared.word_place.WordPlace.{WordPlace}
 use Rattle.mvo_representation.specs.Words.{ends_of, change_below, standing}
 use Rattle.mvo_representation.specs.Indexes.{all_versions}
 use Rattle.mvo_representation.specs.Table.{phases_of}
-use Rattle.mvo_representation.specs.WordLists.{number_at}
+use Rattle.mvo_representation.specs.WordLists.{number_at_word}
 use Rattle.mvo_versions.specs.Data.{VersionsData}
 use Rattle.mvo_collect.specs.declared.collection.Collection.{Collection}
 use Rattle.mvo_collect.specs.declared.collection.Collection.TheVariants.{Collected, Nothing}
@@ -38,7 +38,8 @@ is_open_end_at slots n = is_open_end (version_at slots n)
 abbrev pub counted_off : Slots → Option WordPlace → WaitingData → ℕ → WaitingData
 counted_off slots None w room = w
 counted_off slots (Some p) w room =
-    and_dead (is_dead_at slots (number_at p)) (number_at p).0 (with_owed w (w.owed - 1) room)
+    and_dead (is_dead_at slots (number_at_word p)) (number_at_word p).0
+    (with_owed w (w.owed - 1) room)
 
 -- what these words have ended waits behind the others, with this end
 abbrev pub WaitBehind : Stamp → List WordPlace → WaitingData → WaitingData → Type 0

@@ -12,19 +12,19 @@ use Rattle.mvo_work.specs.declared.word_place.WordPlace.TheVariants.{Begin, End}
 use Rattle.mvo_representation.specs.Steps.{ended_by}
 use Rattle.mvo_versions.specs.Data.{VersionsData, AreIndexed}
 use Rattle.mvo_versions.specs.Changes.{IsPut, IsReworded}
-use Rattle.mvo_core.specs.declared.transaction.Transaction.{Transaction}
+use Rattle.mvo_core.specs.declared.kept_transaction.KeptTransaction.{KeptTransaction}
 use Rattle.mvo_core.specs.Keeping.{IsWritten, HasDoneAsMuch, IsRecordedWith}
 use Rattle.mvo_core.specs.Looking.{HasSameVersions}
 
 -- it has ended the version, and that is recorded
-pub record IsRemoved (old new : VersionsData) (table after : Txns (Node Transaction)) (t : TxId)
+pub record IsRemoved (old new : VersionsData) (table after : Txns (Node KeptTransaction)) (t : TxId)
     (ids : List TxId) (number : VersionNo) (key : RowKey) : Type 0 where
   pub ended : IsReworded old new number (ended_by t.0)
   pub recorded : IsRecordedWith table after t ids (Delete key) Deleted (End number ∷ [])
 
 -- it has put the row and ended the version, and that is recorded
-pub record IsReplaced (old new : VersionsData) (table after : Txns (Node Transaction)) (t : TxId)
-    (ids : List TxId) (number : VersionNo) (row : RowData) : Type 0 where
+pub record IsReplaced (old new : VersionsData) (table after : Txns (Node KeptTransaction))
+    (t : TxId) (ids : List TxId) (number : VersionNo) (row : RowData) : Type 0 where
   pub between : VersionsData
   pub place : VersionNo
   pub put : IsPut old between row t.0 place
@@ -34,7 +34,7 @@ pub record IsReplaced (old new : VersionsData) (table after : Txns (Node Transac
       IsRecordedWith table after t ids (Update row) Updated (End number ∷ Begin place ∷ [])
 
 -- nothing of the kind: there may be room for more
-pub record IsLeft (old new : VersionsData) (table after : Txns (Node Transaction))
+pub record IsLeft (old new : VersionsData) (table after : Txns (Node KeptTransaction))
     (t : TxId) : Type 0 where
   pub versions : HasSameVersions old new
   pub indexed : AreIndexed old → AreIndexed new

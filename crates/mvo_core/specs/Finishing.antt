@@ -10,10 +10,10 @@ use Rattle.mvo_txn.specs.declared.state.TxState.TheVariants.{Active, Preparing, 
 use Rattle.mvo_txn.specs.Txns.{Txns}
 use Rattle.mvo_deps.specs.declared.node.Node.{Node}
 use Rattle.mvo_work.specs.declared.word_place.WordPlace.{WordPlace}
-use Rattle.mvo_representation.specs.WordLists.{number_at, names_at, with_word}
+use Rattle.mvo_representation.specs.WordLists.{number_at_word, names_at, with_word}
 use Rattle.mvo_versions.specs.Data.{VersionsData}
 use Rattle.mvo_versions.specs.Changes.{IsReworded}
-use Rattle.mvo_core.specs.declared.transaction.Transaction.{Transaction}
+use Rattle.mvo_core.specs.declared.kept_transaction.KeptTransaction.{KeptTransaction}
 use Rattle.mvo_core.specs.Keeping.{IsWritten, HasDropped}
 use Rattle.mvo_core.specs.Standing.{words_in}
 
@@ -48,7 +48,7 @@ from_own slots t [] = []
 from_own slots t (p ∷ ps) = if names_at slots t p then p ∷ ps else from_own slots t ps
 
 -- the words in front that others took over are taken off
-pub record HasPassed (slots : Slots) (t : ℕ) (old new : Transaction) : Type 0 where
+pub record HasPassed (slots : Slots) (t : ℕ) (old new : KeptTransaction) : Type 0 where
   pub history : new.work.history ≡ old.work.history
   pub words : new.work.words ≡ from_own slots t old.work.words
   pub place : new.place ≡ old.place
@@ -56,27 +56,27 @@ pub record HasPassed (slots : Slots) (t : ℕ) (old new : Transaction) : Type 0 
   pub valid : new.valid ≡ old.valid
 
 -- the first word is replaced and taken off, if there is one
-abbrev pub IsFirstReplaced : VersionsData → VersionsData → Txns (Node Transaction)
-    → Txns (Node Transaction) → ℕ → Held → Option WordPlace → Type 0
+abbrev pub IsFirstReplaced : VersionsData → VersionsData → Txns (Node KeptTransaction)
+    → Txns (Node KeptTransaction) → ℕ → Held → Option WordPlace → Type 0
 IsFirstReplaced old new table table' t w None = (new ≡ old) × (table' ≡ table)
 IsFirstReplaced old new table table' t w (Some p) =
-    IsReworded old new (number_at p) (with_word p w) × IsWritten table table' t HasDropped
+    IsReworded old new (number_at_word p) (with_word p w) × IsWritten table table' t HasDropped
 
 -- the words in front that others took over are taken off, and then the first one is replaced
-pub record IsNextReplaced (old new : VersionsData) (table table' : Txns (Node Transaction))
+pub record IsNextReplaced (old new : VersionsData) (table table' : Txns (Node KeptTransaction))
     (t : ℕ) (w : Held) : Type 0 where
-  pub between : Txns (Node Transaction)
+  pub between : Txns (Node KeptTransaction)
   pub passed : IsWritten table between t (HasPassed old.slots t)
   pub first : IsFirstReplaced old new between table' t w (slice_get (words_in between t) 0)
 
 -- so it is, and those behind it that others took over are taken off
-pub record IsOneReplaced (old new : VersionsData) (table table' : Txns (Node Transaction))
+pub record IsOneReplaced (old new : VersionsData) (table table' : Txns (Node KeptTransaction))
     (t : ℕ) (w : Held) : Type 0 where
-  pub between : Txns (Node Transaction)
+  pub between : Txns (Node KeptTransaction)
   pub next : IsNextReplaced old new table between t w
   pub passed : IsWritten between table' t (HasPassed new.slots t)
 
 -- the word at the place is replaced, if there is a place
 abbrev pub IsRewordedAt : VersionsData → VersionsData → Option WordPlace → Held → Type 0
 IsRewordedAt old new None w = new ≡ old
-IsRewordedAt old new (Some p) w = IsReworded old new (number_at p) (with_word p w)
+IsRewordedAt old new (Some p) w = IsReworded old new (number_at_word p) (with_word p w)

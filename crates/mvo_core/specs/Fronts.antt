@@ -8,14 +8,14 @@ use Rattle.mvo_work.specs.declared.word_place.WordPlace.{WordPlace}
 use Rattle.mvo_representation.specs.Words.{ends_of}
 use Rattle.mvo_representation.specs.Table.{phases_of}
 use Rattle.mvo_representation.specs.Order.{comes_forward, with_front_if, with_fronts}
-use Rattle.mvo_representation.specs.WordLists.{number_at}
+use Rattle.mvo_representation.specs.WordLists.{number_at_word}
 use Rattle.mvo_versions.specs.Data.{VersionsData}
 use Rattle.mvo_versions.specs.Changes.{HaveSamePlaces}
 
 -- whether the version passes, if there is one
-abbrev pub passes : (Version → Bool) → Option Version → Bool
-passes test None = false
-passes test (Some v) = test v
+abbrev pub version_passes : (Version → Bool) → Option Version → Bool
+version_passes test None = false
+version_passes test (Some v) = test v
 
 -- what comes to the front as the transaction draws its end
 abbrev pub comes_at_draw : States → ℕ → Version → Bool
@@ -23,7 +23,7 @@ comes_at_draw states t v = comes_forward (ends_of (phases_of states)) t v
 
 -- the numbers of the versions that have these words
 abbrev pub numbers_in : List WordPlace → List ℕ
-numbers_in words = map (λ w. (number_at w).0) words
+numbers_in words = map (λ w. (number_at_word w).0) words
 
 -- the version has come to the front of its key, if it passes
 pub record IsInFrontIf (test : Version → Bool) (old new : VersionsData)

@@ -6,7 +6,7 @@ use Rattle.mvo_types.specs.declared.answer.Answer.{Answer}
 use Rattle.mvo_types.specs.AnswerData.{AnswerData, answer_data}
 use Rattle.mvo_model.specs.History.{History}
 use Rattle.mvo_theory.specs.State.{State, ActiveTx, StampedTx, active_of, preparing_of}
-use Rattle.mvo_core.specs.declared.transaction.Transaction.{Transaction}
+use Rattle.mvo_core.specs.declared.kept_transaction.KeptTransaction.{KeptTransaction}
 use Rattle.mvo_core.specs.Data.{CoreData}
 use Rattle.mvo_core.specs.Steps.{InEach}
 
@@ -15,7 +15,7 @@ abbrev pub told_as : Op × Answer → Op × AnswerData
 told_as t = (t.0, answer_data t.1)
 
 -- the operations with their answers of what is kept of a transaction, if something is
-abbrev pub own_told : Option Transaction → Option History
+abbrev pub own_told : Option KeptTransaction → Option History
 own_told own = option_map (λ t. t.work.history) own
 
 -- The history of the transaction is this one, where it is Active or Preparing; and it is so only

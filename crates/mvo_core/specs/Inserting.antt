@@ -10,12 +10,12 @@ use Rattle.mvo_deps.specs.declared.node.Node.{Node}
 use Rattle.mvo_work.specs.declared.word_place.WordPlace.TheVariants.{Begin}
 use Rattle.mvo_versions.specs.Data.{VersionsData}
 use Rattle.mvo_versions.specs.Changes.{IsPut}
-use Rattle.mvo_core.specs.declared.transaction.Transaction.{Transaction}
+use Rattle.mvo_core.specs.declared.kept_transaction.KeptTransaction.{KeptTransaction}
 use Rattle.mvo_core.specs.Keeping.{IsRecordedWith}
 
 -- it has put the row, and that is recorded
-pub record IsInserted (old new : VersionsData) (table after : Txns (Node Transaction)) (t : TxId)
-    (ids : List TxId) (row : RowData) : Type 0 where
+pub record IsInserted (old new : VersionsData) (table after : Txns (Node KeptTransaction))
+    (t : TxId) (ids : List TxId) (row : RowData) : Type 0 where
   pub number : VersionNo
   pub put : IsPut old new row t.0 number
   pub recorded :

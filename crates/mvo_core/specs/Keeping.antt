@@ -3,43 +3,44 @@ use Rattle.std.specs.Prelude.{ℕ, ◌≡◌, ◌+◌, ◌++◌, List, [], ◌�
 use Rattle.mvo_types.specs.declared.ids.TxId.{TxId}
 use Rattle.mvo_types.specs.declared.op.Op.{Op}
 use Rattle.mvo_types.specs.AnswerData.{AnswerData}
-use Rattle.mvo_txn.specs.Txns.{Txns, kept_of, after_write}
+use Rattle.mvo_txn.specs.Txns.{Txns, kept_of, table_after_write}
 use Rattle.mvo_deps.specs.declared.node.Node.{Node}
 use Rattle.mvo_deps.specs.Nodes.{after_register_all}
 use Rattle.mvo_work.specs.declared.word_place.WordPlace.{WordPlace}
 use Rattle.mvo_work.specs.Work.{HasRoom}
-use Rattle.mvo_core.specs.declared.transaction.Transaction.{Transaction}
+use Rattle.mvo_core.specs.declared.kept_transaction.KeptTransaction.{KeptTransaction}
 use Rattle.mvo_core.specs.Data.{own_of}
 use Rattle.mvo_core.specs.Own.{is_last_check}
 
 -- the table where what is kept of one transaction is this
-abbrev pub with_own_at : Option (Node Transaction) → Txns (Node Transaction) → ℕ → Transaction
-    → Txns (Node Transaction)
+abbrev pub with_own_at : Option (Node KeptTransaction) → Txns (Node KeptTransaction) → ℕ
+    → KeptTransaction → Txns (Node KeptTransaction)
 with_own_at None table t own = table
-with_own_at (Some node) table t own = after_write table t (record node { own = own })
+with_own_at (Some node) table t own = table_after_write table t (record node { own = own })
 
-abbrev pub with_own : Txns (Node Transaction) → ℕ → Transaction → Txns (Node Transaction)
+abbrev pub with_own : Txns (Node KeptTransaction) → ℕ → KeptTransaction
+    → Txns (Node KeptTransaction)
 with_own table t own = with_own_at (kept_of table t) table t own
 
 -- what was kept of it has become this, and nothing else has changed
-pub record IsWritten (old new : Txns (Node Transaction)) (t : ℕ)
-    (change : Transaction → Transaction → Type 0) : Type 0 where
-  pub before : Transaction
-  pub after : Transaction
+pub record IsWritten (old new : Txns (Node KeptTransaction)) (t : ℕ)
+    (change : KeptTransaction → KeptTransaction → Type 0) : Type 0 where
+  pub before : KeptTransaction
+  pub after : KeptTransaction
   pub was : own_of old t ≡ Some before
   pub is : new ≡ with_own old t after
   pub changed : change before after
 
 -- what was kept of it has become this, and then the table has come to this
-pub record IsWrittenThen (old new : Txns (Node Transaction)) (t : ℕ)
-    (change : Transaction → Transaction → Type 0)
-    (next : Txns (Node Transaction) → Txns (Node Transaction)) : Type 0 where
-  pub between : Txns (Node Transaction)
+pub record IsWrittenThen (old new : Txns (Node KeptTransaction)) (t : ℕ)
+    (change : KeptTransaction → KeptTransaction → Type 0)
+    (next : Txns (Node KeptTransaction) → Txns (Node KeptTransaction)) : Type 0 where
+  pub between : Txns (Node KeptTransaction)
   pub written : IsWritten old between t change
   pub is : new ≡ next between
 
 -- as much is done
-pub record HasDoneAsMuch (old new : Transaction) : Type 0 where
+pub record HasDoneAsMuch (old new : KeptTransaction) : Type 0 where
   pub history : new.work.history ≡ old.work.history
   pub words : new.work.words ≡ old.work.words
   pub place : new.place ≡ old.place
@@ -47,12 +48,12 @@ pub record HasDoneAsMuch (old new : Transaction) : Type 0 where
   pub valid : new.valid ≡ old.valid
 
 -- the same, with room for more
-pub record HasMadeRoom (old new : Transaction) : Type 0 where
+pub record HasMadeRoom (old new : KeptTransaction) : Type 0 where
   pub same : HasDoneAsMuch old new
   pub room : HasRoom new.work
 
 -- it has done one operation more
-pub record IsTold (op : Op) (answer : AnswerData) (old new : Transaction) : Type 0 where
+pub record IsTold (op : Op) (answer : AnswerData) (old new : KeptTransaction) : Type 0 where
   pub history : new.work.history ≡ old.work.history ++ (op, answer) ∷ []
   pub words : new.work.words ≡ old.work.words
   pub place : new.place ≡ old.place
@@ -61,7 +62,7 @@ pub record IsTold (op : Op) (answer : AnswerData) (old new : Transaction) : Type
 
 -- it has done one operation more, which put these words
 pub record HasDoneMore (op : Op) (answer : AnswerData) (put : List WordPlace)
-    (old new : Transaction) : Type 0 where
+    (old new : KeptTransaction) : Type 0 where
   pub history : new.work.history ≡ old.work.history ++ (op, answer) ∷ []
   pub words : new.work.words ≡ old.work.words ++ put
   pub place : new.place ≡ old.place
@@ -69,7 +70,7 @@ pub record HasDoneMore (op : Op) (answer : AnswerData) (put : List WordPlace)
   pub valid : new.valid ≡ old.valid
 
 -- its first word is taken off
-pub record HasDropped (old new : Transaction) : Type 0 where
+pub record HasDropped (old new : KeptTransaction) : Type 0 where
   pub history : new.work.history ≡ old.work.history
   pub words : new.work.words ≡ drop 1 old.work.words
   pub place : new.place ≡ old.place
@@ -77,7 +78,7 @@ pub record HasDropped (old new : Transaction) : Type 0 where
   pub valid : new.valid ≡ old.valid
 
 -- its operations are taken out. The words stay
-pub record HasHandedOver (old new : Transaction) : Type 0 where
+pub record HasHandedOver (old new : KeptTransaction) : Type 0 where
   pub history : new.work.history ≡ []
   pub words : new.work.words ≡ old.work.words
   pub place : new.place ≡ old.place
@@ -85,14 +86,14 @@ pub record HasHandedOver (old new : Transaction) : Type 0 where
   pub valid : new.valid ≡ old.valid
 
 -- it has this place in the tale, and none of its entries is checked
-pub record IsPlaced (place : ℕ) (old new : Transaction) : Type 0 where
+pub record IsPlacedInTale (place : ℕ) (old new : KeptTransaction) : Type 0 where
   pub work : new.work ≡ old.work
   pub is : new.place ≡ place
   pub checked : new.checked ≡ 0
   pub valid : new.valid ≡ false
 
 -- one more of its entries is checked. The last one isn't counted: it is valid then
-pub record IsCounted (old new : Transaction) : Type 0 where
+pub record IsCounted (old new : KeptTransaction) : Type 0 where
   pub work : new.work ≡ old.work
   pub place : new.place ≡ old.place
   pub checked :
@@ -100,15 +101,15 @@ pub record IsCounted (old new : Transaction) : Type 0 where
   pub valid : new.valid ≡ is_last_check old
 
 -- with room made for it, it depends on these, and has done one operation more
-pub record IsRecorded (old new : Txns (Node Transaction)) (t : TxId) (ids : List TxId) (op : Op)
+pub record IsRecorded (old new : Txns (Node KeptTransaction)) (t : TxId) (ids : List TxId) (op : Op)
     (answer : AnswerData) : Type 0 where
-  pub roomy : Txns (Node Transaction)
+  pub roomy : Txns (Node KeptTransaction)
   pub room : IsWritten old roomy t.0 HasMadeRoom
   pub told : IsWritten (after_register_all roomy t ids) new t.0 (IsTold op answer)
 
 -- the same of an operation that put these words
-pub record IsRecordedWith (old new : Txns (Node Transaction)) (t : TxId) (ids : List TxId) (op : Op)
-    (answer : AnswerData) (put : List WordPlace) : Type 0 where
-  pub roomy : Txns (Node Transaction)
+pub record IsRecordedWith (old new : Txns (Node KeptTransaction)) (t : TxId) (ids : List TxId)
+    (op : Op) (answer : AnswerData) (put : List WordPlace) : Type 0 where
+  pub roomy : Txns (Node KeptTransaction)
   pub room : IsWritten old roomy t.0 HasMadeRoom
   pub done : IsWritten (after_register_all roomy t ids) new t.0 (HasDoneMore op answer put)

@@ -3,38 +3,38 @@ use Rattle.std.specs.Prelude.{ℕ, ◌+◌, nat_le, length, Bool, false, if◌th
 use Rattle.mvo_model.specs.History.{History}
 use Rattle.mvo_types.specs.declared.entry.Entry.{Entry}
 use Rattle.mvo_theory.specs.Entries.{entries}
-use Rattle.mvo_core.specs.declared.transaction.Transaction.{Transaction}
+use Rattle.mvo_core.specs.declared.kept_transaction.KeptTransaction.{KeptTransaction}
 use Rattle.mvo_core.specs.declared.answers.Validation.{Validation}
 use Rattle.mvo_core.specs.declared.answers.Validation.TheVariants.{More, Valid}
 
 -- whether all of its entries are checked
-abbrev pub is_own_valid : Option Transaction → Bool
+abbrev pub is_own_valid : Option KeptTransaction → Bool
 is_own_valid None = false
 is_own_valid (Some own) = own.valid
 
 -- its place in the tale
-abbrev pub own_place : Option Transaction → ℕ
+abbrev pub own_place : Option KeptTransaction → ℕ
 own_place None = 0
 own_place (Some own) = own.place
 
 -- its operations with their answers
-abbrev pub own_history : Option Transaction → History
+abbrev pub own_history : Option KeptTransaction → History
 own_history None = []
 own_history (Some own) = own.work.history
 
 -- its next entry to check
-abbrev pub own_entry : Option Transaction → Option Entry
+abbrev pub own_entry : Option KeptTransaction → Option Entry
 own_entry None = None
 own_entry (Some own) = slice_get (entries own.work.history) own.checked
 
 -- ---- checks
 -- no entry is left behind the next one
-abbrev pub is_last_check : Transaction → Bool
+abbrev pub is_last_check : KeptTransaction → Bool
 is_last_check own = nat_le (length (entries own.work.history)) (own.checked + 1)
 
 abbrev pub checked_as : Bool → Validation
 checked_as last = if last then Valid else More
 
-abbrev pub own_check : Option Transaction → Validation
+abbrev pub own_check : Option KeptTransaction → Validation
 own_check None = Valid
 own_check (Some own) = checked_as (is_last_check own)

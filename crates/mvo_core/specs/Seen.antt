@@ -1,6 +1,6 @@
 -- What the layers above see of a core.
 use Rattle.std.specs.Prelude.{◌≡◌, ℕ, List}
-use Rattle.mvo_tale.specs.declared.slot.Slot.{Slot}
+use Rattle.mvo_tale.specs.declared.tale_place.TalePlace.{TalePlace}
 use Rattle.mvo_core.specs.Data.{CoreData}
 
 -- the timestamp that was drawn last, or the opening mark
@@ -12,7 +12,7 @@ abbrev pub closed_mark_of : CoreData → ℕ
 closed_mark_of c = c.closed
 
 -- the places of the stored commits
-abbrev pub tale_of : CoreData → List Slot
+abbrev pub tale_of : CoreData → List TalePlace
 tale_of c = c.tale
 
 -- nothing but the versions is another

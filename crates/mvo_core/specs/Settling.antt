@@ -5,7 +5,7 @@ use Rattle.mvo_txn.specs.Txns.{Txns}
 use Rattle.mvo_deps.specs.declared.node.Node.{Node}
 use Rattle.mvo_deps.specs.Nodes.{data_of}
 use Rattle.mvo_deps.specs.Waiting.{HasNoneOpen, IsLeastOpen}
-use Rattle.mvo_core.specs.declared.transaction.Transaction.{Transaction}
+use Rattle.mvo_core.specs.declared.kept_transaction.KeptTransaction.{KeptTransaction}
 use Rattle.mvo_core.specs.declared.readiness.Readiness.{Readiness}
 use Rattle.mvo_core.specs.declared.readiness.Readiness.TheVariants.{Refused, NotValidated, WaitsFor, Ready}
 use Rattle.mvo_core.specs.Causes.{why_not_preparing}
@@ -13,12 +13,12 @@ use Rattle.mvo_core.specs.Data.{own_of}
 use Rattle.mvo_core.specs.Own.{is_own_valid}
 
 -- it may be called as a Preparing one, and all of its entries are checked or not
-pub record IsCalled (table : Txns (Node Transaction)) (t : TxId) (valid : Bool) : Type 0 where
+pub record IsCalled (table : Txns (Node KeptTransaction)) (t : TxId) (valid : Bool) : Type 0 where
   pub none : why_not_preparing table t.0 ≡ None
   pub valid_is : is_own_valid (own_of table t.0) ≡ valid
 
 -- each answer says that no earlier one was due, and false that nobody depends on it
-abbrev pub IsReadiness : Txns (Node Transaction) → TxId → Readiness → Type 0
+abbrev pub IsReadiness : Txns (Node KeptTransaction) → TxId → Readiness → Type 0
 IsReadiness table t (Refused r) = why_not_preparing table t.0 ≡ Some r
 IsReadiness table t NotValidated = IsCalled table t false
 IsReadiness table t (WaitsFor other) =

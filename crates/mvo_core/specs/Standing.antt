@@ -8,7 +8,7 @@ use Rattle.mvo_theory.specs.Marks.{IsClosedAt}
 use Rattle.mvo_txn.specs.Txns.{Txns, state_of}
 use Rattle.mvo_deps.specs.declared.node.Node.{Node}
 use Rattle.mvo_work.specs.declared.word_place.WordPlace.{WordPlace}
-use Rattle.mvo_tale.specs.declared.slot.Slot.{Slot}
+use Rattle.mvo_tale.specs.declared.tale_place.TalePlace.{TalePlace}
 use Rattle.mvo_tale.specs.Slots.{open_end_at}
 use Rattle.mvo_tale.specs.Kept.{HasTale}
 use Rattle.mvo_tale.specs.Next.{AreGroupedTo}
@@ -17,42 +17,43 @@ use Rattle.mvo_representation.specs.Dependencies.{HasDependencies}
 use Rattle.mvo_representation.specs.Order.{AllStandInOrder}
 use Rattle.mvo_representation.specs.WordLists.{HasWordLists}
 use Rattle.mvo_collect.specs.Begun.{AreOver}
-use Rattle.mvo_core.specs.declared.transaction.Transaction.{Transaction}
+use Rattle.mvo_core.specs.declared.kept_transaction.KeptTransaction.{KeptTransaction}
 use Rattle.mvo_core.specs.Data.{CoreData, own_of}
 
 -- ---- what is kept of each transaction is what the state has of it
-pub record IsActive (table : Txns (Node Transaction)) (r : ActiveTx) : Type 0 where
-  pub own : Transaction
+pub record IsKeptActive (table : Txns (Node KeptTransaction)) (r : ActiveTx) : Type 0 where
+  pub own : KeptTransaction
   pub kept : own_of table r.id ≡ Some own
   pub history : own.work.history ≡ r.history
 
-pub record IsPreparing (table : Txns (Node Transaction)) (tale : List Slot)
+pub record IsKeptPreparing (table : Txns (Node KeptTransaction)) (tale : List TalePlace)
     (x : StampedTx) : Type 0 where
-  pub own : Transaction
+  pub own : KeptTransaction
   pub kept : own_of table x.id ≡ Some own
   pub history : own.work.history ≡ x.history
   pub checked : x.valid ≡ false → own.checked ≡ x.checked
   pub valid : own.valid ≡ x.valid
   pub place : open_end_at tale own.place ≡ Some x.end
 
-pub record HasWorks (s : State) (table : Txns (Node Transaction)) (tale : List Slot) : Type 0 where
-  pub active : AllByRecursion (IsActive table) s.active
+pub record HasWorks (s : State) (table : Txns (Node KeptTransaction))
+    (tale : List TalePlace) : Type 0 where
+  pub active : AllByRecursion (IsKeptActive table) s.active
   pub preparing :
-      AllByRecursion (λ x. x.settled ≡ false → IsPreparing table tale x) s.stamped
+      AllByRecursion (λ x. x.settled ≡ false → IsKeptPreparing table tale x) s.stamped
 
 -- the words that each still has to replace
-abbrev pub words_by : Option Transaction → List WordPlace
-words_by None = []
-words_by (Some own) = own.work.words
+abbrev pub own_words_of : Option KeptTransaction → List WordPlace
+own_words_of None = []
+own_words_of (Some own) = own.work.words
 
-abbrev pub words_in : Txns (Node Transaction) → ℕ → List WordPlace
-words_in table t = words_by (own_of table t)
+abbrev pub words_in : Txns (Node KeptTransaction) → ℕ → List WordPlace
+words_in table t = own_words_of (own_of table t)
 
 -- ---- the core
 -- it stands for the state, to which the steps since the opening lead
 pub record StandsFor (opening : Map) (steps : List Step) (s : State) (c : CoreData) : Type 0 where
   pub versions :
-      representation.StandsFor opening steps s (state_of c.table)
+      representation.VersionsStandFor opening steps s (state_of c.table)
       c.versions.slots c.versions.lists c.versions.places
   pub dependencies : HasDependencies s c.table
   pub order : AllStandInOrder s.start (state_of c.table) c.versions.slots c.versions.lists
@@ -74,5 +75,5 @@ pub record Stands (c : CoreData) : Type 0 where
   pub closed : IsClosedAt state.marks.closed state
 
 -- just opened over these rows at this mark
-abbrev pub OpensAs : Map → ℕ → CoreData → Type 0
-OpensAs rows mark c = StandsFor rows [] (opened rows mark) c
+abbrev pub HasOpenedOver : Map → ℕ → CoreData → Type 0
+HasOpenedOver rows mark c = StandsFor rows [] (opened rows mark) c

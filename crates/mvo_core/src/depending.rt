@@ -10,7 +10,7 @@ ghost use Rattle.mvo_core.specs.Data.{own_of};
 ghost use Rattle.mvo_core.specs.Keeping.{IsWritten, HasDoneAsMuch, HasMadeRoom, IsTold};
 ghost use Rattle.mvo_core.specs.Keeping.{HasDoneMore, IsRecorded};
 
-use crate::transaction::Table;
+use crate::kept_transaction::Table;
 use mvo_deps::{register, register_all};
 use mvo_txn::Located;
 use mvo_types::{Answer, Op, TxId};

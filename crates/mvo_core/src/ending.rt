@@ -3,32 +3,32 @@ ghost use Rattle.std.specs.Prelude.{◌≡◌, ◌≤◌, [], false, Some, IsSom
 ghost use Rattle.mvo_theory.specs.Entries.{written_keys};
 ghost use Rattle.mvo_theory.specs.Told.{history_told};
 ghost use Rattle.mvo_theory.specs.Limits.{AreLimited};
-ghost use Rattle.mvo_txn.specs.Txns.{state_of, spent_clock, IsPreparing};
-ghost use Rattle.mvo_txn.specs.Txns.{after_prepare, after_change};
-ghost use Rattle.mvo_deps.specs.Data.{after_commit};
+ghost use Rattle.mvo_txn.specs.Txns.{state_of, spent_clock, IsPreparingState};
+ghost use Rattle.mvo_txn.specs.Txns.{table_after_prepare, table_after_change};
+ghost use Rattle.mvo_deps.specs.Data.{after_dependency_commit};
 ghost use Rattle.mvo_deps.specs.Nodes.{data_of, IsReported};
 ghost use Rattle.mvo_deps.specs.Graph.{KeepsGraphAtCommit};
 ghost use Rattle.mvo_chain.specs.Slots.{version_at};
 ghost use Rattle.mvo_representation.specs.Words.{ends_of, stamp_in};
 ghost use Rattle.mvo_representation.specs.Table.{phases_of};
 ghost use Rattle.mvo_representation.specs.Order.{is_put_by};
-ghost use Rattle.mvo_representation.specs.WordLists.{number_at};
+ghost use Rattle.mvo_representation.specs.WordLists.{number_at_word};
 ghost use Rattle.mvo_core.specs.Data.{own_of};
 ghost use Rattle.mvo_core.specs.Standing.{words_in};
 ghost use Rattle.mvo_core.specs.Own.{own_place, own_history};
 ghost use Rattle.mvo_core.specs.Own.{own_check};
-ghost use Rattle.mvo_core.specs.Keeping.{IsWritten, IsWrittenThen, IsPlaced, IsCounted, HasHandedOver};
+ghost use Rattle.mvo_core.specs.Keeping.{IsWritten, IsWrittenThen, IsPlacedInTale, IsCounted, HasHandedOver};
 ghost use Rattle.mvo_core.specs.Aborting.{HasOpenPlace, tale_left};
 ghost use Rattle.mvo_core.specs.Collecting.{WaitBehind};
-ghost use Rattle.mvo_core.specs.Fronts.{passes, comes_at_draw, IsInFrontIf, AreInFront};
+ghost use Rattle.mvo_core.specs.Fronts.{version_passes, comes_at_draw, IsInFrontIf, AreInFront};
 
 use crate::answers::{Settlement, Validation};
 use crate::collecting::await_end;
 use crate::event_core::Core;
+use crate::kept_transaction::{KeptTransaction, Table};
 use crate::next_check::{NextCheck, check_next};
 use crate::readiness::{Readiness, readiness_of};
 use crate::refusing::{active, is_failure, not_undone};
-use crate::transaction::{Table, Transaction};
 use mvo_chain::VersionNo;
 use mvo_collect::Waiting;
 use mvo_deps::{report_abort, report_commit};
@@ -182,8 +182,8 @@ fn leave_tale(tale: &mut Tale, table: &Table, tx: Located)
 fn prepare(table: &mut Table, tx: Located, place: usize, end: Stamp) -> Result<Stamp, Refusal>
     requires { state_of table.old tx.id.0 ≡ Some TxState.Active }
     ensures end { IfOk result (λ drawn. drawn ≡ end) }
-    ensures ok { OnOk result (IsWrittenThen table.old table.new tx.id.0 (IsPlaced place)
-        (λ placed. after_prepare placed tx.id.0)) }
+    ensures ok { OnOk result (IsWrittenThen table.old table.new tx.id.0 (IsPlacedInTale place)
+        (λ placed. table_after_prepare placed tx.id.0)) }
     ensures refused { IfErr result (λ why. spent_clock table.old.clock ≡ Some why) }
     ensures err { OnErr result (table.new ≡ table.old) }
 {
@@ -208,7 +208,7 @@ fn count_check(table: &mut Table, tx: Located) -> Validation
 /// looked up.
 fn report_settled(table: &mut Table, tx: Located, has_dependents: bool)
     requires { has_dependents ≡ false → (data_of table.old tx.id).dependents ≡ [] }
-    ensures told { IsReported after_commit table.old table.new tx.id }
+    ensures told { IsReported after_dependency_commit table.old table.new tx.id }
     ensures graph { KeepsGraphAtCommit table.old table.new tx.id }
 {
     if has_dependents {
@@ -219,7 +219,7 @@ fn report_settled(table: &mut Table, tx: Located, has_dependents: bool)
 /// Settles a Preparing transaction by one look: answers its end and its place in the tale, with its
 /// operations, which are taken out.
 fn commit(table: &mut Table, tx: Located) -> (Stamp, usize, Operations)
-    requires { IsPreparing (state_of table.old tx.id.0) }
+    requires { IsPreparingState (state_of table.old tx.id.0) }
     ensures end { state_of table.old tx.id.0 ≡ Some (TxState.Preparing result.0) }
     ensures place { result.1 ≡ own_place (own_of table.old tx.id.0) }
     ensures told { history_told result.2.told.items ≡ own_history (own_of table.old tx.id.0) }
@@ -227,7 +227,7 @@ fn commit(table: &mut Table, tx: Located) -> (Stamp, usize, Operations)
         written_keys (own_history (own_of table.old tx.id.0)) }
     ensures limits { AreLimited (own_history (own_of table.old tx.id.0)) }
     ensures left { IsWrittenThen table.old table.new tx.id.0 HasHandedOver
-        (λ handed. after_change handed tx.id.0 (TxState.Committed result.0)) }
+        (λ handed. table_after_change handed tx.id.0 (TxState.Committed result.0)) }
 {
     let (end, node) = table.commit(tx);
     (end, node.own.place, node.own.work.take_operations())
@@ -304,7 +304,7 @@ fn bring_each_put(versions: &mut Versions, tx: TxId, work: &Work)
 
 /// The number of the version that has the word.
 pub fn number_of(word: WordPlace) -> VersionNo
-    ensures { result ≡ number_at word }
+    ensures { result ≡ number_at_word word }
 {
     match word {
         WordPlace::Begin(number) => number,
@@ -334,7 +334,7 @@ fn bring_put(versions: &mut Versions, tx: TxId, number: VersionNo)
 
 /// Whether the transaction put the version, or ended it and its put has no stamp for others.
 fn comes_at_draw(versions: &Versions, table: &Table, tx: TxId, number: VersionNo) -> bool
-    ensures { result ≡ passes (comes_at_draw (state_of table.now) tx.0)
+    ensures { result ≡ version_passes (comes_at_draw (state_of table.now) tx.0)
         (version_at versions.now.slots number) }
 {
     match versions.get(number) {
@@ -347,7 +347,7 @@ fn comes_at_draw(versions: &Versions, table: &Table, tx: TxId, number: VersionNo
 
 /// Whether the transaction put the version.
 fn is_put(versions: &Versions, tx: TxId, number: VersionNo) -> bool
-    ensures { result ≡ passes (is_put_by tx.0) (version_at versions.now.slots number) }
+    ensures { result ≡ version_passes (is_put_by tx.0) (version_at versions.now.slots number) }
 {
     match versions.get(number) {
         Some(version) => names(version.begin, tx),

@@ -1,5 +1,5 @@
+use crate::kept_transaction::{Table, begun};
 use crate::spares::{Spares, give_list};
-use crate::transaction::{Table, begun};
 use mvo_collect::Waiting;
 use mvo_tale::Tale;
 use mvo_txn::TxnTable;
@@ -52,13 +52,13 @@ impl Drop for Core {
 impl Model for Core {
     ghost use Rattle.std.specs.Coded.{codes};
     ghost use Rattle.mvo_hash.specs.Lists.{coded_lists};
-    ghost use Rattle.mvo_range.specs.Place.{coded_map};
+    ghost use Rattle.mvo_range.specs.Place.{coded_place_numbers};
     ghost use Rattle.mvo_txn.specs.Txns.{coded_txns};
     ghost use Rattle.mvo_core.specs.Data.{CoreData};
 
     ghost Value = { CoreData };
 
-    ghost coded = { Prim.hlevel (codes, coded_lists, coded_map, coded_txns) };
+    ghost coded = { Prim.hlevel (codes, coded_lists, coded_place_numbers, coded_txns) };
 
     ghost use Rattle.mvo_core.specs.View.{core_data, IsCore};
 
@@ -71,7 +71,7 @@ impl Core {
     ghost use Rattle.std.specs.Prelude.{◌≡◌, ◌+◌, ◌≤◌, IfOk, IfErr};
     ghost use Rattle.mvo_types.specs.declared.limits.TheConstants.{MAX_STAMP as LIMIT};
     ghost use Rattle.mvo_theory.specs.Calls.Call.{Begin};
-    ghost use Rattle.mvo_core.specs.Standing.{OpensAs};
+    ghost use Rattle.mvo_core.specs.Standing.{HasOpenedOver};
     ghost use Rattle.mvo_core.specs.Steps.{IsStep};
 
     /// A core over these rows, with the clock at their mark. The two indexes of 8,192 rows or more
@@ -85,7 +85,7 @@ impl Core {
         mark: Stamp,
     ) -> Result<Core, Refusal>
         requires { mark.0 ≤ LIMIT }
-        ensures ok { IfOk result (λ c. OpensAs rows mark.0 c) }
+        ensures ok { IfOk result (λ c. HasOpenedOver rows mark.0 c) }
         ensures err { IfErr result (λ r. r ≡ Refusal.OutOfMemory) }
     {
         let table = TxnTable::new(alloc, mark)?;

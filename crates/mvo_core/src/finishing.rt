@@ -2,7 +2,7 @@
 ghost use Rattle.std.specs.Prelude.{◌≡◌, IsSome, IfOk, IfErr, Some, drop, slice_get, length, nat_lt};
 ghost use Rattle.mvo_chain.specs.Slots.{version_at};
 ghost use Rattle.mvo_txn.specs.Txns.{state_of};
-ghost use Rattle.mvo_representation.specs.WordLists.{number_at, names_at, with_word};
+ghost use Rattle.mvo_representation.specs.WordLists.{number_at_word, names_at, with_word};
 ghost use Rattle.mvo_versions.specs.Changes.{IsReworded};
 ghost use Rattle.mvo_core.specs.Data.{own_of};
 ghost use Rattle.mvo_core.specs.Standing.{words_in};
@@ -12,7 +12,7 @@ ghost use Rattle.mvo_core.specs.Finishing.{from_own, IsOneReplaced, IsRewordedAt
 use crate::answers::Finishing;
 use crate::collecting::count_off;
 use crate::event_core::Core;
-use crate::transaction::Table;
+use crate::kept_transaction::Table;
 use mvo_txn::{Located, TxState};
 use mvo_types::{Refusal, TxId};
 use mvo_versions::Versions;
@@ -159,8 +159,8 @@ fn is_own(versions: &Versions, tx: TxId, place: WordPlace) -> bool
 
 /// Replaces the word.
 fn replace(versions: &mut Versions, place: WordPlace, word: Word)
-    requires { IsSome (version_at versions.old.slots (number_at place)) }
-    ensures { IsReworded versions.old versions.new (number_at place) (with_word place word) }
+    requires { IsSome (version_at versions.old.slots (number_at_word place)) }
+    ensures { IsReworded versions.old versions.new (number_at_word place) (with_word place word) }
 {
     match place {
         WordPlace::Begin(number) => versions.set_begin(number, word),

@@ -6,7 +6,7 @@ ghost use Rattle.mvo_core.specs.Holding.{own_told};
 
 use crate::equal::same_operations;
 use crate::event_core::Core;
-use crate::transaction::Table;
+use crate::kept_transaction::Table;
 use mvo_txn::Located;
 use mvo_types::{Answer, Op, TxId};
 

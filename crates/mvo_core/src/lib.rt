@@ -10,13 +10,13 @@ mod equal;
 mod event_core;
 mod finishing;
 mod holding;
+mod kept_transaction;
 mod next_check;
 mod operating;
 mod readiness;
 mod refusing;
 mod scanning;
 mod spares;
-mod transaction;
 mod trimming;
 
 pub use answers::{Closed, Finishing, Settlement, Validation};

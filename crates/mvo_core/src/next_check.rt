@@ -6,10 +6,10 @@ ghost use Rattle.mvo_visible.specs.Shown.{AllHaveFallingStamps};
 ghost use Rattle.mvo_core.specs.Checking.{change_between, change_for, IsNextCheck};
 ghost use Rattle.mvo_core.specs.Own.{own_entry};
 
+use crate::kept_transaction::{KeptTransaction, Table};
 use crate::refusing::not_preparing_in;
-use crate::transaction::{Table, Transaction};
 use mvo_deps::Node;
-use mvo_txn::{Located, Seat, TxState};
+use mvo_txn::{Located, TableSeat, TxState};
 use mvo_types::{Entry, Refusal, Stamp, TxId};
 use mvo_validate::Check;
 use mvo_versions::Versions;
@@ -53,7 +53,7 @@ fn next_change(
     versions: &Versions,
     table: &Table,
     tx: TxId,
-    seat: &Seat<Node<Transaction>>,
+    seat: &TableSeat<Node<KeptTransaction>>,
 ) -> Option<Stamp>
     ensures { let states = state_of table.now in
         AllHaveFallingStamps states versions.now.slots versions.now.lists →
@@ -69,7 +69,7 @@ fn next_change(
 }
 
 /// The next entry to check, if one is left.
-fn next_entry(own: &Transaction) -> Option<Entry>
+fn next_entry(own: &KeptTransaction) -> Option<Entry>
     ensures { result ≡ own_entry (Some own.now) }
 {
     own.work.entry_at(own.checked)

@@ -1,8 +1,8 @@
 //! Whether a transaction may be settled.
 ghost use Rattle.mvo_core.specs.Settling.{IsReadiness};
 
+use crate::kept_transaction::Table;
 use crate::refusing::not_preparing_in;
-use crate::transaction::Table;
 use mvo_deps::waiting_for;
 use mvo_txn::Located;
 use mvo_types::{Refusal, TxId};

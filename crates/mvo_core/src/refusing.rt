@@ -8,9 +8,9 @@ ghost use Rattle.mvo_core.specs.Causes.{unless_active_as, unless_preparing_as};
 ghost use Rattle.mvo_core.specs.Standing.{words_in};
 ghost use Rattle.mvo_txn.specs.Txns.{state_of};
 
-use crate::transaction::{Table, Transaction};
+use crate::kept_transaction::{KeptTransaction, Table};
 use mvo_deps::{Dependencies, Node};
-use mvo_txn::{Located, Seat, TxState};
+use mvo_txn::{Located, TableSeat, TxState};
 use mvo_types::{Entry, MAX_DATA_LEN, MAX_TABLE, Refusal, Row, RowKey};
 use mvo_work::Work;
 
@@ -25,7 +25,7 @@ fn flagged(dependencies: &Dependencies) -> Option<Refusal>
 }
 
 /// Why one that is unfinished may not be called as an Active one.
-fn not_active_in(seat: &Seat<Node<Transaction>>) -> Option<Refusal>
+fn not_active_in(seat: &TableSeat<Node<KeptTransaction>>) -> Option<Refusal>
     ensures { result ≡
         unless_active_as (Some seat.now.state) seat.now.kept.dependencies.aborted }
 {
@@ -49,7 +49,7 @@ pub fn active(table: &Table, tx: Located) -> (Option<Refusal>, usize)
 }
 
 /// Why one that is unfinished may not be called as a Preparing one.
-pub fn not_preparing_in(seat: &Seat<Node<Transaction>>) -> Option<Refusal>
+pub fn not_preparing_in(seat: &TableSeat<Node<KeptTransaction>>) -> Option<Refusal>
     ensures { result ≡
         unless_preparing_as (Some seat.now.state) seat.now.kept.dependencies.aborted }
 {

@@ -5,15 +5,15 @@ ghost use Rattle.std.specs.Option.{option_to_list};
 ghost use Rattle.mvo_chain.specs.Slots.{version_at};
 ghost use Rattle.mvo_range.specs.Place.{is_between};
 ghost use Rattle.mvo_txn.specs.Txns.{state_of};
-ghost use Rattle.mvo_core.specs.Scanning.{row_with_sort, is_below, is_up_to, is_met_by};
+ghost use Rattle.mvo_core.specs.Scanning.{row_with_sort, is_change_below, is_change_up_to, is_met_by};
 ghost use Rattle.mvo_core.specs.Scanning.{is_met_at_place, with_named, IsScanned};
 
 use crate::depending::record_answer_on;
 use crate::event_core::Core;
+use crate::kept_transaction::Table;
 use crate::refusing::not_looked;
-use crate::transaction::Table;
 use mvo_chain::VersionNo;
-use mvo_range::Place;
+use mvo_range::SortPlace;
 use mvo_txn::Located;
 use mvo_types::{Answer, Entry, MAX_DATA_LEN, Op, Refusal, Row, Stamp, TxId};
 use mvo_versions::Versions;
@@ -101,7 +101,7 @@ fn look_ahead(versions: &Versions, of: u8, lo: u64, hi: u64) -> usize
 }
 
 /// Whether the place's key has a version, whose data isn't too long, as none is.
-fn has_version(versions: &Versions, place: Place) -> bool {
+fn has_version(versions: &Versions, place: SortPlace) -> bool {
     let Some(number) = versions.walk(place.row_key()).next() else {
         return false;
     };
@@ -129,7 +129,7 @@ fn add_named(
     table: &Table,
     start: Stamp,
     tx: TxId,
-    place: Place,
+    place: SortPlace,
     id: Option<TxId>,
 ) -> Result<(), AllocError>
     ensures { OnOk result (on.new.items ≡ with_named
@@ -149,7 +149,7 @@ fn add_named(
 fn row_at_place(
     versions: &Versions,
     number: Option<VersionNo>,
-    place: Place,
+    place: SortPlace,
 ) -> Result<Option<Row>, AllocError>
     ensures { IfOk result (λ row. row ≡ row_with_sort versions.now.slots place.sort number) }
 {
@@ -164,7 +164,7 @@ fn row_at_place(
 
 /// Whether the scan meets a version at the place: another put it below the begin, and it isn't
 /// ended up to the start.
-fn is_met(versions: &Versions, table: &Table, start: Stamp, tx: TxId, place: Place) -> bool
+fn is_met(versions: &Versions, table: &Table, start: Stamp, tx: TxId, place: SortPlace) -> bool
     ensures { result ≡ is_met_at_place (state_of table.now) versions.now start.0 tx.0 place }
 {
     for number in versions.walk(place.row_key()) {
@@ -199,7 +199,7 @@ fn meets(
 
 /// Whether it is a change with a stamp below this one.
 fn is_below(seen: Seen, stamp: Stamp) -> bool
-    ensures { result ≡ is_below seen stamp.0 }
+    ensures { result ≡ is_change_below seen stamp.0 }
 {
     match seen {
         Seen::Nothing => false,
@@ -210,7 +210,7 @@ fn is_below(seen: Seen, stamp: Stamp) -> bool
 
 /// Whether it is a change with a stamp of at most this one.
 fn is_up_to(seen: Seen, stamp: Stamp) -> bool
-    ensures { result ≡ is_up_to seen stamp.0 }
+    ensures { result ≡ is_change_up_to seen stamp.0 }
 {
     match seen {
         Seen::Nothing => false,

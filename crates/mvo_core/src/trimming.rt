@@ -1,6 +1,6 @@
 //! The tale: what is stored of the commits, and where it starts.
 ghost use Rattle.std.specs.Prelude.{◌≡◌, min};
-ghost use Rattle.mvo_core.specs.Trimming.{is_within};
+ghost use Rattle.mvo_core.specs.Trimming.{may_trim_to};
 
 use crate::event_core::Core;
 use mvo_tale::Tale;
@@ -54,7 +54,7 @@ impl Core {
 /// Whether the tale may be trimmed up to there, by where it starts, the oldest begin and the
 /// low-water.
 fn is_within(upto: Stamp, start: Stamp, oldest: Stamp, low_water: Stamp) -> bool
-    ensures { result ≡ is_within upto.0 start.0 oldest.0 low_water.0 }
+    ensures { result ≡ may_trim_to upto.0 start.0 oldest.0 low_water.0 }
 {
     start < upto && upto <= oldest && upto <= low_water
 }

@@ -1,6 +1,6 @@
 //! Random calls of several transactions on a core: what they are told, and what the groups leave.
 
-use crate::draws::Draws;
+use crate::numbers::Numbers;
 use crate::reply::Reply;
 use crate::session::Session;
 use mvo_core::{Closed, Finishing, Settlement, Validation};
@@ -62,7 +62,7 @@ pub struct Counts {
 pub struct Course {
     alloc: Global,
     session: Session,
-    draws: Draws,
+    draws: Numbers,
     open: Vec<Open>,
     pub ends: Vec<Stamp>,
     pub ops: Vec<Vec<Op>>,
@@ -144,7 +144,7 @@ impl Course {
         Course {
             alloc,
             session,
-            draws: Draws(seed),
+            draws: Numbers::of(seed),
             open: Vec::new(alloc),
             ends: Vec::new(alloc),
             ops: Vec::new(alloc),

@@ -11,9 +11,16 @@ pub fn same<T: PartialEq + Debug>(rt: &impl Abort, left: &T, right: &T) {
     assert_eq!(rt; *left, *right);
 }
 
-/// Asserts that two values are equal, and tells at which line or place they aren't.
+/// Asserts that two values are equal, and tells at which step, line or place they aren't.
 pub fn same_at<T: PartialEq + Debug>(rt: &impl Abort, left: &T, right: &T, at: u64) {
     assert_eq!(rt; *left, *right, "at {at}");
+}
+
+/// Asserts that each number is above its floor.
+pub fn above(rt: &impl Abort, floors: &[(u64, u64)]) {
+    for (met, floor) in floors {
+        assert!(rt; *met > *floor, "{met}, and not more than {floor}");
+    }
 }
 
 /// Asserts that something holds.

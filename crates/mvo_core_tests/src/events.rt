@@ -1,6 +1,6 @@
 //! Random events of a transaction.
 
-use crate::draws::Draws;
+use crate::numbers::Numbers;
 use crate::plain::State;
 use mvo_types::{Op, Row, RowKey};
 use std::alloc::{AllocError, Global};
@@ -20,7 +20,7 @@ pub enum Event {
 #[derive(Drop)]
 pub struct Events {
     pub alloc: Global,
-    pub draws: Draws,
+    pub draws: Numbers,
     /// How many keys a table has.
     pub keys: u64,
 }

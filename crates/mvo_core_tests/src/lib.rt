@@ -1,10 +1,8 @@
-//! Tests of the event core over versions.
+//! Tests of the event core over versions, and of the crates below it.
 #![tactic(auto)]
 
 #[cfg(test)]
 mod course;
-#[cfg(test)]
-mod draws;
 #[cfg(test)]
 mod equal;
 #[cfg(test)]
@@ -16,11 +14,15 @@ mod limits;
 #[cfg(test)]
 mod met;
 #[cfg(test)]
+mod numbers;
+#[cfg(test)]
 mod plain;
 #[cfg(test)]
 mod random;
 #[cfg(test)]
 mod reply;
+#[cfg(test)]
+mod rules;
 #[cfg(test)]
 mod same;
 #[cfg(test)]

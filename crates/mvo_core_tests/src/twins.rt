@@ -2,7 +2,6 @@
 //! other.
 
 use crate::course::opening_rows;
-use crate::draws::Draws;
 use crate::equal::{holds, same};
 use crate::events::{Event, Events};
 use crate::met::{
@@ -10,6 +9,7 @@ use crate::met::{
     GROUP_OF_SEVERAL, Met, THREE_PREPARING, TRIMMED_PAST_GROUPS, TWO_DEPENDENCIES, TWO_FLAGGED,
     kind_of, kind_of_refusal,
 };
+use crate::numbers::Numbers;
 use crate::plain::{Plain, PlainGroup};
 use crate::reply::Reply;
 use crate::same::{are_same_records, is_same_reply};
@@ -116,7 +116,7 @@ impl Twins {
             plain,
             events: Events {
                 alloc,
-                draws: Draws(seed),
+                draws: Numbers::of(seed),
                 keys: 6,
             },
             waiting: VecDeque::new(alloc),

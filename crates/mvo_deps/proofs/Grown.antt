@@ -8,9 +8,9 @@ use Rattle.mvo_types.specs.declared.ids.TxId.{TxId}
 use Rattle.mvo_txn.specs.Txns.{Txns, state_of}
 use Rattle.mvo_txn.specs.Queue.{open_end}
 use Rattle.mvo_deps.specs.declared.node.Node.{Node}
-use Rattle.mvo_deps.specs.Data.{DependencyData, is_among, with_dependency, with_dependent, without_last_dependency, without_last_dependent, IsLastBeyond}
+use Rattle.mvo_deps.specs.Data.{DependencyData, is_id_among, with_dependency, with_dependent, without_last_dependency, without_last_dependent, IsLastBeyond}
 use Rattle.mvo_deps.specs.Nodes.{data_of, after_change, changed_if, after_register, after_register_all, noted_on, noted_all}
-use Rattle.mvo_deps.specs.Graph.{is_preparing, IsDependencyGraph}
+use Rattle.mvo_deps.specs.Graph.{is_id_preparing, IsDependencyGraph}
 use Rattle.mvo_deps.proofs.Apart.{front_of}
 use Rattle.mvo_deps.proofs.Changes.{clock_changed, change_taken_back, dependent_taken_back}
 use Rattle.mvo_deps.proofs.Looks.{state_changed, there_changed, data_changed, no_data}
@@ -105,7 +105,7 @@ module _ {P : Type 0} where
 
   -- ---- registering notes, or changes nothing
   pub registered_grows : (before t : Txns (Node P)) (tx on : TxId) (ons : List TxId) → t ≡ noted_all before tx ons → (more : List TxId) × (after_register t tx on ≡ noted_all before tx more)
-  registered_grows before t tx on ons e = go (is_among on (data_of t tx).on) (is_among tx (data_of t on).dependents)
+  registered_grows before t tx on ons e = go (is_id_among on (data_of t tx).on) (is_id_among tx (data_of t on).dependents)
     where
       go : (a b : Bool) → (more : List TxId) × (cond a t (cond b t (noted_on t tx on)) ≡ noted_all before tx more)
       go true b = (ons, e)
@@ -118,7 +118,7 @@ module _ {P : Type 0} where
 
   -- ---- the graph
   pub state_registered : (t : Txns (Node P)) (tx on : TxId) (q : ℕ) → state_of (after_register t tx on) q ≡ state_of t q
-  state_registered t tx on q = go (is_among on (data_of t tx).on) (is_among tx (data_of t on).dependents)
+  state_registered t tx on q = go (is_id_among on (data_of t tx).on) (is_id_among tx (data_of t on).dependents)
     where
       go : (a b : Bool) → state_of (cond a t (cond b t (noted_on t tx on))) q ≡ state_of t q
       go true b = refl
@@ -126,7 +126,7 @@ module _ {P : Type 0} where
       go false false = state_changed (after_change t on.0 (with_dependent tx)) tx.0 (with_dependency on) q ∙ state_changed t on.0 (with_dependent tx) q
 
   pub clock_registered : (t : Txns (Node P)) (tx on : TxId) → (after_register t tx on).clock ≡ t.clock
-  clock_registered t tx on = go (is_among on (data_of t tx).on) (is_among tx (data_of t on).dependents)
+  clock_registered t tx on = go (is_id_among on (data_of t tx).on) (is_id_among tx (data_of t on).dependents)
     where
       go : (a b : Bool) → (cond a t (cond b t (noted_on t tx on))).clock ≡ t.clock
       go true b = refl
@@ -134,26 +134,26 @@ module _ {P : Type 0} where
       go false false = clock_changed (after_change t on.0 (with_dependent tx)) tx.0 (with_dependency on) ∙ clock_changed t on.0 (with_dependent tx)
 
   pub there_registered : (t : Txns (Node P)) (tx on : TxId) (q : ℕ) → is_some (get (after_register t tx on).seats q) ≡ is_some (get t.seats q)
-  there_registered t tx on q = go (is_among on (data_of t tx).on) (is_among tx (data_of t on).dependents)
+  there_registered t tx on q = go (is_id_among on (data_of t tx).on) (is_id_among tx (data_of t on).dependents)
     where
       go : (a b : Bool) → is_some (get (cond a t (cond b t (noted_on t tx on))).seats q) ≡ is_some (get t.seats q)
       go true b = refl
       go false true = refl
       go false false = there_noted t tx on q
 
-  pub kept_registered : (t : Txns (Node P)) (ab : List TxId) (tx on : TxId) → is_some (get t.seats tx.0) ≡ true → is_preparing t on ≡ true → IsDependencyGraph t ab → IsDependencyGraph (after_register t tx on) ab
-  kept_registered t ab tx on there prep h = go (is_among on (data_of t tx).on) refl (is_among tx (data_of t on).dependents) refl
+  pub kept_registered : (t : Txns (Node P)) (ab : List TxId) (tx on : TxId) → is_some (get t.seats tx.0) ≡ true → is_id_preparing t on ≡ true → IsDependencyGraph t ab → IsDependencyGraph (after_register t tx on) ab
+  kept_registered t ab tx on there prep h = go (is_id_among on (data_of t tx).on) refl (is_id_among tx (data_of t on).dependents) refl
     where
-      go : (a : Bool) → is_among on (data_of t tx).on ≡ a → (b : Bool) → is_among tx (data_of t on).dependents ≡ b → IsDependencyGraph (cond a t (cond b t (noted_on t tx on))) ab
+      go : (a : Bool) → is_id_among on (data_of t tx).on ≡ a → (b : Bool) → is_id_among tx (data_of t on).dependents ≡ b → IsDependencyGraph (cond a t (cond b t (noted_on t tx on))) ab
       go true i b j = h
       go false i true j = h
       go false i false j = kept_noted t ab tx on there prep i j h
 
-  pub kept_registered_all : (t : Txns (Node P)) (ab : List TxId) (tx : TxId) (ons : List TxId) → is_some (get t.seats tx.0) ≡ true → AllByRecursion (λ on. is_preparing t on ≡ true) ons → IsDependencyGraph t ab → IsDependencyGraph (after_register_all t tx ons) ab
+  pub kept_registered_all : (t : Txns (Node P)) (ab : List TxId) (tx : TxId) (ons : List TxId) → is_some (get t.seats tx.0) ≡ true → AllByRecursion (λ on. is_id_preparing t on ≡ true) ons → IsDependencyGraph t ab → IsDependencyGraph (after_register_all t tx ons) ab
   kept_registered_all t ab tx [] there prep h = h
   kept_registered_all t ab tx (x ∷ xs) there prep h =
       kept_registered_all (after_register t tx x) ab tx xs (there_registered t tx x tx.0 ∙ there) (still xs prep.1) (kept_registered t ab tx x there prep.0 h)
     where
-      still : (ons : List TxId) → AllByRecursion (λ on. is_preparing t on ≡ true) ons → AllByRecursion (λ on. is_preparing (after_register t tx x) on ≡ true) ons
+      still : (ons : List TxId) → AllByRecursion (λ on. is_id_preparing t on ≡ true) ons → AllByRecursion (λ on. is_id_preparing (after_register t tx x) on ≡ true) ons
       still [] k = tt
       still (y ∷ ys) k = (ap (λ o. is_some (open_end o)) (state_registered t tx x y.0) ∙ k.0, still ys k.1)

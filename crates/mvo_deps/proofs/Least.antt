@@ -8,12 +8,12 @@ use Rattle.mvo_types.specs.declared.ids.TxId.{TxId}
 use Rattle.mvo_txn.specs.Txns.{Txns, state_of}
 use Rattle.mvo_txn.specs.Queue.{open_end}
 use Rattle.mvo_txn.proofs.Queues.{same_some}
-use Rattle.mvo_deps.specs.Data.{is_among}
-use Rattle.mvo_deps.specs.Waiting.{IsOpen, IsLeastOpen, HasNoneOpen, IsLeast}
+use Rattle.mvo_deps.specs.Data.{is_id_among}
+use Rattle.mvo_deps.specs.Waiting.{IsOpenEnd, IsLeastOpen, HasNoneOpen, IsLeast}
 use Rattle.mvo_deps.specs.Waiting.IsLeast.{Nobody, Somebody}
 use Rattle.mvo_deps.proofs.Apart.{among_behind}
 
-either : (a b : Bool) → (a || b) ≡ true → (a ≡ true) ⊎ (b ≡ true)
+pub either : (a b : Bool) → (a || b) ≡ true → (a ≡ true) ⊎ (b ≡ true)
 either true b e = inl refl
 either false b e = inr e
 
@@ -26,18 +26,18 @@ or_true_right false b e = e
 
 module _ {P : Type 0} where
   -- one more of the list is open as before, or is the last
-  open_more : (t : Txns P) (ids : List TxId) (d id : TxId) (end : ℕ) → IsOpen t (ids ++ d ∷ []) id end → IsOpen t ids id end ⊎ ((id.0 ≡ d.0) × (open_end (state_of t d.0) ≡ Some end))
+  open_more : (t : Txns P) (ids : List TxId) (d id : TxId) (end : ℕ) → IsOpenEnd t (ids ++ d ∷ []) id end → IsOpenEnd t ids id end ⊎ ((id.0 ≡ d.0) × (open_end (state_of t d.0) ≡ Some end))
   open_more t ids d id end h =
       ⊎_elim
       (λ e. inl (record { among = e; open_end_is = h.open_end_is }))
       (λ e. let same = eqb-true id.0 d.0 e in inr (same, sym (ap (λ n. open_end (state_of t n)) same) ∙ h.open_end_is))
-      (either (is_among id ids) (eqb id.0 d.0) (sym (among_behind id d ids) ∙ h.among))
+      (either (is_id_among id ids) (eqb id.0 d.0) (sym (among_behind id d ids) ∙ h.among))
 
-  open_before : (t : Txns P) (ids : List TxId) (d id : TxId) (end : ℕ) → IsOpen t ids id end → IsOpen t (ids ++ d ∷ []) id end
-  open_before t ids d id end h = record { among = among_behind id d ids ∙ or_true_left (is_among id ids) (eqb id.0 d.0) h.among; open_end_is = h.open_end_is }
+  open_before : (t : Txns P) (ids : List TxId) (d id : TxId) (end : ℕ) → IsOpenEnd t ids id end → IsOpenEnd t (ids ++ d ∷ []) id end
+  open_before t ids d id end h = record { among = among_behind id d ids ∙ or_true_left (is_id_among id ids) (eqb id.0 d.0) h.among; open_end_is = h.open_end_is }
 
-  open_last : (t : Txns P) (ids : List TxId) (d : TxId) (end : ℕ) → open_end (state_of t d.0) ≡ Some end → IsOpen t (ids ++ d ∷ []) d end
-  open_last t ids d end e = record { among = among_behind d d ids ∙ or_true_right (is_among d ids) (eqb d.0 d.0) (eq-eqb d.0 d.0 refl); open_end_is = e }
+  open_last : (t : Txns P) (ids : List TxId) (d : TxId) (end : ℕ) → open_end (state_of t d.0) ≡ Some end → IsOpenEnd t (ids ++ d ∷ []) d end
+  open_last t ids d end e = record { among = among_behind d d ids ∙ or_true_right (is_id_among d ids) (eqb d.0 d.0) (eq-eqb d.0 d.0 refl); open_end_is = e }
 
   pub least_none : (t : Txns P) (end : ℕ) → IsLeast t [] None end
   least_none t end = Nobody end (record { none = λ id e h. false≢true h.among })

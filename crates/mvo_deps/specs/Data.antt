@@ -17,13 +17,13 @@ abbrev pub no_dependencies : DependencyData
 no_dependencies = record { unsettled = 0; aborted = None; on = []; dependents = [] }
 
 -- whether the transaction is one of these
-abbrev pub is_among : TxId → List TxId → Bool
-is_among id ids = list_any (λ other. eqb other.0 id.0) ids
+abbrev pub is_id_among : TxId → List TxId → Bool
+is_id_among id ids = list_any (λ other. eqb other.0 id.0) ids
 
 -- no transaction stands twice
-abbrev pub IsApart : List TxId → Type 0
-IsApart [] = Unit {0}
-IsApart (id ∷ ids) = (is_among id ids ≡ false) × IsApart ids
+abbrev pub AreDistinctIds : List TxId → Type 0
+AreDistinctIds [] = Unit {0}
+AreDistinctIds (id ∷ ids) = (is_id_among id ids ≡ false) × AreDistinctIds ids
 
 -- it depends on one more, which isn't settled
 abbrev pub with_dependency : TxId → DependencyData → DependencyData
@@ -45,21 +45,21 @@ abbrev pub without_dependents : DependencyData → DependencyData
 without_dependents d = record d { dependents = [] }
 
 -- one that it depends on is committed
-abbrev pub after_commit : DependencyData → DependencyData
-after_commit d = record d { unsettled = d.unsettled - 1 }
+abbrev pub after_dependency_commit : DependencyData → DependencyData
+after_dependency_commit d = record d { unsettled = d.unsettled - 1 }
 
 abbrev pub first_of : Option TxId → TxId → TxId
 first_of None by = by
 first_of (Some first) by = first
 
 -- one that it depends on is aborted: it is flagged, unless it was
-abbrev pub after_abort : TxId → DependencyData → DependencyData
-after_abort by d =
+abbrev pub after_dependency_abort : TxId → DependencyData → DependencyData
+after_dependency_abort by d =
     record d { unsettled = d.unsettled - 1; aborted = Some (first_of d.aborted by) }
 
-abbrev pub noted : Outcome → DependencyData → DependencyData
-noted Committed d = after_commit d
-noted (Aborted by) d = after_abort by d
+abbrev pub dependency_noted : Outcome → DependencyData → DependencyData
+dependency_noted Committed d = after_dependency_commit d
+dependency_noted (Aborted by) d = after_dependency_abort by d
 
 -- it is the last of these, which are more than so many
 pub record IsLastBeyond (count : ℕ) (ids : List TxId) (id : TxId) : Type 0 where
@@ -68,6 +68,6 @@ pub record IsLastBeyond (count : ℕ) (ids : List TxId) (id : TxId) : Type 0 whe
   pub is : ids ≡ front ++ id ∷ []
 
 -- the counter counts some of those it depends on, and each dependent stands there once
-pub record IsSound (unsettled : ℕ) (on dependents : List TxId) : Type 0 where
+pub record IsDependencySound (unsettled : ℕ) (on dependents : List TxId) : Type 0 where
   pub counted : unsettled ≤ length on
-  pub apart : IsApart dependents
+  pub apart : AreDistinctIds dependents

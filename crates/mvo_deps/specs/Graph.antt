@@ -6,18 +6,18 @@ use Rattle.mvo_types.specs.declared.ids.TxId.{TxId}
 use Rattle.mvo_types.specs.declared.ids.Stamp.{Stamp}
 use Rattle.mvo_txn.specs.declared.state.TxState.{TxState}
 use Rattle.mvo_txn.specs.declared.state.TxState.TheVariants.{Active, Preparing, Committed, Aborted}
-use Rattle.mvo_txn.specs.Txns.{Txns, state_of, IsPreparing, IsUnended, after_change}
+use Rattle.mvo_txn.specs.Txns.{Txns, state_of, IsPreparingState, IsUnended, table_after_change}
 use Rattle.mvo_txn.specs.Queue.{open_end}
 use Rattle.mvo_deps.specs.declared.node.Node.{Node}
-use Rattle.mvo_deps.specs.Data.{DependencyData, is_among, IsApart}
+use Rattle.mvo_deps.specs.Data.{DependencyData, is_id_among, AreDistinctIds}
 use Rattle.mvo_deps.specs.Nodes.{data_of}
 
-abbrev pub is_preparing : {P : Type 0} → Txns P → TxId → Bool
-is_preparing t id = is_some (open_end (state_of t id.0))
+abbrev pub is_id_preparing : {P : Type 0} → Txns P → TxId → Bool
+is_id_preparing t id = is_some (open_end (state_of t id.0))
 
 -- how many of these are Preparing
 abbrev pub preparing_count : {P : Type 0} → Txns P → List TxId → ℕ
-preparing_count t ids = count_by (is_preparing t) ids
+preparing_count t ids = count_by (is_id_preparing t) ids
 
 abbrev pub IsUnfinished : {P : Type 0} → Txns P → TxId → Type 0
 IsUnfinished t id = IsSome (map.get t.seats id.0)
@@ -25,7 +25,7 @@ IsUnfinished t id = IsSome (map.get t.seats id.0)
 -- the first of the former that is among the latter
 abbrev pub first_among : List TxId → List TxId → Option TxId
 first_among [] ids = None
-first_among (x ∷ xs) ids = if is_among x ids then Some x else first_among xs ids
+first_among (x ∷ xs) ids = if is_id_among x ids then Some x else first_among xs ids
 
 -- it has begun, and isn't Active any more
 pub record HasStopped {P : Type 0} (t : Txns P) (id : TxId) : Type 0 where
@@ -53,45 +53,45 @@ pub record IsDependencyGraph {P : Type 0} (t : Txns (Node P)) (aborted : List Tx
       → (data_of t tx).unsettled ≡ preparing_count t (data_of t tx).on
   pub flag : (tx : TxId)
       → (data_of t tx).aborted ≡ first_among aborted (data_of t tx).on
-  pub on_once : (tx : TxId) → IsApart (data_of t tx).on
-  pub dependents_once : (on : TxId) → IsApart (data_of t on).dependents
-  pub both_sides : (tx on : TxId) → IsUnfinished t tx → is_preparing t on ≡ true
-      → is_among tx (data_of t on).dependents ≡ is_among on (data_of t tx).on
-  pub settled : (on : TxId) → is_preparing t on ≡ false → (data_of t on).dependents ≡ []
-  pub stopped : (tx on : TxId) → is_among on (data_of t tx).on ≡ true → HasStopped t on
-  pub known : (tx on : TxId) → is_among tx (data_of t on).dependents ≡ true → tx.0 ≤ t.clock
+  pub on_once : (tx : TxId) → AreDistinctIds (data_of t tx).on
+  pub dependents_once : (on : TxId) → AreDistinctIds (data_of t on).dependents
+  pub both_sides : (tx on : TxId) → IsUnfinished t tx → is_id_preparing t on ≡ true
+      → is_id_among tx (data_of t on).dependents ≡ is_id_among on (data_of t tx).on
+  pub settled : (on : TxId) → is_id_preparing t on ≡ false → (data_of t on).dependents ≡ []
+  pub stopped : (tx on : TxId) → is_id_among on (data_of t tx).on ≡ true → HasStopped t on
+  pub known : (tx on : TxId) → is_id_among tx (data_of t on).dependents ≡ true → tx.0 ≤ t.clock
   pub drawn : (tx : TxId) → IsUnfinished t tx → tx.0 ≤ t.clock
-  pub fallen : (id : TxId) → is_among id aborted ≡ true → HasFallen t id
+  pub fallen : (id : TxId) → is_id_among id aborted ≡ true → HasFallen t id
 
 -- an unfinished transaction may come to depend on a Preparing one
 abbrev pub KeepsGraph : {P : Type 0} → Txns (Node P) → Txns (Node P) → TxId → TxId → Type 0
 KeepsGraph old new tx on = (aborted : List TxId)
-    → IsUnfinished old tx → IsPreparing (state_of old on.0)
+    → IsUnfinished old tx → IsPreparingState (state_of old on.0)
     → IsDependencyGraph old aborted → IsDependencyGraph new aborted
 
 -- and on each of several
 abbrev pub KeepsGraphOverAll : {P : Type 0} → Txns (Node P) → Txns (Node P)
     → TxId → List TxId → Type 0
 KeepsGraphOverAll old new tx ons = (aborted : List TxId)
-    → IsUnfinished old tx → AllByRecursion (λ on. IsPreparing (state_of old on.0)) ons
+    → IsUnfinished old tx → AllByRecursion (λ on. IsPreparingState (state_of old on.0)) ons
     → IsDependencyGraph old aborted → IsDependencyGraph new aborted
 
 -- and depends on it then
 abbrev pub Depends : {P : Type 0} → Txns (Node P) → Txns (Node P) → TxId → TxId → Type 0
 Depends old new tx on = (aborted : List TxId)
-    → IsUnfinished old tx → IsPreparing (state_of old on.0)
-    → IsDependencyGraph old aborted → is_among on (data_of new tx).on ≡ true
+    → IsUnfinished old tx → IsPreparingState (state_of old on.0)
+    → IsDependencyGraph old aborted → is_id_among on (data_of new tx).on ≡ true
 
 -- the one that became Committed in the table just now is reported
 abbrev pub KeepsGraphAtCommit : {P : Type 0} → Txns (Node P) → Txns (Node P) → TxId → Type 0
 KeepsGraphAtCommit {P} old new on = (before : Txns (Node P)) (end : Stamp) (aborted : List TxId)
-    → IsPreparing (state_of before on.0) → old ≡ after_change before on.0 (Committed end)
+    → IsPreparingState (state_of before on.0) → old ≡ table_after_change before on.0 (Committed end)
     → IsDependencyGraph before aborted → IsDependencyGraph new aborted
 
 -- the one that became Aborted in the table just now is reported, behind those before
 abbrev pub KeepsGraphAtAbort : {P : Type 0} → Txns (Node P) → Txns (Node P) → TxId → Type 0
 KeepsGraphAtAbort {P} old new on = (before : Txns (Node P)) (aborted : List TxId)
-    → IsUnended (state_of before on.0) → old ≡ after_change before on.0 Aborted
+    → IsUnended (state_of before on.0) → old ≡ table_after_change before on.0 Aborted
     → IsDependencyGraph before aborted → IsDependencyGraph new (aborted ++ on ∷ [])
 
 -- one with these dependencies waits for somebody where its counter isn't 0

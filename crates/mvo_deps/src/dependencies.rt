@@ -1,7 +1,7 @@
 ghost use Rattle.std.specs.Prelude.{◌≡◌, ◌≤◌, length, nat_lt, false, OnOk, OnErr, MatchOption};
-ghost use Rattle.mvo_deps.specs.Data.{no_dependencies, is_among, IsApart, IsLastBeyond};
+ghost use Rattle.mvo_deps.specs.Data.{no_dependencies, is_id_among, AreDistinctIds, IsLastBeyond};
 ghost use Rattle.mvo_deps.specs.Data.{with_dependency, with_dependent, without_dependents};
-ghost use Rattle.mvo_deps.specs.Data.{without_last_dependency, without_last_dependent, noted};
+ghost use Rattle.mvo_deps.specs.Data.{without_last_dependency, without_last_dependent, dependency_noted};
 
 use crate::outcome::Outcome;
 use mvo_types::TxId;
@@ -21,7 +21,7 @@ pub struct Dependencies {
 }
 
 impl Model for Dependencies {
-    ghost use Rattle.mvo_deps.specs.Data.{DependencyData, IsSound};
+    ghost use Rattle.mvo_deps.specs.Data.{DependencyData, IsDependencySound};
 
     ghost Value = { DependencyData };
 
@@ -32,7 +32,7 @@ impl Model for Dependencies {
       dependents = d.dependents.items;
     } };
 
-    ghost invariant = { λ d. IsSound d.unsettled d.on.items d.dependents.items };
+    ghost invariant = { λ d. IsDependencySound d.unsettled d.on.items d.dependents.items };
 }
 
 impl Dependencies {
@@ -64,7 +64,7 @@ impl Dependencies {
 
     /// Whether it depends on the transaction, which may be settled by now.
     pub fn depends_on(&self, id: TxId) -> bool
-        ensures { result ≡ is_among id self.now.on }
+        ensures { result ≡ is_id_among id self.now.on }
     {
         self.on.contains(&id)
     }
@@ -78,7 +78,7 @@ impl Dependencies {
 
     /// Whether the transaction depends on it.
     pub(crate) fn has_dependent(&self, id: TxId) -> bool
-        ensures { result ≡ is_among id self.now.dependents }
+        ensures { result ≡ is_id_among id self.now.dependents }
     {
         self.dependents.contains(&id)
     }
@@ -113,7 +113,7 @@ impl Dependencies {
 
     /// One more depends on it.
     pub(crate) fn add_dependent(&mut self, id: TxId) -> Result<(), AllocError>
-        requires { is_among id self.old.dependents ≡ false }
+        requires { is_id_among id self.old.dependents ≡ false }
         ensures ok { OnOk result (self.new ≡ with_dependent id self.old) }
         ensures err { OnErr result (self.new ≡ self.old) }
     {
@@ -141,7 +141,7 @@ impl Dependencies {
     /// Nobody depends on it any more. Answers who did, each once.
     pub(crate) fn take_dependents(&mut self) -> Vec<TxId>
         ensures taken { result.items ≡ self.old.dependents }
-        ensures apart { IsApart result.items }
+        ensures apart { AreDistinctIds result.items }
         ensures left { self.new ≡ without_dependents self.old }
     {
         let none = Vec::new(*self.dependents.allocator());
@@ -150,7 +150,7 @@ impl Dependencies {
 
     /// One that it depends on is settled.
     pub(crate) fn note(&mut self, outcome: Outcome)
-        ensures { self.new ≡ noted outcome self.old }
+        ensures { self.new ≡ dependency_noted outcome self.old }
     {
         self.unsettled = self.unsettled.saturating_sub(1);
         if let Outcome::Aborted(id) = outcome {

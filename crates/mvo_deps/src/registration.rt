@@ -1,5 +1,5 @@
 ghost use Rattle.std.specs.Prelude.{◌≡◌, ◌≤◌, length, false, OnOk, OnErr, MatchOption};
-ghost use Rattle.mvo_deps.specs.Data.{is_among, with_dependency, with_dependent, IsLastBeyond};
+ghost use Rattle.mvo_deps.specs.Data.{is_id_among, with_dependency, with_dependent, IsLastBeyond};
 ghost use Rattle.mvo_deps.specs.Data.{without_last_dependency, without_last_dependent};
 ghost use Rattle.mvo_deps.specs.Nodes.{data_of, after_change, after_register};
 ghost use Rattle.mvo_deps.specs.Nodes.{after_register_all, TakesBack};
@@ -94,7 +94,7 @@ fn last_beyond<P>(table: &TxnTable<Node<P>>, tx: Located, count: usize) -> Optio
 }
 
 fn depends_on<P>(table: &TxnTable<Node<P>>, tx: Located, on: TxId) -> bool
-    ensures { result ≡ is_among on (data_of table.now tx.id).on }
+    ensures { result ≡ is_id_among on (data_of table.now tx.id).on }
 {
     match table.get(tx) {
         Some(seat) => seat.kept.dependencies.depends_on(on),
@@ -103,7 +103,7 @@ fn depends_on<P>(table: &TxnTable<Node<P>>, tx: Located, on: TxId) -> bool
 }
 
 fn has_dependent<P>(table: &TxnTable<Node<P>>, on: Located, id: TxId) -> bool
-    ensures { result ≡ is_among id (data_of table.now on.id).dependents }
+    ensures { result ≡ is_id_among id (data_of table.now on.id).dependents }
 {
     match table.get(on) {
         Some(seat) => seat.kept.dependencies.has_dependent(id),
@@ -112,7 +112,7 @@ fn has_dependent<P>(table: &TxnTable<Node<P>>, on: Located, id: TxId) -> bool
 }
 
 fn add_dependent<P>(table: &mut TxnTable<Node<P>>, on: Located, id: TxId) -> Result<(), AllocError>
-    requires { is_among id (data_of table.old on.id).dependents ≡ false }
+    requires { is_id_among id (data_of table.old on.id).dependents ≡ false }
     ensures ok { OnOk result (table.new ≡ after_change table.old on.id.0 (with_dependent id)) }
     ensures err { OnErr result (table.new ≡ table.old) }
 {

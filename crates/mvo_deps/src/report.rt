@@ -1,5 +1,5 @@
 ghost use Rattle.std.specs.Prelude.{◌≡◌};
-ghost use Rattle.mvo_deps.specs.Data.{IsApart, after_commit, after_abort, noted};
+ghost use Rattle.mvo_deps.specs.Data.{AreDistinctIds, after_dependency_commit, after_dependency_abort, dependency_noted};
 ghost use Rattle.mvo_deps.specs.Nodes.{after_change, IsEachChanged, IsReported};
 ghost use Rattle.mvo_deps.specs.Graph.{KeepsGraphAtCommit, KeepsGraphAtAbort};
 
@@ -12,7 +12,7 @@ use mvo_types::TxId;
 ///
 /// It takes no memory, and time by the number of those that it tells.
 pub fn report_commit<P>(table: &mut TxnTable<Node<P>>, on: Located)
-    ensures told { IsReported after_commit table.old table.new on.id }
+    ensures told { IsReported after_dependency_commit table.old table.new on.id }
     ensures graph { KeepsGraphAtCommit table.old table.new on.id }
 {
     report(table, on, Outcome::Committed);
@@ -23,7 +23,7 @@ pub fn report_commit<P>(table: &mut TxnTable<Node<P>>, on: Located)
 ///
 /// It takes no memory, and time by the number of those that it tells.
 pub fn report_abort<P>(table: &mut TxnTable<Node<P>>, on: Located)
-    ensures told { IsReported (after_abort on.id) table.old table.new on.id }
+    ensures told { IsReported (after_dependency_abort on.id) table.old table.new on.id }
     ensures graph { KeepsGraphAtAbort table.old table.new on.id }
 {
     report(table, on, Outcome::Aborted(on.id));
@@ -31,7 +31,7 @@ pub fn report_abort<P>(table: &mut TxnTable<Node<P>>, on: Located)
 
 #[inline(always)]
 fn report<P>(table: &mut TxnTable<Node<P>>, on: Located, outcome: Outcome)
-    ensures { IsReported (noted outcome) table.old table.new on.id }
+    ensures { IsReported (dependency_noted outcome) table.old table.new on.id }
 {
     let Some(node) = table.get_mut(on) else {
         return;
@@ -41,8 +41,8 @@ fn report<P>(table: &mut TxnTable<Node<P>>, on: Located, outcome: Outcome)
 }
 
 fn note_each<P>(table: &mut TxnTable<Node<P>>, ids: &[TxId], outcome: Outcome)
-    requires { IsApart ids.now }
-    ensures { IsEachChanged (noted outcome) table.old table.new ids.now }
+    requires { AreDistinctIds ids.now }
+    ensures { IsEachChanged (dependency_noted outcome) table.old table.new ids.now }
 {
     for id in ids {
         note(table, *id, outcome);
@@ -50,7 +50,7 @@ fn note_each<P>(table: &mut TxnTable<Node<P>>, ids: &[TxId], outcome: Outcome)
 }
 
 fn note<P>(table: &mut TxnTable<Node<P>>, id: TxId, outcome: Outcome)
-    ensures { table.new ≡ after_change table.old id.0 (noted outcome) }
+    ensures { table.new ≡ after_change table.old id.0 (dependency_noted outcome) }
 {
     let seat = table.seat_of(id);
     let tx = Located { id, seat };

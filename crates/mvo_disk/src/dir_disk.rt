@@ -2,9 +2,9 @@
 ghost use Rattle.std.specs.Prelude.{◌≡◌, [], ◌<◌, IfOk};
 ghost use Rattle.mvo_disk.specs.declared.limits.TheConstants.{FILE_COUNT};
 
+use crate::disk_history::DiskHistory;
 use crate::folder::{Folder, FolderRefusal};
-use crate::progress::Progress;
-use crate::record::Record;
+use crate::read_progress::ReadProgress;
 use crate::{Disk, DiskFault, FILE_COUNT, Start};
 use std::alloc::Global;
 use std::fs::{File, Files};
@@ -21,9 +21,9 @@ use std::marker::PhantomData;
 /// system: the folder has to be opened again.
 ///
 /// `P` is told of each read how many bytes were read so far, and how many the files held at first.
-pub struct DirDisk<R: Files<File = File> + Drop, S: Start, P: Progress + Drop> {
+pub struct DirDisk<R: Files<File = File> + Drop, S: Start, P: ReadProgress + Drop> {
     folder: Folder<R>,
-    history: Record,
+    history: DiskHistory,
     start: PhantomData<S>,
     progress: P,
     read: u64,
@@ -33,7 +33,7 @@ pub struct DirDisk<R: Files<File = File> + Drop, S: Start, P: Progress + Drop> {
     fault_count: u64,
 }
 
-impl<R: Files<File = File> + Drop, S: Start, P: Progress + Drop> Drop for DirDisk<R, S, P> {
+impl<R: Files<File = File> + Drop, S: Start, P: ReadProgress + Drop> Drop for DirDisk<R, S, P> {
     fn drop(self) {
         let DirDisk {
             folder: _,
@@ -59,7 +59,7 @@ fn find_all<R: Files<File = File> + Drop>(folder: &mut Folder<R>) -> Result<u64,
     Ok(all)
 }
 
-impl<R: Files<File = File> + Drop, S: Start, P: Progress + Drop> DirDisk<R, S, P> {
+impl<R: Files<File = File> + Drop, S: Start, P: ReadProgress + Drop> DirDisk<R, S, P> {
     ghost use Rattle.std.specs.Prelude.{◌≡◌, ◌<◌, ◌+◌, ◌^◌, [], IfOk, IsErr};
 
     /// The disk in the folder at a path. All that its files hold is durable then. The folder is
@@ -79,7 +79,7 @@ impl<R: Files<File = File> + Drop, S: Start, P: Progress + Drop> DirDisk<R, S, P
         let all = find_all(&mut folder)?;
         Ok(DirDisk {
             folder,
-            history: Record::new(),
+            history: DiskHistory::new(),
             start: PhantomData,
             progress,
             read: 0,
@@ -112,12 +112,12 @@ impl<R: Files<File = File> + Drop, S: Start, P: Progress + Drop> DirDisk<R, S, P
     }
 }
 
-impl<R: Files<File = File> + Drop, S: Start, P: Progress + Drop> Disk for DirDisk<R, S, P> {
+impl<R: Files<File = File> + Drop, S: Start, P: ReadProgress + Drop> Disk for DirDisk<R, S, P> {
     ghost use Rattle.std.specs.Prelude.{length};
-    ghost use Rattle.mvo_disk.specs.History.{content_after, MayLeave, LeftSince, is_honest};
+    ghost use Rattle.mvo_disk.specs.History.{file_content_after, MayLeave, LeftSince, is_honest};
     ghost use Rattle.mvo_disk.specs.HistoryLaws.{sound, counts_now, only_now, counts_later};
 
-    ghost content = { λ d. content_after S.Start.files d.history.events };
+    ghost content = { λ d. file_content_after S.Start.files d.history.events };
 
     ghost may_leave = { λ d. MayLeave S.Start.files d.history.events };
 

@@ -7,7 +7,7 @@ ghost use Rattle.mvo_disk.specs.Failing.{counted_down};
 use crate::file::File;
 use crate::files::{copied, cut_in, empty_files, file_at, sync_in, synced_files, write_in};
 use crate::stop::{allows_all, images_after};
-use crate::{Call, Disk, DiskFault, FILE_COUNT, FileImage, StopRefusal, Work};
+use crate::{Call, DeviceWork, Disk, DiskFault, FILE_COUNT, FileImage, StopRefusal};
 use std::alloc::{AllocError, Global};
 
 /// A disk in memory that can stop at any moment. It keeps a record of its calls.
@@ -69,12 +69,12 @@ impl MemDisk {
     ghost use Rattle.std.specs.Prelude.{None, Some};
     ghost use Rattle.std.specs.Prelude.{IsErr, IsErrOf};
     ghost use Rattle.mvo_disk.specs.Disk.{AllOf, Only};
-    ghost use Rattle.mvo_disk.specs.Record.{calls_of, content_of, images_of};
+    ghost use Rattle.mvo_disk.specs.Record.{calls_of, file_content, images_of};
     ghost use Rattle.mvo_disk.specs.Stop.{AreImages, after_stop};
 
     /// A disk whose files are empty, and an empty record.
     pub fn new(alloc: Global) -> Result<MemDisk, AllocError>
-        ensures content { IfOk result (λ disk. (n : ℕ) → content_of disk n ≡ []) }
+        ensures content { IfOk result (λ disk. (n : ℕ) → file_content disk n ≡ []) }
         ensures synced { IfOk result (λ disk. (n : ℕ) → Only [] (images_of disk n)) }
         ensures count { IfOk result (λ disk. disk.fault_count ≡ 0) }
         ensures record { IfOk result (λ disk. calls_of disk ≡ []) }
@@ -104,11 +104,11 @@ impl MemDisk {
     /// are several, and each other file its content. That is synced, the counter is 0, and the
     /// record begins anew.
     pub fn stop(&mut self, chosen: &[FileImage]) -> Result<(), StopRefusal>
-        ensures content { OnOk result ((n : ℕ) → n < FILE_COUNT → content_of self.new n ≡
-            after_stop (content_of self.old) chosen.now n) }
-        ensures image { OnOk result (AllOf (images_of self.old) (content_of self.new)) }
+        ensures content { OnOk result ((n : ℕ) → n < FILE_COUNT → file_content self.new n ≡
+            after_stop (file_content self.old) chosen.now n) }
+        ensures image { OnOk result (AllOf (images_of self.old) (file_content self.new)) }
         ensures durable { OnOk result ((n : ℕ) →
-            Only (content_of self.new n) (images_of self.new n)) }
+            Only (file_content self.new n) (images_of self.new n)) }
         ensures count { OnOk result (self.new.fault_count ≡ 0) }
         ensures record { OnOk result (calls_of self.new ≡ []) }
         ensures no_fault { OnOk result (self.new.fails_after ≡ None) }
@@ -138,7 +138,7 @@ impl MemDisk {
     /// The bytes of a file, with no call of the device.
     pub fn bytes(&self, file: u16) -> &[u8]
         requires { file < FILE_COUNT }
-        ensures { result.now ≡ content_of self.now file }
+        ensures { result.now ≡ file_content self.now file }
     {
         &file_at(&self.files, file).bytes
     }
@@ -171,14 +171,14 @@ impl Disk for MemDisk {
     ghost use Rattle.mvo_disk.specs.Disk.{Only, Holds, PartlyHolds, Torn, Cut, Follows, Reaches};
     ghost use Rattle.mvo_disk.specs.Disk.{Keeps, Counts};
     ghost use Rattle.mvo_disk.specs.Memory.{counts_now, only_now, counts_later};
-    ghost use Rattle.mvo_disk.specs.Record.{calls_of, content_of, images_of, moment_of, left_since};
+    ghost use Rattle.mvo_disk.specs.Record.{calls_of, file_content, images_of, moment_of, left_since};
     ghost use Rattle.mvo_disk.specs.Record.{Records};
     ghost use Rattle.mvo_disk.specs.Disk.{Answers};
-    ghost use Rattle.mvo_disk.specs.Record.{FilesStay, OtherFilesStay, FileSettles, GoesOn};
+    ghost use Rattle.mvo_disk.specs.Record.{AllFilesStay, OtherFilesStay, FileSettles, GoesOn};
     ghost use Rattle.mvo_disk.specs.Record.{RecordsWrite};
     ghost use Rattle.mvo_disk.specs.Failing.{FailsWhenDue};
 
-    ghost content = { content_of };
+    ghost content = { file_content };
 
     ghost may_leave = { images_of };
 
@@ -203,14 +203,15 @@ impl Disk for MemDisk {
     fn len(&mut self, file: u16) -> Result<usize, DiskFault>
         requires file { file < FILE_COUNT }
         requires room { self.old.fault_count + 1 < 2 ^ 64 }
-        ensures len { IfOk result (λ n. n ≡ length (content_of self.old file)) }
+        ensures len { IfOk result (λ n. n ≡ length (file_content self.old file)) }
         ensures honest { Answers (moment_of self.old) (moment_of self.new)
-            (λ n. n ≡ length (content_of self.old file)) result }
-        ensures rest { FilesStay self.old self.new }
+            (λ n. n ≡ length (file_content self.old file)) result }
+        ensures rest { AllFilesStay self.old self.new }
         ensures time { GoesOn self.old self.new }
         ensures count { Counts self.old.fault_count self.new.fault_count result }
         ensures due { FailsWhenDue self.old.fails_after self.new.fails_after result }
-        ensures record { Records (calls_of self.old) file Work.Length (calls_of self.new) result }
+        ensures record { Records (calls_of self.old) file DeviceWork.Length
+            (calls_of self.new) result }
     {
         if count_down(&mut self.fails_after) {
             return self.fail();
@@ -221,7 +222,7 @@ impl Disk for MemDisk {
         let len = file_at(&self.files, file).bytes.len();
         self.calls.push_reserved(Call {
             file,
-            work: Work::Length,
+            work: DeviceWork::Length,
             failed: false,
         });
         Ok(len)
@@ -229,17 +230,17 @@ impl Disk for MemDisk {
 
     fn read_at(&mut self, file: u16, at: usize, into: &mut [u8]) -> Result<(), DiskFault>
         requires file { file < FILE_COUNT }
-        requires range { at + length into.old ≤ length (content_of self.old file) }
+        requires range { at + length into.old ≤ length (file_content self.old file) }
         requires room { self.old.fault_count + 1 < 2 ^ 64 }
         ensures bytes { OnOk result (into.new ≡ take (length into.old)
-            (drop at (content_of self.old file))) }
+            (drop at (file_content self.old file))) }
         ensures honest { Answers (moment_of self.old) (moment_of self.new) (λ _. into.new ≡
-            take (length into.old) (drop at (content_of self.old file))) result }
-        ensures rest { FilesStay self.old self.new }
+            take (length into.old) (drop at (file_content self.old file))) result }
+        ensures rest { AllFilesStay self.old self.new }
         ensures time { GoesOn self.old self.new }
         ensures count { Counts self.old.fault_count self.new.fault_count result }
         ensures due { FailsWhenDue self.old.fails_after self.new.fails_after result }
-        ensures record { Records (calls_of self.old) file (Work.Read at (length into.old))
+        ensures record { Records (calls_of self.old) file (DeviceWork.Read at (length into.old))
             (calls_of self.new) result }
     {
         if count_down(&mut self.fails_after) {
@@ -254,7 +255,7 @@ impl Disk for MemDisk {
         into.copy_from_slice(range);
         self.calls.push_reserved(Call {
             file,
-            work: Work::Read {
+            work: DeviceWork::Read {
                 at,
                 len: into.len(),
             },
@@ -265,13 +266,13 @@ impl Disk for MemDisk {
 
     fn write_at(&mut self, file: u16, at: usize, bytes: &[u8]) -> Result<(), DiskFault>
         requires file { file < FILE_COUNT }
-        requires start { at ≤ length (content_of self.old file) }
+        requires start { at ≤ length (file_content self.old file) }
         requires room { self.old.fault_count + 1 < 2 ^ 64 }
-        ensures written { OnOk result (Holds (content_of self.old file) at bytes.now
-            (content_of self.new file)) }
+        ensures written { OnOk result (Holds (file_content self.old file) at bytes.now
+            (file_content self.new file)) }
         ensures failed { OnErr result (PartlyHolds at (length bytes.now)
-            (content_of self.old file) (content_of self.new file)) }
-        ensures kept { OnErr result (FilesStay self.old self.new) }
+            (file_content self.old file) (file_content self.new file)) }
+        ensures kept { OnErr result (AllFilesStay self.old self.new) }
         ensures images { Follows (Torn at (length bytes.now)) (images_of self.old file)
             (images_of self.new file) }
         ensures no_fewer { MatchResult result (λ _. Reaches (Torn at (length bytes.now))
@@ -298,7 +299,7 @@ impl Disk for MemDisk {
         };
         self.calls.push_reserved(Call {
             file,
-            work: Work::Write {
+            work: DeviceWork::Write {
                 at,
                 len: bytes.len(),
                 bytes: copy,
@@ -310,12 +311,13 @@ impl Disk for MemDisk {
 
     fn cut(&mut self, file: u16, len: usize) -> Result<(), DiskFault>
         requires file { file < FILE_COUNT }
-        requires shorter { len ≤ length (content_of self.old file) }
+        requires shorter { len ≤ length (file_content self.old file) }
         requires room { self.old.fault_count + 1 < 2 ^ 64 }
-        ensures cut { OnOk result (content_of self.new file ≡ take len (content_of self.old file)) }
-        ensures failed { OnErr result ((content_of self.new file ≡ content_of self.old file) ⊎
-            (content_of self.new file ≡ take len (content_of self.old file))) }
-        ensures kept { OnErr result (FilesStay self.old self.new) }
+        ensures cut { OnOk result
+            (file_content self.new file ≡ take len (file_content self.old file)) }
+        ensures failed { OnErr result ((file_content self.new file ≡ file_content self.old file) ⊎
+            (file_content self.new file ≡ take len (file_content self.old file))) }
+        ensures kept { OnErr result (AllFilesStay self.old self.new) }
         ensures images { Follows (Cut len) (images_of self.old file) (images_of self.new file) }
         ensures no_fewer { MatchResult result (λ _. Reaches (Cut len) (images_of self.old file)
             (images_of self.new file))
@@ -324,7 +326,7 @@ impl Disk for MemDisk {
         ensures time { GoesOn self.old self.new }
         ensures count { Counts self.old.fault_count self.new.fault_count result }
         ensures due { FailsWhenDue self.old.fails_after self.new.fails_after result }
-        ensures record { Records (calls_of self.old) file (Work.Cut len len)
+        ensures record { Records (calls_of self.old) file (DeviceWork.Cut len len)
             (calls_of self.new) result }
     {
         if count_down(&mut self.fails_after) {
@@ -336,7 +338,7 @@ impl Disk for MemDisk {
         cut_in(&mut self.files, file, len);
         self.calls.push_reserved(Call {
             file,
-            work: Work::Cut { len, new_len: len },
+            work: DeviceWork::Cut { len, new_len: len },
             failed: false,
         });
         Ok(())
@@ -345,14 +347,16 @@ impl Disk for MemDisk {
     fn sync(&mut self, file: u16) -> Result<(), DiskFault>
         requires file { file < FILE_COUNT }
         requires room { self.old.fault_count + 1 < 2 ^ 64 }
-        ensures durable { OnOk result (Only (content_of self.old file) (images_of self.new file)) }
+        ensures durable { OnOk result
+            (Only (file_content self.old file) (images_of self.new file)) }
         ensures failed { OnErr result (Keeps (images_of self.old file) (images_of self.new file)) }
-        ensures kept { OnErr result (FilesStay self.old self.new) }
+        ensures kept { OnErr result (AllFilesStay self.old self.new) }
         ensures rest { FileSettles file self.old self.new }
         ensures time { GoesOn self.old self.new }
         ensures count { Counts self.old.fault_count self.new.fault_count result }
         ensures due { FailsWhenDue self.old.fails_after self.new.fails_after result }
-        ensures record { Records (calls_of self.old) file Work.Sync (calls_of self.new) result }
+        ensures record { Records (calls_of self.old) file DeviceWork.Sync
+            (calls_of self.new) result }
     {
         if count_down(&mut self.fails_after) {
             return self.fail();
@@ -363,7 +367,7 @@ impl Disk for MemDisk {
         sync_in(&mut self.files, file);
         self.calls.push_reserved(Call {
             file,
-            work: Work::Sync,
+            work: DeviceWork::Sync,
             failed: false,
         });
         Ok(())

@@ -19,7 +19,7 @@ use Rattle.mvo_store.specs.Standing.{Gives, HasSlots, KeepsRows, FollowsMark}
 use Rattle.mvo_store.specs.Opening.{KeepsContent}
 use Rattle.mvo_world.specs.WorldData.{WorldData, waiting}
 use Rattle.mvo_world.specs.Promise.{IsOpenedOver}
-use Rattle.mvo_run.specs.Opening.{Opening, opening_of}
+use Rattle.mvo_engine.specs.run.Opening.{Opening, opening_of}
 use Rattle.mvo_engine.specs.Sound.{IsSoundCore, IsSoundStore, last_mark}
 use Rattle.mvo_engine.specs.Opened.{HasOpened, opening_groups}
 

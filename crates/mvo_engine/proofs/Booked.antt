@@ -6,7 +6,7 @@ use Rattle.mvo_types.specs.declared.ids.TxId.{TxId}
 use Rattle.mvo_types.specs.declared.ids.Stamp.{Stamp}
 use Rattle.mvo_types.specs.declared.refusal.Refusal.{Refusal}
 use Rattle.mvo_types.specs.Keys.{Map}
-use Rattle.mvo_run.specs.Opening.{Opening}
+use Rattle.mvo_engine.specs.run.Opening.{Opening}
 use Rattle.mvo_group.specs.Data.{GroupData}
 use Rattle.mvo_model.specs.History.{History}
 use Rattle.mvo_theory.specs.State.{State, StampedTx, preparing_of, opened}
@@ -17,16 +17,17 @@ use Rattle.mvo_theory.specs.Calls.{Call, after_call, steps_of}
 use Rattle.mvo_theory.specs.Calls.Call.{Settle}
 use Rattle.mvo_theory.specs.Calls.Result.{Accepted}
 use Rattle.mvo_theory.proofs.Who.{preparing_settled}
+use Rattle.mvo_theory.proofs.Below.{none_some, some_same}
 use Rattle.mvo_core.specs.declared.answers.Closed as closing
 use Rattle.mvo_core.specs.declared.answers.Settlement.{Settlement}
 use Rattle.mvo_core.specs.declared.answers.Settlement.TheVariants.{Committed, Waiting}
 use Rattle.mvo_core.specs.Data.{CoreData}
-use Rattle.mvo_core.specs.Standing.{OpensAs}
+use Rattle.mvo_core.specs.Standing.{HasOpenedOver}
 use Rattle.mvo_core.specs.Steps.{came, IsStep, IsSettlement, settled_as}
 use Rattle.mvo_core.specs.Collecting.{StandsAsBefore}
 use Rattle.mvo_core.specs.Holding.{HoldsJust}
 use Rattle.mvo_core.specs.Receipts.{Receipt, receipt, receipt_of}
-use Rattle.mvo_run.specs.Watching.{Watched}
+use Rattle.mvo_engine.specs.run.Watching.{Watched}
 use Rattle.mvo_engine.specs.Booked.{IsBooked}
 use Rattle.mvo_engine.specs.Sound.{IsSoundCore}
 use Rattle.mvo_engine.specs.States.{SendsState}
@@ -35,12 +36,6 @@ use Rattle.mvo_engine.proofs.Added.{found_weight, unless_waiting, added, weight_
 use Rattle.mvo_engine.proofs.Counted.{counted_after_call, found_holds}
 use Rattle.mvo_engine.proofs.CoreSound.{stays_sound as sound_over}
 use Rattle.mvo_engine.proofs.Starts.{start_rises, start_settled, is_quiet, quiet_adds, quiet_group}
-
-some_same : (v z : StampedTx) → ◌≡◌ {A = Option StampedTx} (Some v) (Some z) → v ≡ z
-some_same v z q = cc
-
-none_some : (z : StampedTx) → ◌≡◌ {A = Option StampedTx} None (Some z) → ⊥
-none_some z q = cc
 
 found_id : (t : ℕ) (xs : List StampedTx) (x : StampedTx) → preparing_of t xs ≡ Some x → x.id ≡ t
 found_id t [] x e = absurd (none_some x e)
@@ -72,7 +67,7 @@ end_is s t e q = ap (λ (m : Stamp). m.0) (same q)
     same p = cc
 
 -- nothing is stored of a run that begins
-pub booked_opened : (w : Watched) (rows : Map) (mark : ℕ) (c : CoreData) (total : ℕ) → OpensAs rows mark c → total ≡ 0 → IsBooked w c total
+pub booked_opened : (w : Watched) (rows : Map) (mark : ℕ) (c : CoreData) (total : ℕ) → HasOpenedOver rows mark c → total ≡ 0 → IsBooked w c total
 booked_opened w rows mark c total stands none = record { rows = rows; steps = []; state = opened rows mark; stands = stands; counted = λ low. none }
 
 module _ (w : Watched) {c : CoreData} {total : ℕ} (i : IsBooked w c total) where

@@ -7,7 +7,7 @@ use Rattle.mvo_theory.specs.State.{State, StampedTx, Marks}
 use Rattle.mvo_theory.specs.Marks.{IsClosedAt}
 use Rattle.mvo_theory.specs.Sound.{IsPast, IsPlaced}
 use Rattle.mvo_theory.specs.Changes.{after_close}
-use Rattle.mvo_theory.specs.Calls.{Call, after_call, steps_of, group_of}
+use Rattle.mvo_theory.specs.Calls.{Call, after_call, steps_of, groups_closed_by}
 use Rattle.mvo_theory.proofs.Each.{each_append, each_weaker}
 use Rattle.mvo_theory.proofs.Stays.{stays_after_call}
 use Rattle.mvo_theory.proofs.Tales.{serial_after_trace}
@@ -24,7 +24,7 @@ use Rattle.mvo_world.proofs.Chain.{groups_stay, group_of_next}
 use Rattle.mvo_world.proofs.Moves.{groups_closed}
 use Rattle.mvo_world.proofs.Sound.{same_closed}
 use Rattle.mvo_world.proofs.Standing.{mark_after-append, groups_push}
-use Rattle.mvo_run.specs.Opening.{Opening}
+use Rattle.mvo_engine.specs.run.Opening.{Opening}
 use Rattle.mvo_engine.specs.Sound.{IsSoundCore, last_mark}
 use Rattle.mvo_engine.specs.Legal.{IsLegalCore}
 use Rattle.mvo_engine.specs.States.{SendsState}
@@ -39,7 +39,7 @@ module _ {o : Opening} {c : CoreData} {sent : List GroupData} (i : IsSoundCore o
   so_far steps s stands closed groups last = record { rows = i.rows; mark = i.mark; gives = i.gives; steps = steps; state = s; stands = stands; closed = closed; groups = groups; last = last }
 
   -- over a step that closes no group
-  pub stays_sound : {A : Type 0} {call : Call} {new : CoreData} (result : Result A Refusal) → IsStep c call result new → group_of call (came result) ≡ [] → IsSoundCore o new sent
+  pub stays_sound : {A : Type 0} {call : Call} {new : CoreData} (result : Result A Refusal) → IsStep c call result new → groups_closed_by call (came result) ≡ [] → IsSoundCore o new sent
   stays_sound {call = call} result step none =
       let l = step i.rows i.steps i.state i.stands in
       let kept = i.stands.versions.kept in

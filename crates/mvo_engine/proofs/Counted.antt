@@ -17,14 +17,9 @@ use Rattle.mvo_theory.specs.Sound.{IsRising, IsSound}
 use Rattle.mvo_theory.specs.Calls.{Call, Result, answer_in, after_call}
 use Rattle.mvo_theory.specs.Calls.Call.{Begin, Do, Precommit, Validate, Settle, Rollback, Finish, Trim, Close}
 use Rattle.mvo_theory.specs.Calls.Result.{Accepted, Refused}
+use Rattle.mvo_theory.proofs.Below.{none_some, some_same}
 use Rattle.mvo_core.specs.Receipts.{Receipt, receipt_of, IsAt}
 use Rattle.mvo_engine.proofs.Added.{weight, tale_weight, found_weight, unless_waiting, added}
-
-none_some : (z : StampedTx) → ◌≡◌ {A = Option StampedTx} None (Some z) → ⊥
-none_some z q = cc
-
-some_same : (v z : StampedTx) → ◌≡◌ {A = Option StampedTx} (Some v) (Some z) → v ≡ z
-some_same v z q = cc
 
 -- what holds of all holds of the one that is found, which isn't settled
 pub found_holds : (P : StampedTx → Type 0) (t : ℕ) (xs : List StampedTx) (x : StampedTx) → preparing_of t xs ≡ Some x → AllByRecursion P xs → P x

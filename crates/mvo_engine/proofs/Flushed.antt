@@ -7,8 +7,8 @@ use Rattle.mvo_types.specs.declared.refusal.Refusal.{Refusal}
 use Rattle.mvo_types.specs.declared.refusal.Refusal.TheVariants.{Busy, Down, NothingToDo}
 use Rattle.mvo_disk.specs.declared.disk.Disk.{Ghosts}
 use Rattle.mvo_group.specs.Data.{GroupData}
-use Rattle.mvo_store.specs.declared.log_step.LogStep.{LogStep}
-use Rattle.mvo_store.specs.declared.log_step.LogStep.TheVariants as step
+use Rattle.mvo_store.specs.declared.append.log_step.LogStep.{LogStep}
+use Rattle.mvo_store.specs.declared.append.log_step.LogStep.TheVariants as step
 use Rattle.mvo_store.specs.Flushing.{AreUntilStop, IsAppend, IsRotatedAppend, IsTurn, turn_goes_on, log_rotation}
 use Rattle.mvo_store.specs.Flushing.IsAppend.{AtBody, AtOpen, AtFull}
 use Rattle.mvo_store.specs.Flushing.IsRotatedAppend.{AtRotation, AtAppend}

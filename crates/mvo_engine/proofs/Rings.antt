@@ -3,7 +3,7 @@ use Rattle.std.proofs.Common.{◌≡◌, ℕ}
 use Rattle.rtrb.specs.declared.producer.Producer.{Producer}
 use Rattle.rtrb.specs.declared.consumer.Consumer.{Consumer}
 use Rattle.rtrb.specs.Ring.{SameProducer, SameConsumer}
-use Rattle.mvo_run.specs.Rings.{RingName, ring_of, ring_from}
+use Rattle.mvo_engine.specs.run.Rings.{RingName, ring_of, ring_from}
 use denote.RawPtr.{Ptr}
 
 named : {w w' s s' : Ptr} {n n' : ℕ × (ℕ × ℕ)} → w' ≡ w → s' ≡ s → n' ≡ n → ◌≡◌ {A = RingName} (record { words = w'; slots = s'; names = n' }) (record { words = w; slots = s; names = n })

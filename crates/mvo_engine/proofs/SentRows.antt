@@ -9,13 +9,14 @@ use Rattle.mvo_types.specs.Keys.{Map}
 use Rattle.mvo_model.specs.History.{after_history}
 use Rattle.mvo_model.specs.Trace.{Step}
 use Rattle.mvo_disk.specs.declared.disk.Disk.{Ghosts}
-use Rattle.mvo_run.specs.Opening.{Opening}
+use Rattle.mvo_engine.specs.run.Opening.{Opening}
 use Rattle.mvo_group.specs.Data.{GroupData}
 use Rattle.mvo_theory.specs.State.{State, StampedTx, Marks, timeline, after_settled}
 use Rattle.mvo_theory.specs.Marks.{Commit, settled_to}
 use Rattle.mvo_theory.specs.Sound.{IsRising, IsPast, IsPlaced}
 use Rattle.mvo_theory.specs.AfterTrace.{IsAfterTrace}
 use Rattle.mvo_theory.proofs.Each.{each_append, each_weaker}
+use Rattle.mvo_theory.proofs.Trim.{after_settled-append}
 use Rattle.mvo_core.specs.Data.{CoreData}
 use Rattle.mvo_core.specs.Groups.{HaveRecordsOf}
 use Rattle.mvo_store.specs.Frames.{mark_after}
@@ -28,10 +29,6 @@ use Rattle.mvo_engine.specs.Audited.{after_commits, not_sent, AgreesWithHistory,
 same_walk : (cs : List Commit) (m : Map) → after_commits cs m ≡ left_by_all cs m
 same_walk [] m = refl
 same_walk (c ∷ cs) m = same_walk cs (after_history c.1 m)
-
-after_settled-append : (xs ys : List StampedTx) (m : Map) → after_settled (xs ++ ys) m ≡ after_settled ys (after_settled xs m)
-after_settled-append [] ys m = refl
-after_settled-append (x ∷ xs) ys m = after_settled-append xs ys (after_history (cond x.settled x.history []) m)
 
 -- all that is settled, where none ends above the mark
 whole : (n : ℕ) (xs : List StampedTx) (m : Map) → AllByRecursion (λ (x : StampedTx). x.end ≤ n) xs → left_by_all (settled_to n xs) m ≡ after_settled xs m

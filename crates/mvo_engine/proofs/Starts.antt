@@ -12,7 +12,7 @@ use Rattle.mvo_theory.specs.Claims.{new_claim}
 use Rattle.mvo_theory.specs.Words.{is_done, words_left}
 use Rattle.mvo_theory.specs.Changes.{after_operation, after_answer, taken_over, after_check, after_termination, after_finish, with_words}
 use Rattle.mvo_theory.specs.Steps.{after_precommit_of, after_validate_of, after_commit_of, after_settle, after_settle_unless, after_abort, after_abort_of, after_refusal}
-use Rattle.mvo_theory.specs.Calls.{Call, Result, MayCome, after_call, group_of, answer_in}
+use Rattle.mvo_theory.specs.Calls.{Call, Result, MayCome, after_call, groups_closed_by, answer_in}
 use Rattle.mvo_theory.specs.Calls.Call.{Begin, Do, Precommit, Validate, Settle, Rollback, Finish, Trim, Close}
 use Rattle.mvo_theory.specs.Calls.Result.{Accepted, Refused}
 use Rattle.mvo_theory.specs.Sound.{IsSound}
@@ -106,7 +106,7 @@ is_quiet (Finish t) = true
 is_quiet (Trim upto) = true
 is_quiet (Close fits g full) = false
 
-pub quiet_group : (c : Call) (r : Result) → is_quiet c ≡ true → group_of c r ≡ []
+pub quiet_group : (c : Call) (r : Result) → is_quiet c ≡ true → groups_closed_by c r ≡ []
 quiet_group Begin r q = refl
 quiet_group (Do t op) r q = refl
 quiet_group (Precommit t) r q = refl

@@ -12,11 +12,11 @@ use Rattle.mvo_store.specs.Rows.{after_groups}
 use Rattle.mvo_store.proofs.Grown.{after_groups-append}
 use Rattle.mvo_store.specs.Seen.{disk_of, mark_of, pending_of}
 use Rattle.mvo_store.specs.StoreData.{StoreData, opening}
-use Rattle.mvo_store.specs.Standing.{Gives, GivesOr, FollowsMark, HasSlots, KeepsRows, Keeps, IsKeeping, after_taken}
+use Rattle.mvo_store.specs.Standing.{Gives, GivesOr, FollowsMark, HasSlots, KeepsRows, KeepsAllRows, IsKeeping, after_taken}
 use Rattle.mvo_store.specs.Calls.{StoreCall, IsStoreStep}
 use Rattle.mvo_store.proofs.Taken.{KeepsTaken, IsQuiet, left_taken, quiet_taken, quiet_rows, refused_rows}
 use Rattle.mvo_world.proofs.Standing.{mark_after-append, opening_pending}
-use Rattle.mvo_run.specs.Opening.{Opening}
+use Rattle.mvo_engine.specs.run.Opening.{Opening}
 use Rattle.mvo_engine.specs.Opening.{WasFormatted}
 use Rattle.mvo_engine.specs.Sound.{IsSoundStore, GivesReceived, last_mark}
 
@@ -30,7 +30,7 @@ module _ {D : Type 0} (d : Ghosts D) {o : Opening} {s : StoreData D} {received :
   so_far durable received_is mark_is follows was keeps = record { rows = i.rows; mark = i.mark; gives = i.gives; durable = durable; received_is = received_is; mark_is = mark_is; follows = follows; was = λ now. i.was (was now); keeps = keeps }
 
   -- over a step that takes no group and makes none durable
-  kept : (t : StoreData D) → KeepsTaken s t → (IsHonest (d.moment (disk_of t)) → IsHonest (d.moment (disk_of s))) → (IsHonest (d.moment (disk_of t)) → Keeps d s t) → IsSoundStore d o t received
+  kept : (t : StoreData D) → KeepsTaken s t → (IsHonest (d.moment (disk_of t)) → IsHonest (d.moment (disk_of s))) → (IsHonest (d.moment (disk_of t)) → KeepsAllRows d s t) → IsSoundStore d o t received
   kept t taken was keeps =
       so_far i.durable (i.received_is ∙ ap (λ (o : Option GroupData). i.durable ++ option_to_list o) (sym taken.pending)) (taken.mark ∙ i.mark_is)
       (subst (λ (o : Option GroupData). FollowsMark (mark_of t) o) (sym taken.pending) (subst (λ (m : ℕ). FollowsMark m (pending_of s)) (sym taken.mark) i.follows))
@@ -46,7 +46,7 @@ module _ {D : Type 0} (d : Ghosts D) {o : Opening} {s : StoreData D} {received :
   next_follows none g is = is ∙ ap last_mark (received_all none) ∙ sym i.mark_is
 
   -- over the taking of a group
-  pub taken_in : (t : StoreData D) (received' : List GroupData) (g : GroupData) → IsGroup g → pending_of s ≡ None → received' ≡ received ++ g ∷ [] → pending_of t ≡ Some g → mark_of t ≡ mark_of s → g.prev ≡ mark_of s → (IsHonest (d.moment (disk_of t)) → IsHonest (d.moment (disk_of s))) → (IsHonest (d.moment (disk_of t)) → Keeps d s t) → IsSoundStore d o t received'
+  pub taken_in : (t : StoreData D) (received' : List GroupData) (g : GroupData) → IsGroup g → pending_of s ≡ None → received' ≡ received ++ g ∷ [] → pending_of t ≡ Some g → mark_of t ≡ mark_of s → g.prev ≡ mark_of s → (IsHonest (d.moment (disk_of t)) → IsHonest (d.moment (disk_of s))) → (IsHonest (d.moment (disk_of t)) → KeepsAllRows d s t) → IsSoundStore d o t received'
   taken_in t received' g is none there pending mark prev was keeps =
       so_far i.durable (there ∙ ap (λ (gs : List GroupData). gs ++ g ∷ []) (received_all none) ∙ ap (λ (o : Option GroupData). i.durable ++ option_to_list o) (sym pending)) (mark ∙ i.mark_is)
       (subst (FollowsMark (mark_of t)) (sym pending) (prev ∙ sym mark, is))
@@ -115,7 +115,7 @@ module _ {D : Type 0} (d : Ghosts D) {o : Opening} {s : StoreData D} {received :
 
 -- the seat and the ring beside it stay over a step that takes no group and makes none durable
 module _ {D : Type 0} (d : Ghosts D) {o : Opening} {s t : StoreData D} {received : List GroupData} {published : ℕ} {P Q : Type 0} (i : IsSoundStore d o s received × P × (published ≤ mark_of s) × Q) where
-  stays_kept : KeepsTaken s t → (IsHonest (d.moment (disk_of t)) → IsHonest (d.moment (disk_of s))) → (IsHonest (d.moment (disk_of t)) → Keeps d s t) → IsSoundStore d o t received × P × (published ≤ mark_of t) × Q
+  stays_kept : KeepsTaken s t → (IsHonest (d.moment (disk_of t)) → IsHonest (d.moment (disk_of s))) → (IsHonest (d.moment (disk_of t)) → KeepsAllRows d s t) → IsSoundStore d o t received × P × (published ≤ mark_of t) × Q
   stays_kept taken was keeps =
       let p = i.2 in
       let m = taken.mark in

@@ -12,7 +12,7 @@ use Rattle.mvo_theory.specs.Marks.{Commit, settled_to}
 use Rattle.mvo_core.specs.Standing.{StandsFor}
 use Rattle.mvo_store.specs.Rows.{after_groups}
 use Rattle.mvo_store.specs.Seen.{disk_of, mark_of}
-use Rattle.mvo_run.specs.Opening.{Opening}
+use Rattle.mvo_engine.specs.run.Opening.{Opening}
 use Rattle.mvo_engine.specs.Opening.{GaveWhenOpened, WasFormatted}
 use Rattle.mvo_engine.specs.Sound.{last_mark, GivesReceived}
 use Rattle.mvo_engine.specs.States.{CoreState, StoreState}

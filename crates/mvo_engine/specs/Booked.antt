@@ -6,8 +6,8 @@ use Rattle.mvo_theory.specs.State.{State}
 use Rattle.mvo_core.specs.Data.{CoreData}
 use Rattle.mvo_core.specs.Standing.{StandsFor}
 use Rattle.mvo_core.specs.Receipts.{stored_commits}
-use Rattle.mvo_run.specs.declared.run.TheConstants.{MAX_SESSIONS}
-use Rattle.mvo_run.specs.Watching.{Watched, count_of}
+use Rattle.mvo_engine.specs.declared.run.run.TheConstants.{MAX_SESSIONS}
+use Rattle.mvo_engine.specs.run.Watching.{Watched, count_of}
 
 -- The core stands for a state. Where the tale starts below the end that is watched, the total is
 -- what the stored commits count.

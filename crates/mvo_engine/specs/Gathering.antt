@@ -2,7 +2,7 @@
 use Rattle.std.specs.Prelude.{◌≡◌, ℕ, ◌<◌, ◌≤◌, List, length}
 use Rattle.std.specs.List.{sum_by}
 use Rattle.mvo_engine.specs.States.{CoreState, SessionState}
-use Rattle.mvo_run.specs.Watching.{Watched, count_of}
+use Rattle.mvo_engine.specs.run.Watching.{Watched, count_of}
 use Rattle.mvo_engine.specs.Booked.{IsBooked}
 use Rattle.mvo_engine.specs.declared.gathering.Gathered.{Gathered}
 use Rattle.mvo_engine.specs.declared.gathering.Gathered.TheVariants.{All, Missing}

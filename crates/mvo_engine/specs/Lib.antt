@@ -1,4 +1,5 @@
-pub use Rattle.mvo_run.specs.Watching
+pub use Rattle.mvo_engine.specs.run.Watching
+pub mod run
 pub mod Sound
 pub mod Opening
 pub mod Opened
@@ -12,3 +13,4 @@ pub mod Booked
 pub mod Settling
 pub mod Audited
 pub mod Gathering
+pub mod day

@@ -4,8 +4,8 @@ use Rattle.mvo_types.specs.declared.refusal.Refusal.{Refusal}
 use Rattle.mvo_disk.specs.declared.disk.Disk.{Ghosts}
 use Rattle.mvo_store.specs.Calls.StoreCall.{AppendBody, RotateWrite}
 use Rattle.mvo_store.specs.Calls.StoreCall.{InstallClose, InstallBody, InstallOpen}
-use Rattle.mvo_store.specs.declared.log_step.LogStep.{LogStep}
-use Rattle.mvo_store.specs.declared.log_step.LogStep.TheVariants as step
+use Rattle.mvo_store.specs.declared.append.log_step.LogStep.{LogStep}
+use Rattle.mvo_store.specs.declared.append.log_step.LogStep.TheVariants as step
 use Rattle.mvo_engine.specs.States.{StoreState}
 use Rattle.mvo_engine.specs.Calls.{IsQuietStep, IsAppendStep, HasTaken, IsNotTaken}
 

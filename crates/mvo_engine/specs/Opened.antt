@@ -10,14 +10,14 @@ use Rattle.mvo_disk.specs.declared.disk.Disk.{Ghosts}
 use Rattle.mvo_disk.specs.Disk.{IsHonest}
 use Rattle.mvo_group.specs.Data.{GroupData, group_of}
 use Rattle.mvo_core.specs.Data.{CoreData}
-use Rattle.mvo_core.specs.Standing.{OpensAs}
+use Rattle.mvo_core.specs.Standing.{HasOpenedOver}
 use Rattle.mvo_store.specs.Seen.{disk_of, mark_of, pending_of}
 use Rattle.mvo_store.specs.StoreData.{StoreData}
 use Rattle.mvo_store.specs.Standing.{KeepsRows}
 use Rattle.mvo_marks.specs.Marks.{SeatData}
 use Rattle.mvo_world.specs.WorldData.{WorldData}
-use Rattle.mvo_run.specs.Rings.{RingName, ring_of, ring_from}
-use Rattle.mvo_run.specs.Opening.{Opening, opening_of}
+use Rattle.mvo_engine.specs.run.Rings.{RingName, ring_of, ring_from}
+use Rattle.mvo_engine.specs.run.Opening.{Opening, opening_of}
 use Rattle.mvo_engine.specs.Opening.{GaveWhenOpened, WasFormatted}
 
 -- Core and store of a world as its opening gave it. Of a disk that has lied only the mark is known
@@ -27,7 +27,7 @@ pub record HasOpened {D : Type 0} (d : Ghosts D) (o : Opening) (c : CoreData)
   pub rows : Map
   pub gives : GaveWhenOpened rows (mark_of s) o
   pub stamp : mark_of s ≤ MAX_STAMP
-  pub core : OpensAs rows (mark_of s) c
+  pub core : HasOpenedOver rows (mark_of s) c
   pub pending : pending_of s ≡ None
   pub was : IsHonest (d.moment (disk_of s)) → IsTrue o.honest
   pub keeps : IsHonest (d.moment (disk_of s)) → WasFormatted o → KeepsRows d s rows

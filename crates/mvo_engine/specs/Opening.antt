@@ -1,7 +1,7 @@
 -- What is known of the disk that a run was opened over.
 use Rattle.std.specs.Prelude.{ℕ, IsTrue}
 use Rattle.mvo_types.specs.Keys.{Map}
-use Rattle.mvo_run.specs.Opening.{Opening}
+use Rattle.mvo_engine.specs.run.Opening.{Opening}
 use Rattle.mvo_store.specs.Standing.{Gives, HasSlots}
 
 -- it gave these rows and this mark, if it had answered as written

@@ -6,7 +6,7 @@ use Rattle.mvo_model.specs.History.{History}
 use Rattle.mvo_core.specs.declared.answers.Settlement.{Settlement}
 use Rattle.mvo_core.specs.declared.answers.Settlement.TheVariants.{Committed, Waiting}
 use Rattle.mvo_core.specs.Receipts.{Receipt, receipt}
-use Rattle.mvo_run.specs.Receiving.{ReceiptsState, AreBelow}
+use Rattle.mvo_engine.specs.run.Receiving.{ReceiptsState, AreBelow}
 
 -- the transaction, if there is one, begins above the ends of all receipts
 abbrev pub BeginsAbove : Option ℕ → List Receipt → Type 0

@@ -1,6 +1,6 @@
 use crate::locked_core::LockedCore;
+use crate::run::Run;
 use mvo_core::{Collection, Tale};
-use mvo_run::Run;
 use mvo_types::{Refusal, Stamp};
 use std::marker::Model;
 use std::sync::MutexGuard;

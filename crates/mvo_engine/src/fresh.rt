@@ -1,10 +1,10 @@
 use crate::chain::Chain;
 use crate::ends::Ends;
+use crate::run::MAX_SESSIONS;
 use mvo_core::Core;
 use mvo_disk::Disk;
 use mvo_group::Group;
 use mvo_marks::{Marks, Publisher, Seat};
-use mvo_run::MAX_SESSIONS;
 use mvo_store::Store;
 use mvo_types::Refusal;
 use mvo_world::World;
@@ -35,9 +35,9 @@ impl<D: Disk> Model for Fresh<D> {
     ghost use Rattle.mvo_core.specs.contracts.event_core.Core.{the_row as core_row};
     ghost use Rattle.mvo_store.specs.Places.{coded_places};
     ghost use Rattle.mvo_store.specs.Seen.{disk_of, mark_of};
-    ghost use Rattle.mvo_run.specs.Rings.{ring_of, ring_from};
-    ghost use Rattle.mvo_run.specs.Opening.{opening_of};
-    ghost use Rattle.mvo_run.specs.declared.run.TheConstants.{MAX_SESSIONS};
+    ghost use Rattle.mvo_engine.specs.run.Rings.{ring_of, ring_from};
+    ghost use Rattle.mvo_engine.specs.run.Opening.{opening_of};
+    ghost use Rattle.mvo_engine.specs.declared.run.run.TheConstants.{MAX_SESSIONS};
     ghost use Rattle.mvo_engine.specs.Opened.{FreshData, HasOpened, AreFreshSeats, IsFreshRing};
 
     ghost Value = { FreshData D };

@@ -2,14 +2,14 @@
 ghost use Rattle.std.specs.Prelude.{◌≡◌, ◌+◌, ◌≤◌, ◌++◌, [], length, vec_len, vec_capacity};
 ghost use Rattle.std.specs.Prelude.{IfOk, IfErr, IfSome, IsTrue};
 ghost use Rattle.mvo_types.specs.declared.refusal.Refusal.{Refusal};
-ghost use Rattle.mvo_run.specs.Watching.{count_of};
+ghost use Rattle.mvo_engine.specs.run.Watching.{count_of};
 ghost use Rattle.mvo_engine.specs.Gathering.{HasGathered, receipts_in};
 
 use crate::core_guard::CoreGuard;
 use crate::gate::Gate;
+use crate::run::{Receipt, Run};
 use crate::session::Session;
 use mvo_disk::Disk;
-use mvo_run::{Receipt, Run};
 use mvo_types::Refusal;
 use std::alloc::Global;
 use std::sync::ledger::Share;

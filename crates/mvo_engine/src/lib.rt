@@ -4,6 +4,8 @@
 
 mod chain;
 mod core_guard;
+mod counts;
+mod day;
 mod ends;
 mod engine;
 mod fresh;
@@ -12,6 +14,7 @@ mod gathering;
 mod locked_core;
 mod locked_store;
 mod place;
+mod run;
 mod sends;
 mod session;
 mod store_guard;
@@ -19,12 +22,14 @@ mod transaction;
 
 pub use chain::Chain;
 pub use core_guard::CoreGuard;
+pub use counts::add_known;
+pub use day::{Day, DayWork, spend_day};
 pub use engine::Engine;
 pub use fresh::Fresh;
 pub use gate::{Gate, OpenGate};
 pub use gathering::{Gathered, gather};
-pub use mvo_run::{MAX_SESSIONS, Receipt, Run};
 pub use place::Place;
+pub use run::{MAX_SESSIONS, Receipt, Run};
 pub use session::Session;
 pub use store_guard::StoreGuard;
 pub use transaction::Transaction;

@@ -1,9 +1,9 @@
 use crate::locked_store::LockedStore;
+use crate::run::{MAX_SESSIONS, Receipt, Receipts, Run, Told};
 use crate::sends::Sends;
 use mvo_core::{Closed, Collection, Core, Finishing, Settlement, Tale, Validation};
 use mvo_disk::Disk;
 use mvo_marks::{Marks, Seat};
-use mvo_run::{MAX_SESSIONS, Receipt, Receipts, Run, Told};
 use mvo_types::{Answer, Refusal, Row, RowKey, Stamp, TxId};
 use std::alloc::Global;
 use std::marker::Model;
@@ -67,7 +67,7 @@ impl<L: Run> LockedCore<L> {
     ghost use Rattle.mvo_core.specs.Trimming.{HasForgotten};
     ghost use Rattle.mvo_engine.specs.Audited.{IsAudited};
     ghost use Rattle.mvo_engine.specs.Booked.{IsBooked, HasSpareParts};
-    ghost use Rattle.mvo_run.specs.Receiving.{AreBelow};
+    ghost use Rattle.mvo_engine.specs.run.Receiving.{AreBelow};
     ghost use Rattle.mvo_engine.specs.Settling.{HasSettled};
     ghost use Rattle.mvo_engine.specs.Sound.{IsSoundCore};
     ghost use Rattle.mvo_engine.specs.Legal.{IsLegalCore};

@@ -1,8 +1,8 @@
 use crate::chain::Chain;
+use crate::run::Run;
 use mvo_disk::Disk;
 use mvo_group::Group;
 use mvo_marks::{Marks, Publisher, Seat};
-use mvo_run::Run;
 use mvo_store::{Durable, Generation, Manifest, Progress, Reclaimed, Store};
 use mvo_types::{Refusal, Stamp};
 use rtrb::{Consumer, Producer};
@@ -38,7 +38,7 @@ impl<L: Run, D: Disk> Model for LockedStore<L, D> {
     ghost use Rattle.mvo_store.specs.Places.{coded_places};
     ghost use Rattle.rtrb.specs.Ring.{received};
     ghost use Rattle.mvo_store.specs.Seen.{mark_of};
-    ghost use Rattle.mvo_run.specs.Rings.{ring_from};
+    ghost use Rattle.mvo_engine.specs.run.Rings.{ring_from};
     ghost use Rattle.mvo_engine.specs.Sound.{IsSoundStore};
     ghost use Rattle.mvo_engine.specs.States.{StoreState};
 
@@ -74,7 +74,7 @@ impl<L: Run, D: Disk> LockedStore<L, D> {
     ghost use Rattle.mvo_store.specs.Calls.StoreCall.{Reclaim};
     ghost use Rattle.mvo_store.specs.Calls.{AnswersMark, AnswersGeneration, AnswersProgress};
     ghost use Rattle.mvo_store.specs.Reclaiming.{HasReclaimed};
-    ghost use Rattle.mvo_run.specs.Rings.{ring_of, ring_from};
+    ghost use Rattle.mvo_engine.specs.run.Rings.{ring_of, ring_from};
     ghost use Rattle.mvo_engine.specs.Sound.{IsSoundStore, GivesReceived, LeavesReceived};
     ghost use Rattle.mvo_engine.specs.Calls.{IsQuietStep, IsAppendStep, HasTaken, IsNotTaken};
 

@@ -1,10 +1,10 @@
 use crate::chain::Chain;
 use crate::locked_store::LockedStore;
+use crate::run::Run;
 use mvo_core::{Closed, Core};
 use mvo_disk::Disk;
 use mvo_group::Group;
 use mvo_marks::{Marks, Seat};
-use mvo_run::Run;
 use mvo_types::Refusal;
 use rtrb::Producer;
 use std::alloc::Global;
@@ -31,7 +31,7 @@ impl<L: Run> Drop for Sends<L> {
 impl<L: Run> Model for Sends<L> {
     ghost use Rattle.std.specs.Prelude.{◌≡◌};
     ghost use Rattle.rtrb.specs.Ring.{sent};
-    ghost use Rattle.mvo_run.specs.Rings.{ring_of};
+    ghost use Rattle.mvo_engine.specs.run.Rings.{ring_of};
     ghost use Rattle.mvo_engine.specs.States.{SendsState};
 
     ghost Value = { SendsState };
@@ -46,7 +46,7 @@ impl<L: Run> Sends<L> {
     ghost use Rattle.rtrb.specs.Ring.{sent};
     ghost use Rattle.mvo_group.specs.Data.{GroupData};
     ghost use Rattle.mvo_core.specs.Seen.{closed_mark_of};
-    ghost use Rattle.mvo_run.specs.Rings.{ring_of};
+    ghost use Rattle.mvo_engine.specs.run.Rings.{ring_of};
     ghost use Rattle.mvo_engine.specs.Sound.{last_mark, LeavesReceived};
     ghost use Rattle.mvo_engine.specs.Calls.{IsSending};
 

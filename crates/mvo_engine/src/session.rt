@@ -6,9 +6,9 @@ use crate::engine::Engine;
 use crate::gate::Gate;
 use crate::locked_core::LockedCore;
 use crate::locked_store::LockedStore;
+use crate::run::{Receipt, Receipts, Run, Told};
 use mvo_disk::Disk;
 use mvo_marks::Seat;
-use mvo_run::{Receipt, Receipts, Run, Told};
 use mvo_types::{Refusal, Stamp, TxId};
 use std::marker::Model;
 use std::sync::{MutexGuard, Wait};
@@ -61,7 +61,7 @@ impl<'e, L: Run, D: Disk, G: Gate + Drop> Session<'e, L, D, G> {
     ghost use Rattle.std.specs.Prelude.{◌≡◌, ◌≤◌, None, IsTrue, OnOk, IfErr};
     ghost use Rattle.mvo_types.specs.declared.refusal.Refusal.{Refusal};
     ghost use Rattle.mvo_store.specs.Seen.{mark_of};
-    ghost use Rattle.mvo_run.specs.Receiving.{Rises};
+    ghost use Rattle.mvo_engine.specs.run.Receiving.{Rises};
 
     pub(crate) fn new(
         engine: &'e Engine<L, D, G>,

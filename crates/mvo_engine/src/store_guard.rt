@@ -2,10 +2,10 @@ ghost use Rattle.std.specs.Prelude.{◌≡◌};
 
 use crate::gate::Gate;
 use crate::locked_store::LockedStore;
+use crate::run::Run;
 use crate::session::Session;
 use mvo_disk::Disk;
 use mvo_marks::Marks;
-use mvo_run::Run;
 use mvo_store::{Durable, Generation, Log, LogStep, Manifest, Progress, Reclaimed, turn};
 use mvo_types::{Refusal, Stamp};
 use std::marker::Model;

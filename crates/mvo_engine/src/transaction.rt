@@ -1,7 +1,7 @@
 use crate::gate::Gate;
+use crate::run::Run;
 use crate::session::Session;
 use mvo_disk::Disk;
-use mvo_run::Run;
 use mvo_types::Refusal;
 use std::sync::Wait;
 

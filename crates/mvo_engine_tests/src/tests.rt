@@ -20,14 +20,14 @@ use mvo_store::format;
 use std::alloc::{AllocError, Global};
 use std::test::Fail;
 
-const SEED: u64 = 7;
+pub const SEED: u64 = 7;
 
 fn new_disk(alloc: Global) -> Result<MemDisk, AllocError> {
     MemDisk::new(alloc)
 }
 
 /// A disk with a store that has no rows.
-fn formatted(alloc: Global) -> Result<MemDisk, Fail> {
+pub fn formatted(alloc: Global) -> Result<MemDisk, Fail> {
     match format(alloc, new_disk(alloc)?) {
         Ok(disk) => Ok(disk),
         Err((refusal, _)) => Err(Fail::from(refusal)),

@@ -15,14 +15,14 @@ and_then (Ok x) f = f x
 and_then (Err e) f = Err e
 
 -- what a function answers, seen by view, is what is found
-abbrev pub Finds : {X Y : Type 0} → (X → Y) → Found X → Found Y → Type 0
-Finds view (Ok x) found = found ≡ Ok (view x)
-Finds view (Err e) found = found ≡ Err e
+abbrev pub FindsAs : {X Y : Type 0} → (X → Y) → Found X → Found Y → Type 0
+FindsAs view (Ok x) found = found ≡ Ok (view x)
+FindsAs view (Err e) found = found ≡ Err e
 
 -- the same, or it was refused memory
-abbrev pub Tells : {X Y : Type 0} → (X → Y) → Found X → Found Y → Type 0
-Tells view (Ok x) found = found ≡ Ok (view x)
-Tells view (Err e) found = (e ≡ OutOfMemory) ⊎ (found ≡ Err e)
+abbrev pub FindsButForMemory : {X Y : Type 0} → (X → Y) → Found X → Found Y → Type 0
+FindsButForMemory view (Ok x) found = found ≡ Ok (view x)
+FindsButForMemory view (Err e) found = (e ≡ OutOfMemory) ⊎ (found ≡ Err e)
 
 -- ---- what is found, against what the bytes hold
 

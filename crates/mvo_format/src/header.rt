@@ -1,6 +1,6 @@
 //! The magic and the version in front of a file.
 ghost use Rattle.std.specs.Prelude.{◌≡◌};
-ghost use Rattle.mvo_format.specs.Found.{Finds, header_found};
+ghost use Rattle.mvo_format.specs.Found.{FindsAs, header_found};
 
 use mvo_bytes::u32_at;
 use mvo_types::Refusal;
@@ -20,7 +20,7 @@ pub const HEADER_LEN: usize = 8;
 /// BadVersion where the version is another.
 #[tactic(auto, unfolding(crate::specs::Found::header_found, crate::specs::Found::header_at))]
 pub fn behind_header(file: u16, magic: u32, version: u32, bytes: &[u8]) -> Result<&[u8], Refusal>
-    ensures { Finds (λ rest. rest.now) result (header_found file magic version bytes.now) }
+    ensures { FindsAs (λ rest. rest.now) result (header_found file magic version bytes.now) }
 {
     let Some((number, rest)) = u32_at(bytes) else {
         return Err(Refusal::Corrupt(file));

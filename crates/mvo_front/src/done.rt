@@ -1,20 +1,20 @@
 ghost use Rattle.std.specs.Prelude.{◌≡◌};
 ghost use Rattle.mvo_front.specs.Outcomes.{AreOutcomes};
 
+use crate::job_queue::JobQueue;
 use crate::outcome::Outcome;
-use crate::queue::Queue;
 use crate::ticket::Ticket;
 
 /// What a worker has when it ends: its ticket, and what came of the jobs that it took, in order.
 #[derive(Drop)]
-pub struct Done<L: Queue> {
+pub struct Done<L: JobQueue> {
     pub ticket: Ticket<L>,
     pub outcomes: Vec<Outcome>,
     pub ghost part: { ticket.parts ≡ 1 },
     pub ghost each: { AreOutcomes outcomes.items ticket.taken },
 }
 
-impl<L: Queue> Done<L> {
+impl<L: JobQueue> Done<L> {
     /// A worker's ticket with what came of the jobs that it took.
     pub fn new(ticket: Ticket<L>, outcomes: Vec<Outcome>) -> Done<L>
         requires part { ticket.parts ≡ 1 }

@@ -4,8 +4,8 @@ ghost use Rattle.crossbeam_channel.specs.Claims.{IsKeyed};
 ghost use Rattle.crossbeam_channel.specs.Ends.{receives_on, sends_on};
 
 use crate::job::Job;
+use crate::job_queue::JobQueue;
 use crate::new_queue::NewQueue;
-use crate::queue::Queue;
 use crate::rule::{Back, Cut, Fifo, Hand, Pushes, Takes, Total};
 use crate::ticket::Ticket;
 use crossbeam_channel::{RuledReceiver, RuledSender, SendError, TrySendError};
@@ -15,7 +15,7 @@ use std::sync::atomic::{AtomicBool, Ordering};
 use std::thread;
 
 /// A queue of jobs, from one hand that pushes to many that take, first in first out.
-pub struct Front<L: Queue> {
+pub struct Front<L: JobQueue> {
     sender: RuledSender<Job, Hand, Fifo>,
     receiver: RuledReceiver<Job, Hand, Fifo>,
     closed: AtomicBool,
@@ -26,7 +26,7 @@ pub struct Front<L: Queue> {
     ghost keys: { (sends_on sender).stamps.shared.key ≡ L.keys },
 }
 
-impl<L: Queue> Drop for Front<L> {
+impl<L: JobQueue> Drop for Front<L> {
     fn drop(self) {
         let Front {
             sender: _,
@@ -37,7 +37,7 @@ impl<L: Queue> Drop for Front<L> {
     }
 }
 
-impl<L: Queue> Front<L> {
+impl<L: JobQueue> Front<L> {
     ghost use Rattle.std.specs.Prelude.{◌≡◌, ◌<◌, List, true, MatchOption, MatchResult};
     ghost use Rattle.mvo_front.specs.Job.{JobData};
     ghost use Rattle.mvo_front.specs.Named.{IsQueueNamedBy};

@@ -5,18 +5,18 @@ ghost use Rattle.mvo_front.specs.Queue.{HasPushed};
 
 use crate::front::Front;
 use crate::job::Job;
+use crate::job_queue::JobQueue;
+use crate::job_work::JobWork;
 use crate::outcome::Outcome;
-use crate::queue::Queue;
 use crate::serving::{serve_all, serve_waiting};
 use crate::ticket::Ticket;
-use crate::work::Work;
 use std::alloc::AllocError;
 use std::sync::Wait;
 
 /// Pushes the jobs in order, closes the queue, and works on until no job is left. Where the queue
 /// is full it runs the job that has waited longest, so it waits for no worker, and all is done also
 /// where there is none.
-pub fn hand_out<L: Queue, W: Work, R: Wait>(
+pub fn hand_out<L: JobQueue, W: JobWork, R: Wait>(
     rt: &R,
     work: &W,
     front: &Front<L>,
@@ -40,7 +40,7 @@ pub fn hand_out<L: Queue, W: Work, R: Wait>(
 }
 
 /// Pushes the jobs in order. Refused where there is no room for what comes of a job.
-fn push_all<L: Queue, W: Work, R: Wait>(
+fn push_all<L: JobQueue, W: JobWork, R: Wait>(
     rt: &R,
     work: &W,
     front: &Front<L>,
@@ -61,7 +61,7 @@ fn push_all<L: Queue, W: Work, R: Wait>(
 }
 
 /// Pushes a job, and runs others as long as there is no room for it.
-fn push_one<L: Queue, W: Work, R: Wait>(
+fn push_one<L: JobQueue, W: JobWork, R: Wait>(
     rt: &R,
     work: &W,
     front: &Front<L>,

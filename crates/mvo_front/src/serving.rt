@@ -6,14 +6,14 @@ ghost use Rattle.mvo_front.specs.Queue.{IsButForTaken, worker};
 use crate::done::Done;
 use crate::front::Front;
 use crate::job::Job;
+use crate::job_queue::JobQueue;
+use crate::job_work::JobWork;
 use crate::outcome::Outcome;
-use crate::queue::Queue;
 use crate::ticket::Ticket;
-use crate::work::Work;
 use std::sync::Wait;
 
 /// Runs a job that was taken.
-fn run_one<W: Work, R: Wait>(rt: &R, work: &W, outcomes: &mut Vec<Outcome>, job: Job)
+fn run_one<W: JobWork, R: Wait>(rt: &R, work: &W, outcomes: &mut Vec<Outcome>, job: Job)
     requires { vec_len outcomes.old < vec_capacity outcomes.old }
     ensures { outcome_numbers outcomes.new.items
         ≡ outcome_numbers outcomes.old.items ++ job.number ∷ [] }
@@ -22,7 +22,7 @@ fn run_one<W: Work, R: Wait>(rt: &R, work: &W, outcomes: &mut Vec<Outcome>, job:
 }
 
 /// Takes the next job and runs it. False where no more jobs come.
-fn serve_one<L: Queue, W: Work, R: Wait>(
+fn serve_one<L: JobQueue, W: JobWork, R: Wait>(
     rt: &R,
     work: &W,
     front: &Front<L>,
@@ -45,7 +45,7 @@ fn serve_one<L: Queue, W: Work, R: Wait>(
 }
 
 /// Takes the job that has waited longest, if one is seen, and runs it.
-pub fn serve_waiting<L: Queue, W: Work, R: Wait>(
+pub fn serve_waiting<L: JobQueue, W: JobWork, R: Wait>(
     rt: &R,
     work: &W,
     front: &Front<L>,
@@ -64,7 +64,7 @@ pub fn serve_waiting<L: Queue, W: Work, R: Wait>(
 }
 
 /// Takes jobs, and runs each, until no more come, or until there is no room for what comes of one.
-pub fn serve_all<L: Queue, W: Work, R: Wait>(
+pub fn serve_all<L: JobQueue, W: JobWork, R: Wait>(
     rt: &R,
     work: &W,
     front: &Front<L>,
@@ -89,7 +89,7 @@ pub fn serve_all<L: Queue, W: Work, R: Wait>(
 
 /// What a worker does in its thread. One outcome for each job that was taken, in order, with its
 /// number.
-pub fn serve<L: Queue, W: Work, R: Wait>(
+pub fn serve<L: JobQueue, W: JobWork, R: Wait>(
     rt: &R,
     work: &W,
     front: &Front<L>,

@@ -10,12 +10,12 @@ use crate::front::Front;
 use crate::handing_out::hand_out;
 use crate::hired::Hired;
 use crate::job::Job;
+use crate::job_queue::JobQueue;
+use crate::job_work::JobWork;
 use crate::new_queue::NewQueue;
 use crate::outcome::Outcome;
-use crate::queue::Queue;
 use crate::serving::serve;
 use crate::ticket::Ticket;
-use crate::work::Work;
 use std::alloc::{AllocError, Global};
 use std::marker::Brand;
 use std::sync::Wait;
@@ -29,7 +29,7 @@ pub const MAX_WORKERS: usize = 64;
 /// while they work. The calling thread is the first of the workers, and alone where the system
 /// gives no other. Each job is run once: each number has as many outcomes as there are jobs with
 /// it, in any order.
-pub fn run<W: Work + Sync, R: Threads + Wait + Sync>(
+pub fn run<W: JobWork + Sync, R: Threads + Wait + Sync>(
     rt: &R,
     alloc: Global,
     jobs: Vec<Job>,
@@ -43,7 +43,7 @@ pub fn run<W: Work + Sync, R: Threads + Wait + Sync>(
 }
 
 /// The same for every queue, which its parts name.
-fn run_in<L: Queue + Send + Sync, W: Work + Sync, R: Threads + Wait + Sync>(
+fn run_in<L: JobQueue + Send + Sync, W: JobWork + Sync, R: Threads + Wait + Sync>(
     rt: &R,
     alloc: Global,
     opened: NewQueue,
@@ -74,7 +74,7 @@ fn run_in<L: Queue + Send + Sync, W: Work + Sync, R: Threads + Wait + Sync>(
 }
 
 /// Hires so many workers, each with room for what comes of so many jobs.
-fn hire_all<L: Queue>(
+fn hire_all<L: JobQueue>(
     alloc: Global,
     front: &Front<L>,
     ticket: &mut Ticket<L>,
@@ -96,7 +96,7 @@ fn hire_all<L: Queue>(
     Ok(hired)
 }
 
-fn serve_hired<L: Queue, W: Work, R: Wait>(
+fn serve_hired<L: JobQueue, W: JobWork, R: Wait>(
     rt: &R,
     work: &W,
     front: &Front<L>,
@@ -108,7 +108,7 @@ fn serve_hired<L: Queue, W: Work, R: Wait>(
 
 /// What came of all jobs, with the tickets of all workers taken back. Out of memory where a worker
 /// ended before all jobs were taken, which it does for want of memory alone.
-fn gather<L: Queue, R: Wait>(
+fn gather<L: JobQueue, R: Wait>(
     rt: &R,
     front: &Front<L>,
     ticket: Ticket<L>,
@@ -130,7 +130,7 @@ fn gather<L: Queue, R: Wait>(
 }
 
 /// Takes back the tickets of the workers, and adds up what came of their jobs.
-fn take_back<L: Queue>(
+fn take_back<L: JobQueue>(
     front: &Front<L>,
     ticket: &mut Ticket<L>,
     done: Vec<Done<L>>,

@@ -9,11 +9,11 @@ use Rattle.mvo_types.specs.RowData.{ContentData}
 use Rattle.mvo_types.specs.Write.{Write, Effect}
 use Rattle.mvo_types.specs.Write.Effect.{Put, Delete}
 use Rattle.mvo_group.specs.Data.{RecordData, GroupData}
-use Rattle.mvo_group.specs.Rules.{sort_of, data_of, KeepsLimits, IsRecord, KeepsRules, HasWords, IsGroup}
+use Rattle.mvo_group.specs.Rules.{sort_of, put_bytes, KeepsLimits, IsRecord, KeepsRules, HasWords, IsGroup}
 use Rattle.mvo_bytes.specs.Fields.{field}
-use Rattle.mvo_group.specs.Body.{bytes_at, write_bytes, record_bytes, body_of}
+use Rattle.mvo_group.specs.Body.{effect_bytes, write_bytes, record_bytes, body_of}
 use Rattle.mvo_bytes.specs.Reading.{◌>>=◌, number_at, data_at, times}
-use Rattle.mvo_group.specs.Reading.{put_at, effect_at, write_at, record_at, group_at}
+use Rattle.mvo_group.specs.Reading.{put_at, effect_at, keyed_write_at, record_at, group_at}
 use Rattle.mvo_bytes.proofs.Fields.{IsBytes, IsBytes-drop, bind_some, guard_some, some_is, Takes, Takes-then, number_takes, number_again}
 use Rattle.mvo_bytes.proofs.Loop.{times_take, times_again}
 
@@ -24,7 +24,7 @@ data_takes n bytes x fits e =
     let long : n ≤ length bytes = ltb-false _ _ b.0 in
     subst (λ (y : List ℕ × List ℕ). Takes bytes y.0 y.1 × (length y.0 ≡ n)) (some_is (take n bytes, drop n bytes) x b.1) (record { parts = sym (take-append-drop n bytes); rest_fits = IsBytes-drop n bytes fits }, omega (arith, length-take n bytes))
 
-data_again : (text rest : List ℕ) → data_at (length text) (text ++ rest) ≡ Some (text, rest)
+pub data_again : (text rest : List ℕ) → data_at (length text) (text ++ rest) ≡ Some (text, rest)
 unfolding data_at
 data_again text rest =
     let b : ltb (length (text ++ rest)) (length text) ≡ false = le-ltb _ _ (omega (arith, length-append text rest)) in
@@ -80,7 +80,7 @@ effect_takes tag bytes x fits e = two (eqb tag 2) refl e
         subst (λ (y : Effect × List ℕ). (tag ≡ tag_of y.0) × Takes bytes (effect_text y.0) y.1 × (sort_of y.0 < 2 ^ 64)) (some_is made x f) (eqb-true _ _ is, record { parts = refl; rest_fits = fits }, omega arith)
     two false is f = one (eqb tag 1) refl f
 
-effect_again : (effect : Effect) (rest : List ℕ) → sort_of effect < 2 ^ 64 → length (data_of effect) < 2 ^ 16 → effect_at (tag_of effect) (effect_text effect ++ rest) ≡ Some (effect, rest)
+effect_again : (effect : Effect) (rest : List ℕ) → sort_of effect < 2 ^ 64 → length (put_bytes effect) < 2 ^ 16 → effect_at (tag_of effect) (effect_text effect ++ rest) ≡ Some (effect, rest)
 unfolding effect_at
 effect_again Delete rest word few = refl
 effect_again (Put h) rest word few = rw (put_again h rest word few) refl
@@ -89,7 +89,7 @@ effect_again (Put h) rest word few = rw (put_again h rest word few) refl
 write_text : (w : Write) → write_bytes w ≡ tag_of w.1 ∷ w.0.table ∷ (field 8 w.0.key ++ effect_text w.1)
 write_text w = by_effect w.1
   where
-    by_effect : (effect : Effect) → bytes_at w.0 effect ≡ tag_of effect ∷ w.0.table ∷ (field 8 w.0.key ++ effect_text effect)
+    by_effect : (effect : Effect) → effect_bytes w.0 effect ≡ tag_of effect ∷ w.0.table ∷ (field 8 w.0.key ++ effect_text effect)
     by_effect Delete = ap (λ (l : List ℕ). 2 ∷ w.0.table ∷ l) (sym (append-nil (field 8 w.0.key)))
     by_effect (Put h) = ap (λ (l : List ℕ). 1 ∷ w.0.table ∷ l) (append_assoc (field 8 w.0.key ++ field 8 h.sort) (field 2 (length h.bytes)) h.bytes ∙ append_assoc (field 8 w.0.key) (field 8 h.sort) (field 2 (length h.bytes) ++ h.bytes))
 
@@ -97,8 +97,8 @@ byte_is : (x : ℕ) → x < 256 → field 1 x ≡ x ∷ []
 unfolding field
 byte_is x lt = let same : x % 256 ≡ x = omega arith in ap (λ y. y ∷ []) same
 
-pub write_takes : (bytes : List ℕ) (x : Write × List ℕ) → IsBytes bytes → write_at bytes ≡ Some x → Takes bytes (write_bytes x.0) x.1 × HasWords x.0
-unfolding write_at
+pub write_takes : (bytes : List ℕ) (x : Write × List ℕ) → IsBytes bytes → keyed_write_at bytes ≡ Some x → Takes bytes (write_bytes x.0) x.1 × HasWords x.0
+unfolding keyed_write_at
 write_takes bytes x fits e =
     let a = bind_some (number_at 1 bytes) (λ tag. number_at 1 tag.1 >>= λ table. number_at 8 table.1 >>= λ key. effect_at tag.0 key.1 >>= λ effect. Some ((record { table = table.0; key = key.0 }, effect.0), effect.1)) x e in
     let b = bind_some (number_at 1 a.0.1) (λ table. number_at 8 table.1 >>= λ key. effect_at a.0.0 key.1 >>= λ effect. Some ((record { table = table.0; key = key.0 }, effect.0), effect.1)) x a.2 in
@@ -122,18 +122,18 @@ pub record IsWrite (w : Write) : Type 0 where
   pub limits : KeepsLimits w
   pub words : HasWords w
 
-pub write_again : (w : Write) (rest : List ℕ) → IsWrite w → write_at (write_bytes w ++ rest) ≡ Some (w, rest)
-unfolding write_at
+pub write_again : (w : Write) (rest : List ℕ) → IsWrite w → keyed_write_at (write_bytes w ++ rest) ≡ Some (w, rest)
+unfolding keyed_write_at
 write_again w rest is =
     let table : w.0.table < 256 = omega (arith, is.limits.table) in
-    let size : length (data_of w.1) < 2 ^ 16 = omega (arith, is.limits.size) in
+    let size : length (put_bytes w.1) < 2 ^ 16 = omega (arith, is.limits.size) in
     let one : field 1 (tag_of w.1) ≡ tag_of w.1 ∷ [] = byte_is (tag_of w.1) (tag_small w.1) in
     let two : field 1 w.0.table ≡ w.0.table ∷ [] = byte_is w.0.table table in
     let tail = field 8 w.0.key ++ (effect_text w.1 ++ rest) in
     let regrouped : write_bytes w ++ rest ≡ field 1 (tag_of w.1) ++ (field 1 w.0.table ++ tail) =
     ap (λ (l : List ℕ). l ++ rest) (write_text w) ∙ ap (λ (l : List ℕ). tag_of w.1 ∷ w.0.table ∷ l) (append_assoc (field 8 w.0.key) (effect_text w.1) rest)
     ∙ sym (ap (λ (l : List ℕ). l ++ (field 1 w.0.table ++ tail)) one ∙ ap (λ (l : List ℕ). tag_of w.1 ∷ (l ++ tail)) two) in
-    ap write_at regrouped ∙ rw (number_again 1 (tag_of w.1) (field 1 w.0.table ++ tail) (tag_small w.1), number_again 1 w.0.table tail table, number_again 8 w.0.key (effect_text w.1 ++ rest) is.words.key, effect_again w.1 rest is.words.sort size) refl
+    ap keyed_write_at regrouped ∙ rw (number_again 1 (tag_of w.1) (field 1 w.0.table ++ tail) (tag_small w.1), number_again 1 w.0.table tail table, number_again 8 w.0.key (effect_text w.1 ++ rest) is.words.key, effect_again w.1 rest is.words.sort size) refl
   where
     tag_small : (effect : Effect) → tag_of effect < 256
     tag_small Delete = omega arith
@@ -147,13 +147,13 @@ HasRecordWords r = AllByRecursion HasWords r.writes
 pub record_takes : (bytes : List ℕ) (x : RecordData × List ℕ) → IsBytes bytes → record_at bytes ≡ Some x → Takes bytes (record_bytes x.0) x.1 × HasRecordWords x.0
 unfolding record_at
 record_takes bytes x fits e =
-    let a = bind_some (number_at 8 bytes) (λ end. number_at 2 end.1 >>= λ n. times write_at n.0 n.1 >>= λ writes. Some (record { end = end.0; writes = writes.0 }, writes.1)) x e in
-    let b = bind_some (number_at 2 a.0.1) (λ n. times write_at n.0 n.1 >>= λ writes. Some (record { end = a.0.0; writes = writes.0 }, writes.1)) x a.2 in
-    let c = bind_some (times write_at b.0.0 b.0.1) (λ writes. Some (record { end = a.0.0; writes = writes.0 }, writes.1)) x b.2 in
+    let a = bind_some (number_at 8 bytes) (λ end. number_at 2 end.1 >>= λ n. times keyed_write_at n.0 n.1 >>= λ writes. Some (record { end = end.0; writes = writes.0 }, writes.1)) x e in
+    let b = bind_some (number_at 2 a.0.1) (λ n. times keyed_write_at n.0 n.1 >>= λ writes. Some (record { end = a.0.0; writes = writes.0 }, writes.1)) x a.2 in
+    let c = bind_some (times keyed_write_at b.0.0 b.0.1) (λ writes. Some (record { end = a.0.0; writes = writes.0 }, writes.1)) x b.2 in
     let made : RecordData × List ℕ = (record { end = a.0.0; writes = c.0.0 }, c.0.1) in
     let t0 = number_takes 8 bytes a.0 fits a.1 in
     let t1 = number_takes 2 a.0.1 b.0 t0.0.rest_fits b.1 in
-    let t2 = times_take write_at write_bytes HasWords write_takes b.0.0 b.0.1 c.0 t1.0.rest_fits c.1 in
+    let t2 = times_take keyed_write_at write_bytes HasWords write_takes b.0.0 b.0.1 c.0 t1.0.rest_fits c.1 in
     let e01 = Takes-then bytes (field 8 a.0.0) a.0.1 (field 2 b.0.0) b.0.1 t0.0 t1.0 in
     let e02 = Takes-then bytes (field 8 a.0.0 ++ field 2 b.0.0) b.0.1 (flat_map write_bytes c.0.0) c.0.1 e01 t2.0 in
     let sized : Takes bytes (record_bytes made.0) c.0.1 = subst (λ k. Takes bytes (field 8 a.0.0 ++ field 2 k ++ flat_map write_bytes c.0.0) c.0.1) (sym t2.1) e02 in
@@ -171,7 +171,7 @@ record_again r rest is =
     let count = field 2 (length r.writes) in
     let text = flat_map write_bytes r.writes in
     let regrouped : record_bytes r ++ rest ≡ field 8 r.end ++ (count ++ (text ++ rest)) = append_assoc (field 8 r.end ++ count) text rest ∙ append_assoc (field 8 r.end) count (text ++ rest) in
-    ap record_at regrouped ∙ rw (number_again 8 r.end (count ++ (text ++ rest)) is.end, number_again 2 (length r.writes) (text ++ rest) is.few, times_again write_at write_bytes IsWrite write_again r.writes rest is.each) refl
+    ap record_at regrouped ∙ rw (number_again 8 r.end (count ++ (text ++ rest)) is.end, number_again 2 (length r.writes) (text ++ rest) is.few, times_again keyed_write_at write_bytes IsWrite write_again r.writes rest is.each) refl
 
 guard_ended : {A : Type 0} (c : Bool) (x y : A) → cond c (Some x) None ≡ Some y → (c ≡ true) × (x ≡ y)
 guard_ended true x y e = (refl, cc)
@@ -231,7 +231,7 @@ body_of-injective g h p q e = some_is g h (sym (group_again g p) ∙ ap group_at
 
 -- ---- what `decode` answers, where reading gave d, which is a group exactly where it keeps the rules
 
-words_of : (rs : List RecordData) → AllByRecursion HasRecordWords rs → AllByRecursion (λ r. All HasWords r.writes) rs
+pub words_of : (rs : List RecordData) → AllByRecursion HasRecordWords rs → AllByRecursion (λ r. All HasWords r.writes) rs
 words_of [] all = tt
 words_of (r ∷ rs) all = (All-from_recursion HasWords r.writes all.0, words_of rs all.1)
 

@@ -18,11 +18,11 @@ use Rattle.mvo_group.specs.declared.write.Write.{Write as RustWrite}
 use Rattle.mvo_group.specs.Data.{RecordData, write_data}
 use Rattle.mvo_group.specs.Rules.{EndsRise}
 
-both_of : (a b : Bool) → (a && b) ≡ true → (a ≡ true) × (b ≡ true)
+pub both_of : (a b : Bool) → (a && b) ≡ true → (a ≡ true) × (b ≡ true)
 both_of true b e = (refl, e)
 both_of false b e = absurd cc
 
-both_are : (a b : Bool) → a ≡ true → b ≡ true → (a && b) ≡ true
+pub both_are : (a b : Bool) → a ≡ true → b ≡ true → (a && b) ≡ true
 both_are true b p q = q
 both_are false b p q = absurd cc
 
@@ -67,7 +67,7 @@ abbrev pub do_ends_rise : ℕ → ℕ → List RecordData → Bool
 do_ends_rise lo hi [] = true
 do_ends_rise lo hi (r ∷ more) = (ltb lo r.end && leb r.end hi) && do_ends_rise r.end hi more
 
-lt_cmp : (a b : ℕ) → a < b → nat_cmp a b ≡ Less
+pub lt_cmp : (a b : ℕ) → a < b → nat_cmp a b ≡ Less
 lt_cmp a b h = ap (λ t. cond t Less (cond (eqb a b) Equal Greater)) (lt-ltb a b h)
 
 cmp_lt : (a b : ℕ) → nat_cmp a b ≡ Less → a < b

@@ -11,15 +11,15 @@ use Rattle.mvo_types.specs.Write.{Write, Effect}
 use Rattle.mvo_types.specs.Write.Effect.{Put, Delete}
 use Rattle.mvo_group.specs.declared.write.Write.{Write as RustWrite}
 use Rattle.mvo_group.specs.Data.{RecordData, GroupData, write_data}
-use Rattle.mvo_group.specs.Rules.{data_of, effect_len, write_len, record_len, body_len, KeepsLimits, IsRecord}
-use Rattle.mvo_group.specs.Body.{bytes_at, write_bytes, record_bytes, body_of}
+use Rattle.mvo_group.specs.Rules.{put_bytes, effect_len, write_len, record_len, body_len, KeepsLimits, IsRecord}
+use Rattle.mvo_group.specs.Body.{effect_bytes, write_bytes, record_bytes, body_of}
 use Rattle.mvo_bytes.proofs.Fields.{length-field}
 
 sum_same : {X : Type 0} (f g : X → ℕ) → ((x : X) → f x ≡ g x) → (xs : List X) → sum_by f xs ≡ sum_by g xs
 sum_same f g same [] = refl
 sum_same f g same (x ∷ xs) = let e = same x in let r = sum_same f g same xs in simp sum_by-cons (omega (arith, e, r))
 
-length-bytes_at : (k : RowKey) (effect : Effect) → length (bytes_at k effect) ≡ effect_len effect
+length-bytes_at : (k : RowKey) (effect : Effect) → length (effect_bytes k effect) ≡ effect_len effect
 length-bytes_at k Delete = omega (arith, length-field 8 k.key)
 length-bytes_at k (Put h) = simp length-append (omega (arith, length-field 8 k.key, length-field 8 h.sort, length-field 2 (length h.bytes)))
 
@@ -38,7 +38,7 @@ length-body_of g =
 
 -- ---- a record of 256 writes of 1,044 bytes, and 1,024 of them
 
-effect_small : (effect : Effect) → length (data_of effect) ≤ 1024 → effect_len effect ≤ 1044
+effect_small : (effect : Effect) → length (put_bytes effect) ≤ 1024 → effect_len effect ≤ 1044
 effect_small Delete h = omega arith
 effect_small (Put x) h = omega arith
 

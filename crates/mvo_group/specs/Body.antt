@@ -9,13 +9,13 @@ use Rattle.mvo_group.specs.declared.write.TheConstants.{PUT, DELETE}
 use Rattle.mvo_group.specs.Data.{RecordData, GroupData}
 
 -- the tag and the row of a put, the tag and the key of a delete
-abbrev pub bytes_at : RowKey → Effect → List ℕ
-bytes_at k (Put h) =
+abbrev pub effect_bytes : RowKey → Effect → List ℕ
+effect_bytes k (Put h) =
     PUT ∷ k.table ∷ field 8 k.key ++ field 8 h.sort ++ field 2 (length h.bytes) ++ h.bytes
-bytes_at k Delete = DELETE ∷ k.table ∷ field 8 k.key
+effect_bytes k Delete = DELETE ∷ k.table ∷ field 8 k.key
 
 abbrev pub write_bytes : Write → List ℕ
-write_bytes w = bytes_at w.0 w.1
+write_bytes w = effect_bytes w.0 w.1
 
 abbrev pub record_bytes : RecordData → List ℕ
 record_bytes r = field 8 r.end ++ field 2 (length r.writes) ++ flat_map write_bytes r.writes

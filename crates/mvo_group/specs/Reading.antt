@@ -22,8 +22,8 @@ effect_at tag bytes =
     then Some (Delete, bytes)
     else (if tag == PUT then (put_at bytes >>= λ h. Some (Put h.0, h.1)) else None)
 
-unfoldable pub write_at : List ℕ → Option (Write × List ℕ)
-write_at bytes = do
+unfoldable pub keyed_write_at : List ℕ → Option (Write × List ℕ)
+keyed_write_at bytes = do
   tag ← number_at 1 bytes
   table ← number_at 1 tag.1
   key ← number_at 8 table.1
@@ -34,7 +34,7 @@ unfoldable pub record_at : List ℕ → Option (RecordData × List ℕ)
 record_at bytes = do
   end ← number_at 8 bytes
   count ← number_at 2 end.1
-  writes ← times write_at count.0 count.1
+  writes ← times keyed_write_at count.0 count.1
   Some (record { end = end.0; writes = writes.0 }, writes.1)
 
 -- all of the bytes

@@ -12,9 +12,9 @@ abbrev pub sort_of : Effect → ℕ
 sort_of Delete = 0
 sort_of (Put h) = h.sort
 
-abbrev pub data_of : Effect → List ℕ
-data_of Delete = []
-data_of (Put h) = h.bytes
+abbrev pub put_bytes : Effect → List ℕ
+put_bytes Delete = []
+put_bytes (Put h) = h.bytes
 
 -- ---- lengths, in bytes
 
@@ -36,7 +36,7 @@ body_len g = BODY_HEADER_LEN + sum_by record_len g.records
 -- the limits of a row
 pub record KeepsLimits (w : Write) : Type 0 where
   pub table : w.0.table ≤ MAX_TABLE
-  pub size : length (data_of w.1) ≤ MAX_DATA_LEN
+  pub size : length (put_bytes w.1) ≤ MAX_DATA_LEN
 
 -- (table, key) rises strictly
 pub record IsRecord (r : RecordData) : Type 0 where

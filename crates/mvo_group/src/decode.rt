@@ -1,7 +1,7 @@
 ghost use Rattle.std.specs.Prelude.{◌≡◌, List, length, map, IfOk, IfSome, Ok, Option, Some, None};
 ghost use Rattle.mvo_group.specs.Data.{write_data, group_of};
-ghost use Rattle.mvo_bytes.specs.Reading.{Gives, Reads, number_at, data_at, times};
-ghost use Rattle.mvo_group.specs.Reading.{put_at, effect_at, write_at, record_at, group_at};
+ghost use Rattle.mvo_bytes.specs.Reading.{ReadingGives, Reads, number_at, data_at, times};
+ghost use Rattle.mvo_group.specs.Reading.{put_at, effect_at, keyed_write_at, record_at, group_at};
 
 use crate::record::Record;
 use crate::write::{DELETE, PUT, Write};
@@ -30,9 +30,9 @@ fn put_of(bytes: &[u8]) -> Option<((u64, &[u8]), &[u8])>
     Some(((sort, data), rest))
 }
 
-#[tactic(auto, unfolding(crate::specs::Reading::write_at, crate::specs::Reading::effect_at))]
+#[tactic(auto, unfolding(crate::specs::Reading::keyed_write_at, crate::specs::Reading::effect_at))]
 fn write_of(alloc: Global, bytes: &[u8]) -> Result<Option<(Write, &[u8])>, AllocError>
-    ensures { IfOk result (λ found. Reads write_data found (write_at bytes.now)) }
+    ensures { IfOk result (λ found. Reads write_data found (keyed_write_at bytes.now)) }
 {
     let Some((tag, rest)) = u8_at(bytes) else {
         return Ok(None);
@@ -63,7 +63,7 @@ fn writes_of(
     bytes: &[u8],
 ) -> Result<Option<(Vec<Write>, &[u8])>, AllocError>
     ensures { IfOk result (λ found. Reads (λ ws. map write_data ws.items) found
-        (times write_at count bytes.now)) }
+        (times keyed_write_at count bytes.now)) }
 {
     let mut writes = Vec::with_capacity(alloc, MAX_WRITES.min(count as usize))?;
     let mut rest = bytes;
@@ -120,7 +120,7 @@ pub fn parts_of(
     alloc: Global,
     bytes: &[u8],
 ) -> Result<Option<(Stamp, Stamp, Vec<Record>)>, AllocError>
-    ensures { IfOk result (λ found. Gives (λ x. group_of x.0.0 x.1.0 x.2.items) found
+    ensures { IfOk result (λ found. ReadingGives (λ x. group_of x.0.0 x.1.0 x.2.items) found
         (group_at bytes.now)) }
 {
     let Some((prev, rest)) = u64_at(bytes) else {

@@ -5,7 +5,7 @@ use Rattle.std.proofs.lemmas.Map.Steps.{length-le_from_distinct_below}
 use Rattle.std.specs.List.{IsDistinct, AllByRecursion}
 use Rattle.mvo_hash.specs.declared.link.Link.{Link}
 use Rattle.mvo_hash.specs.Lists.{newest_of, older_of, newer_behind, is_among}
-use Rattle.mvo_hash.specs.Links.{no_number, unheld, link, first_or_none, some_unless_none, walk, IsChain, IsApart}
+use Rattle.mvo_hash.specs.Links.{no_number, unheld, link, first_or_none, some_unless_none, walk, IsChain, AreDistinctNumbers}
 
 pub eqb_same : (n : ℕ) → eqb n n ≡ true
 eqb_same n = eq-eqb n n refl
@@ -19,17 +19,17 @@ among_within ls newer (m ∷ ns) n c a =
       | inr b ↦ among_within ls m ns n c.3 b
     ]
 
-all_apart : (n : ℕ) (ns : List ℕ) → is_among n ns ≡ false → AllByRecursion (λ m. eqb n m ≡ false) ns
+pub all_apart : (n : ℕ) (ns : List ℕ) → is_among n ns ≡ false → AllByRecursion (λ m. eqb n m ≡ false) ns
 all_apart n [] a = tt
 all_apart n (m ∷ ns) a = let h = or_parts (eqb n m) (is_among n ns) a in (h.0, all_apart n ns h.1)
 
-distinct : (ns : List ℕ) → IsApart ns → IsDistinct eqb ns
+distinct : (ns : List ℕ) → AreDistinctNumbers ns → IsDistinct eqb ns
 unfolding IsDistinct
 distinct [] a = tt
 distinct (n ∷ ns) a = (all_apart n ns a.0, distinct ns a.1)
 
 -- a chain is no longer than the links
-pub chain_short : (ls : List Link) (newer : ℕ) (ns : List ℕ) → IsChain ls newer ns → IsApart ns → length ns ≤ length ls
+pub chain_short : (ls : List Link) (newer : ℕ) (ns : List ℕ) → IsChain ls newer ns → AreDistinctNumbers ns → length ns ≤ length ls
 chain_short ls newer ns c a = length-le_from_distinct_below ns (length ls) (distinct ns a) (λ q h. among_within ls newer ns q c h)
 
 -- a walk gives the chain

@@ -6,14 +6,14 @@ use Rattle.mvo_types.specs.declared.row.RowKey.{RowKey}
 use Rattle.mvo_hash.specs.declared.seeds.Seeds.{Seeds}
 use Rattle.mvo_hash.specs.Home.{hash_of, shard_of}
 use Rattle.mvo_hash.specs.Table.{Table, no_keys}
-use Rattle.mvo_hash.specs.Shards.{table, joined, least_room, heads_of, place_of, IsSharded}
+use Rattle.mvo_hash.specs.Shards.{table, joined, least_room, heads_of, shard_of_key, IsSharded}
 use Rattle.mvo_hash.proofs.Rooms.{least_same, least_less, none_left, least_new}
 use Rattle.mvo_hash.proofs.Shared.{own_place, joined_new, table_read, get_own, shared_insert, joined_insert, shared_remove, joined_remove, shared_same, joined_same}
 
 -- the table t of a key, at its place, is to be replaced by u
 pub record Changed (seeds : Seeds) (ts : List Table) (key : RowKey) (i : ℕ) (t u : Table) : Type 0 where
   pub shared : IsSharded seeds ts
-  pub own : place_of seeds key ≡ i
+  pub own : shard_of_key seeds key ≡ i
   pub within : i < length ts
   pub read : t ≡ table ts i
   pub kept : u.seeds ≡ t.seeds

@@ -13,7 +13,7 @@ use Rattle.mvo_types.proofs.Maps.{keys_total, exact_keys}
 use Rattle.mvo_hash.specs.declared.slot.Slot.{Slot}
 use Rattle.mvo_hash.specs.declared.slot.State.{State}
 use Rattle.mvo_hash.specs.declared.slot.State.TheVariants.{Empty, Left, Live}
-use Rattle.mvo_hash.specs.Slots.{slot, slot_key, empty_slot, IsLive, held_by, entries_of, IsNowhere}
+use Rattle.mvo_hash.specs.Slots.{slot, slot_key, empty_slot, IsLive, held_by, slot_entries, IsNowhere}
 use Rattle.mvo_hash.specs.Table.{map_of}
 
 pub same_key : (q k : RowKey) → q ≡ k → eq_by_cmp key_cmp q k ≡ true
@@ -51,29 +51,29 @@ pub live_within : (ss : List Slot) (i : ℕ) → IsLive (slot ss i) → i < leng
 live_within ss i live = elim (cases_lt i (length ss)) [ inl l ↦ l | inr past ↦ absurd (past_not_live ss i past live) ]
 
 -- the key of a slot has its number, where no other slot has the key
-pub found : (ss : List Slot) (i : ℕ) → IsLive (slot ss i) → ((j : ℕ) → IsLive (slot ss j) → slot_key (slot ss j) ≡ slot_key (slot ss i) → j ≡ i) → find key_cmp (slot_key (slot ss i)) (entries_of ss) ≡ Some (slot ss i).number
+pub found : (ss : List Slot) (i : ℕ) → IsLive (slot ss i) → ((j : ℕ) → IsLive (slot ss j) → slot_key (slot ss j) ≡ slot_key (slot ss i) → j ≡ i) → find key_cmp (slot_key (slot ss i)) (slot_entries ss) ≡ Some (slot ss i).number
 found [] i live only = absurd (past_not_live [] i (omega arith) live)
 found (s ∷ ss) zero live only =
-    ap (find key_cmp (slot_key s)) (kept s.state (slot_key s, s.number) (entries_of ss) live)
-    ∙ cond-true _ (Some s.number) (find key_cmp (slot_key s) (entries_of ss)) (same_key (slot_key s) (slot_key s) refl)
+    ap (find key_cmp (slot_key s)) (kept s.state (slot_key s, s.number) (slot_entries ss) live)
+    ∙ cond-true _ (Some s.number) (find key_cmp (slot_key s) (slot_entries ss)) (same_key (slot_key s) (slot_key s) refl)
 found (s ∷ ss) (suc i) live only =
     let k : RowKey = slot_key (slot ss i) in
     let rest = found ss i live (λ j l e. let h = only (suc j) l e in omega (arith, h)) in
     elim (cases_live s.state) [
-      | inl l ↦ ap (find key_cmp k) (kept s.state (slot_key s, s.number) (entries_of ss) l)
-          ∙ cond-false _ (Some s.number) (find key_cmp k (entries_of ss)) (other_key k (slot_key s) (λ e. let h : 0 ≡ suc i = only 0 l (sym e) in omega (arith, h))) ∙ rest
-      | inr n ↦ ap (find key_cmp k) (skipped s.state (slot_key s, s.number) (entries_of ss) n) ∙ rest
+      | inl l ↦ ap (find key_cmp k) (kept s.state (slot_key s, s.number) (slot_entries ss) l)
+          ∙ cond-false _ (Some s.number) (find key_cmp k (slot_entries ss)) (other_key k (slot_key s) (λ e. let h : 0 ≡ suc i = only 0 l (sym e) in omega (arith, h))) ∙ rest
+      | inr n ↦ ap (find key_cmp k) (skipped s.state (slot_key s, s.number) (slot_entries ss) n) ∙ rest
     ]
 
 -- a key that no slot has isn't among the entries
-pub missing : (ss : List Slot) (q : RowKey) → ((i : ℕ) → IsLive (slot ss i) → slot_key (slot ss i) ≢ q) → find key_cmp q (entries_of ss) ≡ None
+pub missing : (ss : List Slot) (q : RowKey) → ((i : ℕ) → IsLive (slot ss i) → slot_key (slot ss i) ≢ q) → find key_cmp q (slot_entries ss) ≡ None
 missing [] q none = refl
 missing (s ∷ ss) q none =
     let rest = missing ss q (λ i. none (suc i)) in
     elim (cases_live s.state) [
-      | inl l ↦ ap (find key_cmp q) (kept s.state (slot_key s, s.number) (entries_of ss) l)
-          ∙ cond-false _ (Some s.number) (find key_cmp q (entries_of ss)) (other_key q (slot_key s) (λ e. none 0 l (sym e))) ∙ rest
-      | inr n ↦ ap (find key_cmp q) (skipped s.state (slot_key s, s.number) (entries_of ss) n) ∙ rest
+      | inl l ↦ ap (find key_cmp q) (kept s.state (slot_key s, s.number) (slot_entries ss) l)
+          ∙ cond-false _ (Some s.number) (find key_cmp q (slot_entries ss)) (other_key q (slot_key s) (λ e. none 0 l (sym e))) ∙ rest
+      | inr n ↦ ap (find key_cmp q) (skipped s.state (slot_key s, s.number) (slot_entries ss) n) ∙ rest
     ]
 
 abbrev Somewhere : List Slot → RowKey → Type 0
@@ -101,10 +101,10 @@ search_slots (s ∷ ss) q =
 
 -- what the map has at a key that a slot holds, and at one that no slot holds
 pub get_found : (ss : List Slot) (i : ℕ) (q : RowKey) → IsLive (slot ss i) → slot_key (slot ss i) ≡ q → ((j : ℕ) → IsLive (slot ss j) → slot_key (slot ss j) ≡ slot_key (slot ss i) → j ≡ i) → get (map_of ss) q ≡ Some (slot ss i).number
-get_found ss i q live e only = ap (get (map_of ss)) (sym e) ∙ get-from_entries keys_total (entries_of ss) (slot_key (slot ss i)) ∙ found ss i live only
+get_found ss i q live e only = ap (get (map_of ss)) (sym e) ∙ get-from_entries keys_total (slot_entries ss) (slot_key (slot ss i)) ∙ found ss i live only
 
 pub get_missing : (ss : List Slot) (q : RowKey) → IsNowhere ss q → get (map_of ss) q ≡ None
-get_missing ss q none = get-from_entries keys_total (entries_of ss) q ∙ missing ss q none.at
+get_missing ss q none = get-from_entries keys_total (slot_entries ss) q ∙ missing ss q none.at
 
 -- to remove a key that isn't there changes nothing
 pub remove_absent : (m : FinMap key_cmp ℕ) (k : RowKey) → get m k ≡ None → m ≡ remove m k
@@ -119,6 +119,6 @@ pub slot_read : (ss : List Slot) (i : ℕ) (s : Slot) → i < length ss → s �
 slot_read ss i s h e = get_or_read ss i s h e empty_slot
 
 -- slots that were never used have no entries
-pub entries_of-replicate : (n : ℕ) → entries_of (replicate n empty_slot) ≡ []
+pub entries_of-replicate : (n : ℕ) → slot_entries (replicate n empty_slot) ≡ []
 entries_of-replicate zero = refl
 entries_of-replicate (suc n) = entries_of-replicate n

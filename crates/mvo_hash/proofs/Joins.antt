@@ -8,9 +8,9 @@ use Rattle.mvo_types.specs.declared.row.RowKey.{RowKey}
 use Rattle.mvo_types.specs.Keys.{key_cmp}
 use Rattle.mvo_types.proofs.Maps.{keys_total}
 use Rattle.mvo_hash.specs.declared.link.Link.{Link}
-use Rattle.mvo_hash.specs.Table.{Map}
-use Rattle.mvo_hash.specs.Lists.{Lists, newest_of, is_among, numbers_of, with_numbers, IsFresh}
-use Rattle.mvo_hash.specs.Links.{no_number, unheld, link, number_or_none, first_or_none, no_link, IsChain, IsApart, IsIndexOf, IsIndex, IsGrown, IsJoined, numbers, lists_of}
+use Rattle.mvo_hash.specs.Table.{KeyNumbers}
+use Rattle.mvo_hash.specs.Lists.{Lists, newest_of, is_among, numbers_of, with_numbers, IsNewNumber}
+use Rattle.mvo_hash.specs.Links.{no_number, unheld, link, number_or_none, first_or_none, no_link, IsChain, AreDistinctNumbers, IsIndexOf, IsIndex, IsGrown, IsJoined, numbers, lists_of}
 use Rattle.mvo_hash.proofs.Finds.{same_key, other_key, cases_key}
 use Rattle.mvo_hash.proofs.Chains.{eqb_same, among_within, chain_kept}
 use Rattle.mvo_hash.proofs.Views.{put_at, put_same, put_other, numbers_shown, to_index, grown_index, lists_put}
@@ -41,7 +41,7 @@ module _ (old new : List Link) (number behind : ℕ) (small : length old ≤ unh
       chain_kept old new newer ns (omega (arith, j.size)) (λ n h. kept n (among_within old newer ns n c h) (among_apart number n ns a h) (among_apart behind n ns b h)) c
 
   -- the chain behind the number
-  pub own_chain : (ns : List ℕ) → first_or_none ns ≡ behind → number < length old → is_among number ns ≡ false → IsApart ns → IsChain old no_number ns → IsChain new no_number (number ∷ ns)
+  pub own_chain : (ns : List ℕ) → first_or_none ns ≡ behind → number < length old → is_among number ns ≡ false → AreDistinctNumbers ns → IsChain old no_number ns → IsChain new no_number (number ∷ ns)
   own_chain [] is within fresh apart c =
       (omega (arith, within, j.size), ap (λ (l : Link). l.newer) j.here, ap (λ (l : Link). l.older) j.here ∙ sym is, tt)
   own_chain (b ∷ ns) is within fresh apart c =
@@ -59,7 +59,7 @@ module _ (old new : List Link) (number behind : ℕ) (small : length old ≤ unh
         ),
       )
 
-module _ (heads : Map) (old new : List Link) (at : RowKey → List ℕ) (t : IsIndexOf heads old at) (key : RowKey) (number : ℕ) (j : IsJoined old new number (number_or_none (get heads key))) (within : number < length old) (fresh : (k : RowKey) → is_among number (at k) ≡ false) where
+module _ (heads : KeyNumbers) (old new : List Link) (at : RowKey → List ℕ) (t : IsIndexOf heads old at) (key : RowKey) (number : ℕ) (j : IsJoined old new number (number_or_none (get heads key))) (within : number < length old) (fresh : (k : RowKey) → is_among number (at k) ≡ false) where
   abbrev behind : ℕ
   behind = number_or_none (get heads key)
 
@@ -112,8 +112,8 @@ module _ (heads : Map) (old new : List Link) (at : RowKey → List ℕ) (t : IsI
           (other_chain old new number behind t.numbered j no_number (at k) (fresh k) (behind_only k o) (t.chained k))
     ];
     apart = λ k. elim (cases_key k key) [
-      | inl e ↦ subst IsApart (sym (put_same at key (number ∷ at key) k e)) (fresh key, t.apart key)
-      | inr o ↦ subst IsApart (sym (put_other at key (number ∷ at key) k o)) (t.apart k)
+      | inl e ↦ subst AreDistinctNumbers (sym (put_same at key (number ∷ at key) k e)) (fresh key, t.apart key)
+      | inr o ↦ subst AreDistinctNumbers (sym (put_other at key (number ∷ at key) k o)) (t.apart k)
     ];
     only = λ a b n x y. elim (among_cases a n x) [
       | inl p ↦ elim (among_cases b n y) [
@@ -138,7 +138,7 @@ module _ (heads : Map) (old new : List Link) (at : RowKey → List ℕ) (t : IsI
     ];
   }
 
-module _ (heads heads' : Map) (ls grown new : List Link) (lists : Lists) (key : RowKey) (number older : ℕ) (t : IsIndex heads ls) (view : lists_of heads ls ≡ lists) (g : IsGrown ls grown) (within : number < length grown) (fresh : IsFresh lists number) (is : older ≡ number_or_none (get heads key)) where
+module _ (heads heads' : KeyNumbers) (ls grown new : List Link) (lists : Lists) (key : RowKey) (number older : ℕ) (t : IsIndex heads ls) (view : lists_of heads ls ≡ lists) (g : IsGrown ls grown) (within : number < length grown) (fresh : IsNewNumber lists number) (is : older ≡ number_or_none (get heads key)) where
   not_among : (k : RowKey) → is_among number (numbers heads ls k) ≡ false
   not_among k = ap (is_among number) (sym (numbers_shown heads ls (numbers heads ls) t k)) ∙ ap (λ m. is_among number (numbers_of m k)) view ∙ fresh.at k
 

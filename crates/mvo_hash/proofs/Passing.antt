@@ -63,7 +63,7 @@ pub numbers_plain : (ns : List VersionNo) → map number (plain ns) ≡ ns
 numbers_plain [] = refl
 numbers_plain (n ∷ ns) = ap (λ ms. n ∷ ms) (numbers_plain ns)
 
-plain_split : (front : List VersionNo) (n : VersionNo) (rest : List VersionNo) → plain (front ++ n ∷ rest) ≡ plain front ++ n.0 ∷ plain rest
+pub plain_split : (front : List VersionNo) (n : VersionNo) (rest : List VersionNo) → plain (front ++ n ∷ rest) ≡ plain front ++ n.0 ∷ plain rest
 plain_split [] n rest = refl
 plain_split (m ∷ front) n rest = ap (λ ms. m.0 ∷ ms) (plain_split front n rest)
 

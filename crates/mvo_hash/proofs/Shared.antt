@@ -9,8 +9,8 @@ use Rattle.mvo_types.specs.declared.row.RowKey.{RowKey}
 use Rattle.mvo_types.specs.Keys.{key_cmp}
 use Rattle.mvo_types.proofs.Maps.{keys_total, exact_keys}
 use Rattle.mvo_hash.specs.declared.seeds.Seeds.{Seeds}
-use Rattle.mvo_hash.specs.Table.{Map, Table, no_keys}
-use Rattle.mvo_hash.specs.Shards.{no_table, table, all_entries, joined, place_of, IsSharded, AreMoved}
+use Rattle.mvo_hash.specs.Table.{KeyNumbers, Table, no_keys}
+use Rattle.mvo_hash.specs.Shards.{no_table, table, all_entries, joined, shard_of_key, IsSharded, AreMoved}
 use Rattle.mvo_hash.specs.Home.{hash_of, shard_of}
 use Rattle.mvo_hash.proofs.Finds.{other_key, cases_key}
 
@@ -60,16 +60,16 @@ find_all (t ∷ ts) q (suc k) only =
     ∙ find_all ts q k (λ j some. let e = only (suc j) some in omega (arith, e))
 
 -- what all hold at a key is what its own table holds
-pub get_joined : (seeds : Seeds) (ts : List Table) → IsSharded seeds ts → (q : RowKey) → get (joined ts) q ≡ get (table ts (place_of seeds q)).numbers q
-get_joined seeds ts s q = get-from_entries keys_total (all_entries ts) q ∙ find_all ts q (place_of seeds q) (λ j some. s.placed j q some)
+pub get_joined : (seeds : Seeds) (ts : List Table) → IsSharded seeds ts → (q : RowKey) → get (joined ts) q ≡ get (table ts (shard_of_key seeds q)).numbers q
+get_joined seeds ts s q = get-from_entries keys_total (all_entries ts) q ∙ find_all ts q (shard_of_key seeds q) (λ j some. s.placed j q some)
 
 -- tables that hold the same, table by table, hold the same together
 pub joined_kept : (seeds : Seeds) (ts us : List Table) → IsSharded seeds ts → IsSharded seeds us → ((i : ℕ) → (table us i).numbers ≡ (table ts i).numbers) → joined us ≡ joined ts
 joined_kept seeds ts us s r same =
     same_map keys_total exact_keys _ _ (λ q.
-    get_joined seeds us r q ∙ ap (λ (m : Map). get m q) (same (place_of seeds q)) ∙ sym (get_joined seeds ts s q))
+    get_joined seeds us r q ∙ ap (λ (m : KeyNumbers). get m q) (same (shard_of_key seeds q)) ∙ sym (get_joined seeds ts s q))
 
-module _ (seeds : Seeds) (ts : List Table) (s : IsSharded seeds ts) (key : RowKey) (i : ℕ) (own : place_of seeds key ≡ i) (within : i < length ts) (u : Table) (seeded : u.seeds ≡ seeds) (o : Option ℕ) (at : (q : RowKey) → get u.numbers q ≡ cond (eq_by_cmp key_cmp q key) o (get (table ts i).numbers q)) where
+module _ (seeds : Seeds) (ts : List Table) (s : IsSharded seeds ts) (key : RowKey) (i : ℕ) (own : shard_of_key seeds key ≡ i) (within : i < length ts) (u : Table) (seeded : u.seeds ≡ seeds) (o : Option ℕ) (at : (q : RowKey) → get u.numbers q ≡ cond (eq_by_cmp key_cmp q key) o (get (table ts i).numbers q)) where
   here : table (set ts i u) i ≡ u
   here = get_or-set_same ts i u no_table within
 
@@ -79,9 +79,9 @@ module _ (seeds : Seeds) (ts : List Table) (s : IsSharded seeds ts) (key : RowKe
   size : length (set ts i u) ≡ length ts
   size = length-set ts i u
 
-  stays : (q : RowKey) → get u.numbers q ≢ None → place_of seeds q ≡ i
+  stays : (q : RowKey) → get u.numbers q ≢ None → shard_of_key seeds q ≡ i
   stays q some = elim (cases_key q key) [
-    | inl e ↦ ap (place_of seeds) e ∙ own
+    | inl e ↦ ap (shard_of_key seeds) e ∙ own
     | inr n ↦ s.placed i q (λ none. some (at q ∙ cond-false _ o (get (table ts i).numbers q) (other_key q key n) ∙ none))
   ]
 
@@ -102,32 +102,32 @@ module _ (seeds : Seeds) (ts : List Table) (s : IsSharded seeds ts) (key : RowKe
   pub get_put_shared : (q : RowKey) → get (joined (set ts i u)) q ≡ cond (eq_by_cmp key_cmp q key) o (get (joined ts) q)
   get_put_shared q =
       get_joined seeds (set ts i u) shared_put q
-      ∙ elim (cases_eq (place_of seeds q) i) [
+      ∙ elim (cases_eq (shard_of_key seeds q) i) [
         | inl e ↦
             ap (λ k. get (table (set ts i u) k).numbers q) e ∙ ap (λ (t : Table). get t.numbers q) here ∙ at q
             ∙ ap (λ k. cond (eq_by_cmp key_cmp q key) o (get (table ts k).numbers q)) (sym e)
             ∙ ap (cond (eq_by_cmp key_cmp q key) o) (sym (get_joined seeds ts s q))
         | inr n ↦
-            ap (λ (t : Table). get t.numbers q) (others (place_of seeds q) n)
+            ap (λ (t : Table). get t.numbers q) (others (shard_of_key seeds q) n)
             ∙ sym (get_joined seeds ts s q)
-            ∙ sym (cond-false _ o (get (joined ts) q) (other_key q key (λ e. n (ap (place_of seeds) e ∙ own))))
+            ∙ sym (cond-false _ o (get (joined ts) q) (other_key q key (λ e. n (ap (shard_of_key seeds) e ∙ own))))
       ]
 
-module _ (seeds : Seeds) (ts : List Table) (s : IsSharded seeds ts) (key : RowKey) (i : ℕ) (own : place_of seeds key ≡ i) (within : i < length ts) (u : Table) (seeded : u.seeds ≡ seeds) where
+module _ (seeds : Seeds) (ts : List Table) (s : IsSharded seeds ts) (key : RowKey) (i : ℕ) (own : shard_of_key seeds key ≡ i) (within : i < length ts) (u : Table) (seeded : u.seeds ≡ seeds) where
   pub shared_insert : (n : ℕ) → u.numbers ≡ insert (table ts i).numbers key n → IsSharded seeds (set ts i u)
-  shared_insert n is = shared_put seeds ts s key i own within u seeded (Some n) (λ q. ap (λ (m : Map). get m q) is ∙ get-insert keys_total (table ts i).numbers key n q)
+  shared_insert n is = shared_put seeds ts s key i own within u seeded (Some n) (λ q. ap (λ (m : KeyNumbers). get m q) is ∙ get-insert keys_total (table ts i).numbers key n q)
 
   pub joined_insert : (n : ℕ) → u.numbers ≡ insert (table ts i).numbers key n → joined (set ts i u) ≡ insert (joined ts) key n
   joined_insert n is = same_map keys_total exact_keys _ _ (λ q.
-      get_put_shared seeds ts s key i own within u seeded (Some n) (λ r. ap (λ (m : Map). get m r) is ∙ get-insert keys_total (table ts i).numbers key n r) q
+      get_put_shared seeds ts s key i own within u seeded (Some n) (λ r. ap (λ (m : KeyNumbers). get m r) is ∙ get-insert keys_total (table ts i).numbers key n r) q
       ∙ sym (get-insert keys_total (joined ts) key n q))
 
   pub shared_remove : u.numbers ≡ remove (table ts i).numbers key → IsSharded seeds (set ts i u)
-  shared_remove is = shared_put seeds ts s key i own within u seeded None (λ q. ap (λ (m : Map). get m q) is ∙ get-remove keys_total (table ts i).numbers key q)
+  shared_remove is = shared_put seeds ts s key i own within u seeded None (λ q. ap (λ (m : KeyNumbers). get m q) is ∙ get-remove keys_total (table ts i).numbers key q)
 
   pub joined_remove : u.numbers ≡ remove (table ts i).numbers key → joined (set ts i u) ≡ remove (joined ts) key
   joined_remove is = same_map keys_total exact_keys _ _ (λ q.
-      get_put_shared seeds ts s key i own within u seeded None (λ r. ap (λ (m : Map). get m r) is ∙ get-remove keys_total (table ts i).numbers key r) q
+      get_put_shared seeds ts s key i own within u seeded None (λ r. ap (λ (m : KeyNumbers). get m r) is ∙ get-remove keys_total (table ts i).numbers key r) q
       ∙ sym (get-remove keys_total (joined ts) key q))
 
   same_at : u.numbers ≡ (table ts i).numbers → (j : ℕ) → (table (set ts i u) j).numbers ≡ (table ts j).numbers
@@ -143,7 +143,7 @@ module _ (seeds : Seeds) (ts : List Table) (s : IsSharded seeds ts) (key : RowKe
       | inl e ↦ ap (λ k. (table (set ts i u) k).seeds) e ∙ ap (λ (t : Table). t.seeds) (get_or-set_same ts i u no_table within) ∙ seeded
       | inr n ↦ ap (λ (t : Table). t.seeds) (get_or-set_other ts i j u no_table n) ∙ s.seeded j (let size = length-set ts i u in omega (arith, below, size))
     ];
-    placed = λ j q some. s.placed j q (λ none. some (ap (λ (m : Map). get m q) (same_at is j) ∙ none));
+    placed = λ j q some. s.placed j q (λ none. some (ap (λ (m : KeyNumbers). get m q) (same_at is j) ∙ none));
   }
 
   pub joined_same : u.numbers ≡ (table ts i).numbers → joined (set ts i u) ≡ joined ts
@@ -155,7 +155,7 @@ module _ (seeds : Seeds) (ts : List Table) (keys : ℕ) (us : List Table) (moved
   shared_moved = record {
     counted = let size = moved.size in elim s.counted [ inl e ↦ inl (size ∙ e) | inr e ↦ inr (size ∙ e) ];
     seeded = λ j below. let lt : j < length ts = (let size = moved.size in omega (arith, below, size)) in moved.seeded j lt ∙ s.seeded j lt;
-    placed = λ j q some. s.placed j q (λ none. some (ap (λ (m : Map). get m q) (moved.same j) ∙ none));
+    placed = λ j q some. s.placed j q (λ none. some (ap (λ (m : KeyNumbers). get m q) (moved.same j) ∙ none));
   }
 
   pub joined_moved : joined us ≡ joined ts
@@ -188,10 +188,10 @@ shared_none seeds = record {
 
 pub joined_new : (seeds : Seeds) → joined (replicate 256 (no_keys seeds 0)) ≡ joined []
 joined_new seeds = same_map keys_total exact_keys _ _ (λ q.
-    get_joined seeds _ (shared_new seeds) q ∙ empty_table seeds 256 (place_of seeds q) q ∙ sym (get-empty key_cmp q))
+    get_joined seeds _ (shared_new seeds) q ∙ empty_table seeds 256 (shard_of_key seeds q) q ∙ sym (get-empty key_cmp q))
 
 -- the table at the place that a key's hash gives is its own
-pub own_place : (seeds : Seeds) (key : RowKey) (hash at : ℕ) → hash ≡ hash_of seeds.first seeds.second key → at ≡ shard_of hash → place_of seeds key ≡ at
+pub own_place : (seeds : Seeds) (key : RowKey) (hash at : ℕ) → hash ≡ hash_of seeds.first seeds.second key → at ≡ shard_of hash → shard_of_key seeds key ≡ at
 own_place seeds key hash at is place = ap shard_of (sym is) ∙ sym place
 
 -- what was read at a place is the table there
@@ -199,14 +199,14 @@ pub table_read : (ts : List Table) (i : ℕ) (t : Table) → i < length ts → t
 table_read ts i t h e = get_or_read ts i t h e no_table
 
 -- where there are no tables there is no key
-pub get_past : (seeds : Seeds) (ts : List Table) → IsSharded seeds ts → (q : RowKey) (at : ℕ) → place_of seeds q ≡ at → length ts ≤ at → get (joined ts) q ≡ None
+pub get_past : (seeds : Seeds) (ts : List Table) → IsSharded seeds ts → (q : RowKey) (at : ℕ) → shard_of_key seeds q ≡ at → length ts ≤ at → get (joined ts) q ≡ None
 get_past seeds ts s q at own past =
     get_joined seeds ts s q
-    ∙ ap (λ (t : Table). get t.numbers q) (get_or_past ts (place_of seeds q) no_table (omega (arith, own, past)))
+    ∙ ap (λ (t : Table). get t.numbers q) (get_or_past ts (shard_of_key seeds q) no_table (omega (arith, own, past)))
     ∙ get-empty key_cmp q
 
 -- what the table at a key's place holds there is what all hold
-pub get_own : (seeds : Seeds) (ts : List Table) → IsSharded seeds ts → (q : RowKey) (at : ℕ) → place_of seeds q ≡ at → get (table ts at).numbers q ≡ get (joined ts) q
+pub get_own : (seeds : Seeds) (ts : List Table) → IsSharded seeds ts → (q : RowKey) (at : ℕ) → shard_of_key seeds q ≡ at → get (table ts at).numbers q ≡ get (joined ts) q
 get_own seeds ts s q at own = ap (λ k. get (table ts k).numbers q) (sym own) ∙ sym (get_joined seeds ts s q)
 
 pub moved_none : (keys : ℕ) → AreMoved [] keys []

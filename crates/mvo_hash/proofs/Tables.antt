@@ -10,12 +10,12 @@ use Rattle.mvo_types.specs.declared.row.RowKey.{RowKey}
 use Rattle.mvo_hash.specs.declared.slot.Slot.{Slot}
 use Rattle.mvo_hash.specs.declared.slot.State.TheVariants.{Left, Live}
 use Rattle.mvo_hash.specs.Home.{home_of}
-use Rattle.mvo_hash.specs.Slots.{entry_of, entries_of, empty_slot, slot, slot_key, live_slot, left_slot, IsLive, IsProbed, IsFoundAt, IsNowhere, IsFreeFrom}
-use Rattle.mvo_hash.specs.Table.{map_of, IsTable}
+use Rattle.mvo_hash.specs.Slots.{slot_entry, slot_entries, empty_slot, slot, slot_key, live_slot, left_slot, IsLive, IsProbed, IsFoundAt, IsNowhere, IsFreeFrom}
+use Rattle.mvo_hash.specs.Table.{map_of, IsHashTable}
 use Rattle.mvo_hash.proofs.Finds.{get_found, get_missing, kept, skipped, live_within, missing}
 use Rattle.mvo_hash.proofs.Puts.{Apart, Puts, Puts-set, reached_put, apart_put, map_put, apart_take, map_take}
 
-module _ (first second homes : ℕ) (ss : List Slot) (t : IsTable first second homes ss) (key : RowKey) where
+module _ (first second homes : ℕ) (ss : List Slot) (t : IsHashTable first second homes ss) (key : RowKey) where
   abbrev home : RowKey → ℕ
   home k = home_of first second homes k
 
@@ -36,7 +36,7 @@ module _ (first second homes : ℕ) (ss : List Slot) (t : IsTable first second h
     put_found = Puts-set ss i (live_slot key number) found.within
 
     -- another number at a key that stands there
-    pub table_set : IsTable first second homes (set ss i (live_slot key number))
+    pub table_set : IsHashTable first second homes (set ss i (live_slot key number))
     table_set = record {
       reached = reached_put ss _ i _ put_found home (λ e. cc) (λ _. (t.reached key).at i found.live found.same) t.reached;
       apart = apart_put ss _ i _ put_found refl only_key t.apart;
@@ -49,7 +49,7 @@ module _ (first second homes : ℕ) (ss : List Slot) (t : IsTable first second h
     put_left = Puts-set ss i left_slot found.within
 
     -- a slot that a key left
-    pub table_take : IsTable first second homes (set ss i left_slot)
+    pub table_take : IsHashTable first second homes (set ss i left_slot)
     table_take = record {
       reached = reached_put ss _ i _ put_left home (λ e. cc) (λ l. absurd (let e : Left ≡ Live = l in cc)) t.reached;
       apart = apart_take ss _ i _ put_left (λ e. cc) found.live t.apart;
@@ -75,7 +75,7 @@ module _ (first second homes : ℕ) (ss : List Slot) (t : IsTable first second h
     put_free = Puts-set ss i (live_slot key number) free.within
 
     -- a new key at a free slot
-    pub table_place : IsTable first second homes (set ss i (live_slot key number))
+    pub table_place : IsHashTable first second homes (set ss i (live_slot key number))
     table_place = record {
       reached = reached_put ss _ i _ put_free home (λ e. cc) (λ _. probed) t.reached;
       apart = apart_put ss _ i _ put_free refl new_key t.apart;
@@ -85,14 +85,14 @@ module _ (first second homes : ℕ) (ss : List Slot) (t : IsTable first second h
     map_place = map_put ss _ i _ put_free refl new_key t.apart not_before
 
 module _ (ss : List Slot) (i : ℕ) (within : i < length ss) where
-  next_entries : entries_of (take (i + 1) ss) ≡ entries_of (take i ss) ++ entries_of (slot ss i ∷ [])
-  next_entries = ap entries_of (take_more ss i empty_slot within) ∙ filter_map-append entry_of (take i ss) (slot ss i ∷ [])
+  next_entries : slot_entries (take (i + 1) ss) ≡ slot_entries (take i ss) ++ slot_entries (slot ss i ∷ [])
+  next_entries = ap slot_entries (take_more ss i empty_slot within) ∙ filter_map-append slot_entry (take i ss) (slot ss i ∷ [])
 
   -- a slot that holds no key adds none
   pub next_free : (slot ss i).state ≢ Live → map_of (take (i + 1) ss) ≡ map_of (take i ss)
   next_free free =
       ap (from_entries {R = key_cmp}) (next_entries
-      ∙ ap (λ es. entries_of (take i ss) ++ es) (skipped (slot ss i).state (slot_key (slot ss i), (slot ss i).number) [] free) ∙ append-nil (entries_of (take i ss)))
+      ∙ ap (λ es. slot_entries (take i ss) ++ es) (skipped (slot ss i).state (slot_key (slot ss i), (slot ss i).number) [] free) ∙ append-nil (slot_entries (take i ss)))
 
   module _ (live : IsLive (slot ss i)) (apart : Apart ss) where
     earlier : IsNowhere (take i ss) (slot_key (slot ss i))
@@ -111,5 +111,5 @@ module _ (ss : List Slot) (i : ℕ) (within : i < length ss) where
     pub next_live : map_of (take (i + 1) ss) ≡ insert (map_of (take i ss)) (slot_key (slot ss i)) (slot ss i).number
     next_live =
         ap (from_entries {R = key_cmp}) (next_entries
-        ∙ ap (λ es. entries_of (take i ss) ++ es) (kept (slot ss i).state (slot_key (slot ss i), (slot ss i).number) [] live))
-        ∙ from_entries_push keys_total exact_keys (entries_of (take i ss)) (slot_key (slot ss i)) (slot ss i).number (missing (take i ss) (slot_key (slot ss i)) earlier.at)
+        ∙ ap (λ es. slot_entries (take i ss) ++ es) (kept (slot ss i).state (slot_key (slot ss i), (slot ss i).number) [] live))
+        ∙ from_entries_push keys_total exact_keys (slot_entries (take i ss)) (slot_key (slot ss i)) (slot ss i).number (missing (take i ss) (slot_key (slot ss i)) earlier.at)

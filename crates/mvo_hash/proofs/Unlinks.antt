@@ -8,37 +8,37 @@ use Rattle.mvo_types.specs.declared.row.RowKey.{RowKey}
 use Rattle.mvo_types.specs.Keys.{key_cmp}
 use Rattle.mvo_types.proofs.Maps.{keys_total}
 use Rattle.mvo_hash.specs.declared.link.Link.{Link}
-use Rattle.mvo_hash.specs.Table.{Map}
-use Rattle.mvo_hash.specs.Lists.{Lists, newest_of, is_among, without, numbers_of, with_numbers}
-use Rattle.mvo_hash.specs.Links.{no_number, unheld, link, first_or_none, some_unless_none, IsChain, IsApart, IsIndexOf, IsIndex, IsUnlinked, numbers, lists_of}
+use Rattle.mvo_hash.specs.Table.{KeyNumbers}
+use Rattle.mvo_hash.specs.Lists.{Lists, newest_of, is_among, without_number, numbers_of, with_numbers}
+use Rattle.mvo_hash.specs.Links.{no_number, unheld, link, first_or_none, some_unless_none, IsChain, AreDistinctNumbers, IsIndexOf, IsIndex, IsUnlinked, numbers, lists_of}
 use Rattle.mvo_hash.proofs.Finds.{same_key, other_key, cases_key}
 use Rattle.mvo_hash.proofs.Chains.{eqb_same, among_within, newest_is, older_back, newer_back}
 use Rattle.mvo_hash.proofs.Joins.{held_within}
 use Rattle.mvo_hash.proofs.Views.{put_at, put_same, put_other, numbers_shown, to_index, lists_put}
 
-pub without_here : (n m : ℕ) (ns : List ℕ) → eqb n m ≡ true → without n (m ∷ ns) ≡ without n ns
-without_here n m ns e = ap (λ b. cond (not b) (m ∷ without n ns) (without n ns)) e
+pub without_here : (n m : ℕ) (ns : List ℕ) → eqb n m ≡ true → without_number n (m ∷ ns) ≡ without_number n ns
+without_here n m ns e = ap (λ b. cond (not b) (m ∷ without_number n ns) (without_number n ns)) e
 
-pub without_there : (n m : ℕ) (ns : List ℕ) → eqb n m ≡ false → without n (m ∷ ns) ≡ m ∷ without n ns
-without_there n m ns e = ap (λ b. cond (not b) (m ∷ without n ns) (without n ns)) e
+pub without_there : (n m : ℕ) (ns : List ℕ) → eqb n m ≡ false → without_number n (m ∷ ns) ≡ m ∷ without_number n ns
+without_there n m ns e = ap (λ b. cond (not b) (m ∷ without_number n ns) (without_number n ns)) e
 
 -- to take out what isn't there changes nothing
-pub without_absent : (n : ℕ) (ns : List ℕ) → is_among n ns ≡ false → without n ns ≡ ns
+pub without_absent : (n : ℕ) (ns : List ℕ) → is_among n ns ≡ false → without_number n ns ≡ ns
 without_absent n [] a = refl
 without_absent n (m ∷ ns) a = let h = or_parts (eqb n m) (is_among n ns) a in without_there n m ns h.0 ∙ ap (λ ms. m ∷ ms) (without_absent n ns h.1)
 
-pub among_before : (n m : ℕ) (ns : List ℕ) → is_among m (without n ns) ≡ true → is_among m ns ≡ true
+pub among_before : (n m : ℕ) (ns : List ℕ) → is_among m (without_number n ns) ≡ true → is_among m ns ≡ true
 among_before n m [] a = absurd (false≢true a)
 among_before n m (k ∷ ns) a =
     elim (cases_Bool (eqb n k)) [
       | inl e ↦ or_right (eqb m k) (is_among m ns) (among_before n m ns (ap (is_among m) (sym (without_here n k ns e)) ∙ a))
-      | inr f ↦ elim (or_cases (eqb m k) (is_among m (without n ns)) (ap (is_among m) (sym (without_there n k ns f)) ∙ a)) [
+      | inr f ↦ elim (or_cases (eqb m k) (is_among m (without_number n ns)) (ap (is_among m) (sym (without_there n k ns f)) ∙ a)) [
         | inl is ↦ or_left (eqb m k) (is_among m ns) is
         | inr b ↦ or_right (eqb m k) (is_among m ns) (among_before n m ns b)
       ]
     ]
 
-pub among_after : (n m : ℕ) (ns : List ℕ) → m ≢ n → is_among m ns ≡ true → is_among m (without n ns) ≡ true
+pub among_after : (n m : ℕ) (ns : List ℕ) → m ≢ n → is_among m ns ≡ true → is_among m (without_number n ns) ≡ true
 among_after n m [] other a = absurd (false≢true a)
 among_after n m (k ∷ ns) other a =
     elim (cases_Bool (eqb n k)) [
@@ -47,25 +47,25 @@ among_after n m (k ∷ ns) other a =
         | inr b ↦ among_after n m ns other b
       ]
       | inr f ↦ ap (is_among m) (without_there n k ns f) ∙ elim (or_cases (eqb m k) (is_among m ns) a) [
-        | inl is ↦ or_left (eqb m k) (is_among m (without n ns)) is
-        | inr b ↦ or_right (eqb m k) (is_among m (without n ns)) (among_after n m ns other b)
+        | inl is ↦ or_left (eqb m k) (is_among m (without_number n ns)) is
+        | inr b ↦ or_right (eqb m k) (is_among m (without_number n ns)) (among_after n m ns other b)
       ]
     ]
 
-pub among_self : (n : ℕ) (ns : List ℕ) → is_among n (without n ns) ≡ false
+pub among_self : (n : ℕ) (ns : List ℕ) → is_among n (without_number n ns) ≡ false
 among_self n [] = refl
 among_self n (m ∷ ns) =
     elim (cases_Bool (eqb n m)) [
       | inl e ↦ ap (is_among n) (without_here n m ns e) ∙ among_self n ns
-      | inr f ↦ ap (is_among n) (without_there n m ns f) ∙ ap (λ b. b || is_among n (without n ns)) f ∙ among_self n ns
+      | inr f ↦ ap (is_among n) (without_there n m ns f) ∙ ap (λ b. b || is_among n (without_number n ns)) f ∙ among_self n ns
     ]
 
-pub apart_without : (n : ℕ) (ns : List ℕ) → IsApart ns → IsApart (without n ns)
+pub apart_without : (n : ℕ) (ns : List ℕ) → AreDistinctNumbers ns → AreDistinctNumbers (without_number n ns)
 apart_without n [] a = tt
 apart_without n (m ∷ ns) a =
     elim (cases_Bool (eqb n m)) [
-      | inl e ↦ subst IsApart (sym (without_here n m ns e)) (apart_without n ns a.1)
-      | inr f ↦ subst IsApart (sym (without_there n m ns f))
+      | inl e ↦ subst AreDistinctNumbers (sym (without_here n m ns e)) (apart_without n ns a.1)
+      | inr f ↦ subst AreDistinctNumbers (sym (without_there n m ns f))
           (false_from_ne_true _ (λ h. false≢true (sym a.0 ∙ among_before n m ns h)), apart_without n ns a.1)
     ]
 
@@ -100,7 +100,7 @@ module _ (old new : List Link) (number : ℕ) (small : length old ≤ unheld) (w
   real e = omega (arith, e, within, small)
 
   -- the first number, once the number is skipped
-  first_without : (newer : ℕ) (ns : List ℕ) → IsApart ns → IsChain old newer ns → skip number behind (first_or_none ns) ≡ first_or_none (without number ns)
+  first_without : (newer : ℕ) (ns : List ℕ) → AreDistinctNumbers ns → IsChain old newer ns → skip number behind (first_or_none ns) ≡ first_or_none (without_number number ns)
   first_without newer [] a c = skip_other number behind no_number (λ e. real (sym e))
   first_without newer (m ∷ ns) a c =
       elim (cases_eq m number) [
@@ -118,17 +118,17 @@ module _ (old new : List Link) (number : ℕ) (small : length old ≤ unheld) (w
     pub older : (n : ℕ) → is_among n ns ≡ true → n ≢ number → (link new n).older ≡ skip number behind (link old n).older
     pub newer : (n : ℕ) → is_among n ns ≡ true → n ≢ number → (link new n).newer ≡ skip number ahead (link old n).newer
 
-  pub chain_without : (newer : ℕ) (ns : List ℕ) → Skips ns → IsApart ns → IsChain old newer ns → IsChain new (skip number ahead newer) (without number ns)
+  pub chain_without : (newer : ℕ) (ns : List ℕ) → Skips ns → AreDistinctNumbers ns → IsChain old newer ns → IsChain new (skip number ahead newer) (without_number number ns)
   chain_without newer [] s a c = tt
   chain_without newer (m ∷ ns) s a c =
-      let rest : IsChain new (skip number ahead m) (without number ns) = chain_without m ns (record {
+      let rest : IsChain new (skip number ahead m) (without_number number ns) = chain_without m ns (record {
         older = λ n h. s.older n (or_right (eqb n m) (is_among n ns) h);
         newer = λ n h. s.newer n (or_right (eqb n m) (is_among n ns) h);
       }) a.1 c.3 in
       elim (cases_eq m number) [
         | inl e ↦
             subst (IsChain new (skip number ahead newer)) (sym (without_here number m ns (eq-eqb number m (sym e))))
-            (subst (λ k. IsChain new k (without number ns))
+            (subst (λ k. IsChain new k (without_number number ns))
             (skip_same number ahead m e ∙ sym (skip_next number ahead newer (sym c.1 ∙ ap (λ k. (link old k).newer) e))) rest)
         | inr o ↦
             let here : is_among m (m ∷ ns) ≡ true = or_left (eqb m m) (is_among m ns) (eqb_same m) in
@@ -137,7 +137,7 @@ module _ (old new : List Link) (number : ℕ) (small : length old ≤ unheld) (w
               omega (arith, inside, u.size),
               s.newer m here o ∙ ap (skip number ahead) c.1,
               s.older m here o ∙ ap (skip number behind) c.2 ∙ first_without m ns a.1 c.3,
-              subst (λ k. IsChain new k (without number ns)) (skip_other number ahead m o) rest,
+              subst (λ k. IsChain new k (without_number number ns)) (skip_other number ahead m o) rest,
             )
       ]
 
@@ -183,7 +183,7 @@ module _ (old new : List Link) (number : ℕ) (small : length old ≤ unheld) (w
         ]
 
   -- the newest number, once the number is taken out
-  pub newest_without : (ns : List ℕ) → IsApart ns → IsChain old no_number ns → is_among number ns ≡ true → newest_of (without number ns) ≡ cond (eqb ahead no_number) (some_unless_none behind) (newest_of ns)
+  pub newest_without : (ns : List ℕ) → AreDistinctNumbers ns → IsChain old no_number ns → is_among number ns ≡ true → newest_of (without_number number ns) ≡ cond (eqb ahead no_number) (some_unless_none behind) (newest_of ns)
   newest_without [] a c h = absurd (false≢true h)
   newest_without (m ∷ ns) a c h =
       elim (cases_eq number m) [
@@ -205,16 +205,16 @@ module _ (old new : List Link) (number : ℕ) (small : length old ≤ unheld) (w
             ∙ sym (cond-false (eqb ahead no_number) (some_unless_none behind) (Some m) (ne_eqb ahead no_number led))
       ]
 
-module _ (heads heads' : Map) (old new : List Link) (at : RowKey → List ℕ) (t : IsIndexOf heads old at) (key : RowKey) (number : ℕ) (u : IsUnlinked old new number) (a : is_among number (at key) ≡ true) (headed : (k : RowKey) → get heads' k ≡ cond (eq_by_cmp key_cmp k key && eqb (link old number).newer no_number) (some_unless_none (link old number).older) (get heads k)) where
+module _ (heads heads' : KeyNumbers) (old new : List Link) (at : RowKey → List ℕ) (t : IsIndexOf heads old at) (key : RowKey) (number : ℕ) (u : IsUnlinked old new number) (a : is_among number (at key) ≡ true) (headed : (k : RowKey) → get heads' k ≡ cond (eq_by_cmp key_cmp k key && eqb (link old number).newer no_number) (some_unless_none (link old number).older) (get heads k)) where
   abbrev at' : RowKey → List ℕ
-  at' = put_at at key (without number (at key))
+  at' = put_at at key (without_number number (at key))
 
   within : number < length old
   within = among_within old no_number (at key) number (t.chained key) a
 
-  all_skip : (k : RowKey) → IsChain new no_number (without number (at k))
+  all_skip : (k : RowKey) → IsChain new no_number (without_number number (at k))
   all_skip k =
-      subst (λ n. IsChain new n (without number (at k)))
+      subst (λ n. IsChain new n (without_number number (at k)))
       (skip_other number (link old number).newer no_number (λ e. let w = within in let s = t.numbered in omega (arith, e, w, s)))
       (chain_without old new number t.numbered within u no_number (at k) (skips old new number t.numbered within u (at key) (t.chained key) a (at k) (t.chained k)) (t.apart k) (t.chained k))
 
@@ -222,11 +222,11 @@ module _ (heads heads' : Map) (old new : List Link) (at : RowKey → List ℕ) (
   absent k o = false_from_ne_true _ (λ h. o (t.only k key number h a))
 
   -- what each key has is what it had without the number
-  pub put_is : (k : RowKey) → at' k ≡ without number (at k)
+  pub put_is : (k : RowKey) → at' k ≡ without_number number (at k)
   put_is k =
       elim (cases_key k key) [
-        | inl e ↦ put_same at key (without number (at key)) k e ∙ ap (λ q. without number (at q)) (sym e)
-        | inr o ↦ put_other at key (without number (at key)) k o ∙ sym (without_absent number (at k) (absent k o))
+        | inl e ↦ put_same at key (without_number number (at key)) k e ∙ ap (λ q. without_number number (at q)) (sym e)
+        | inr o ↦ put_other at key (without_number number (at key)) k o ∙ sym (without_absent number (at k) (absent k o))
       ]
 
   pub unlinked_index : IsIndexOf heads' new at'
@@ -237,13 +237,13 @@ module _ (heads heads' : Map) (old new : List Link) (at : RowKey → List ℕ) (
           ap (λ b. cond (b && eqb (link old number).newer no_number) (some_unless_none (link old number).older) (get heads k)) (same_key k key e)
           ∙ ap (cond (eqb (link old number).newer no_number) (some_unless_none (link old number).older)) (t.starts k ∙ ap (λ q. newest_of (at q)) e)
           ∙ sym (newest_without old new number t.numbered within u (at key) (t.apart key) (t.chained key) a)
-          ∙ ap newest_of (sym (put_same at key (without number (at key)) k e))
+          ∙ ap newest_of (sym (put_same at key (without_number number (at key)) k e))
       | inr o ↦
           ap (λ b. cond (b && eqb (link old number).newer no_number) (some_unless_none (link old number).older) (get heads k)) (other_key k key o)
-          ∙ t.starts k ∙ ap newest_of (sym (put_other at key (without number (at key)) k o))
+          ∙ t.starts k ∙ ap newest_of (sym (put_other at key (without_number number (at key)) k o))
     ];
     chained = λ k. subst (IsChain new no_number) (sym (put_is k)) (all_skip k);
-    apart = λ k. subst IsApart (sym (put_is k)) (apart_without number (at k) (t.apart k));
+    apart = λ k. subst AreDistinctNumbers (sym (put_is k)) (apart_without number (at k) (t.apart k));
     only = λ j k n x y.
         t.only j k n (among_before number n (at j) (ap (is_among n) (sym (put_is j)) ∙ x)) (among_before number n (at k) (ap (is_among n) (sym (put_is k)) ∙ y));
     held = λ n h. elim (cases_eq n number) [
@@ -259,7 +259,7 @@ both true b t = t
 both false b t = refl
 
 -- what the heads have, once the newest number of a key may have gone
-pub beheaded : (heads heads' : Map) (key : RowKey) (newer older : ℕ) → heads' ≡ cond (eqb newer no_number) (cond (eqb older no_number) (remove heads key) (insert heads key older)) heads → (k : RowKey) → get heads' k ≡ cond (eq_by_cmp key_cmp k key && eqb newer no_number) (some_unless_none older) (get heads k)
+pub beheaded : (heads heads' : KeyNumbers) (key : RowKey) (newer older : ℕ) → heads' ≡ cond (eqb newer no_number) (cond (eqb older no_number) (remove heads key) (insert heads key older)) heads → (k : RowKey) → get heads' k ≡ cond (eq_by_cmp key_cmp k key && eqb newer no_number) (some_unless_none older) (get heads k)
 beheaded heads heads' key newer older is k =
     ap (λ m. get m k) is ∙ elim (cases_Bool (eqb newer no_number)) [
       | inr f ↦
@@ -282,7 +282,7 @@ some_newest : (n : ℕ) (ns : List ℕ) → is_among n ns ≡ true → is_some (
 some_newest n [] a = absurd (false≢true a)
 some_newest n (m ∷ ns) a = refl
 
-module _ (heads heads' : Map) (ls new : List Link) (lists : Lists) (key : RowKey) (number : ℕ) (t : IsIndex heads ls) (view : lists_of heads ls ≡ lists) (a : is_among number (numbers_of lists key) ≡ true) where
+module _ (heads heads' : KeyNumbers) (ls new : List Link) (lists : Lists) (key : RowKey) (number : ℕ) (t : IsIndex heads ls) (view : lists_of heads ls ≡ lists) (a : is_among number (numbers_of lists key) ≡ true) where
   among : is_among number (numbers heads ls key) ≡ true
   among = ap (is_among number) (sym (numbers_shown heads ls (numbers heads ls) t key)) ∙ ap (λ m. is_among number (numbers_of m key)) view ∙ a
 
@@ -299,17 +299,17 @@ module _ (heads heads' : Map) (ls new : List Link) (lists : Lists) (key : RowKey
   some_head = ap is_some (t.starts key) ∙ some_newest number (numbers heads ls key) among
 
   module _ (u : IsUnlinked ls new number) (gone : Link) (read : gone ≡ link ls number) (is : heads' ≡ cond (eqb gone.newer no_number) (cond (eqb gone.older no_number) (remove heads key) (insert heads key gone.older)) heads) where
-    unlinked : IsIndexOf heads' new (put_at (numbers heads ls) key (without number (numbers heads ls key)))
+    unlinked : IsIndexOf heads' new (put_at (numbers heads ls) key (without_number number (numbers heads ls key)))
     unlinked =
         unlinked_index heads heads' ls new (numbers heads ls) t key number u among
         (beheaded heads heads' key (link ls number).newer (link ls number).older
         (is ∙ ap (λ (l : Link). cond (eqb l.newer no_number) (cond (eqb l.older no_number) (remove heads key) (insert heads key l.older)) heads) read))
 
     pub removed_index : IsIndex heads' new
-    removed_index = to_index heads' new (put_at (numbers heads ls) key (without number (numbers heads ls key))) unlinked
+    removed_index = to_index heads' new (put_at (numbers heads ls) key (without_number number (numbers heads ls key))) unlinked
 
-    pub removed_lists : lists_of heads' new ≡ with_numbers lists key (without number (numbers_of lists key))
+    pub removed_lists : lists_of heads' new ≡ with_numbers lists key (without_number number (numbers_of lists key))
     removed_lists =
-        lists_put heads heads' ls new (numbers heads ls) key (without number (numbers heads ls key)) t unlinked
-        ∙ ap (λ m. with_numbers m key (without number (numbers heads ls key))) view
-        ∙ ap (λ ns. with_numbers lists key (without number ns)) (sym (numbers_shown heads ls (numbers heads ls) t key) ∙ ap (λ m. numbers_of m key) view)
+        lists_put heads heads' ls new (numbers heads ls) key (without_number number (numbers heads ls key)) t unlinked
+        ∙ ap (λ m. with_numbers m key (without_number number (numbers heads ls key))) view
+        ∙ ap (λ ns. with_numbers lists key (without_number number ns)) (sym (numbers_shown heads ls (numbers heads ls) t key) ∙ ap (λ m. numbers_of m key) view)

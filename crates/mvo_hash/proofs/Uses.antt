@@ -11,17 +11,17 @@ use Rattle.mvo_hash.specs.declared.slot.Slot.{Slot}
 use Rattle.mvo_hash.specs.declared.slot.State.TheVariants.{Empty, Live}
 use Rattle.mvo_hash.specs.Home.{home_of}
 use Rattle.mvo_hash.specs.Slots.{slot, empty_slot, left_slot, live_slot, used_count, live_count, IsLive, IsFreeFrom, IsFoundAt}
-use Rattle.mvo_hash.specs.Table.{map_of, table_of, no_keys, IsTable, IsHeads}
+use Rattle.mvo_hash.specs.Table.{map_of, table_of, no_keys, IsHashTable, IsHeads}
 use Rattle.mvo_hash.proofs.Counts.{share, live_used, used_kept, used_more, live_kept, live_more, live_less}
 use Rattle.mvo_hash.proofs.Finds.{entries_of-replicate}
 use Rattle.mvo_hash.proofs.Tables.{table_set, table_take, table_place}
 
 -- a write of one slot leaves as many homes
-as_long : (first second : ℕ) (ss : List Slot) (i : ℕ) (s : Slot) → IsTable first second (length ss) (set ss i s) → IsTable first second (length (set ss i s)) (set ss i s)
-as_long first second ss i s t = subst (λ n. IsTable first second n (set ss i s)) (sym (length-set ss i s)) t
+as_long : (first second : ℕ) (ss : List Slot) (i : ℕ) (s : Slot) → IsHashTable first second (length ss) (set ss i s) → IsHashTable first second (length (set ss i s)) (set ss i s)
+as_long first second ss i s t = subst (λ n. IsHashTable first second n (set ss i s)) (sym (length-set ss i s)) t
 
 module _ (first second most used keys : ℕ) (ss : List Slot) (h : IsHeads first second most used keys ss) (key : RowKey) (number : ℕ) (i : ℕ) (none : get (map_of ss) key ≡ None) (from : ℕ) (at_home : from ≡ home_of first second (length ss) key) (free : IsFreeFrom ss from i) where
-  placed : IsTable first second (length (set ss i (live_slot key number))) (set ss i (live_slot key number))
+  placed : IsHashTable first second (length (set ss i (live_slot key number))) (set ss i (live_slot key number))
   placed = as_long first second ss i (live_slot key number) (table_place first second (length ss) ss h.table key number i none from at_home free)
 
   -- in a slot that was never used

@@ -10,8 +10,8 @@ use Rattle.mvo_types.specs.declared.row.RowKey.{RowKey}
 use Rattle.mvo_types.specs.Keys.{key_cmp}
 use Rattle.mvo_types.proofs.Maps.{keys_total, exact_keys}
 use Rattle.mvo_hash.specs.declared.link.Link.{Link}
-use Rattle.mvo_hash.specs.Table.{Map, Table}
-use Rattle.mvo_hash.specs.Lists.{Lists, no_versions, newest_of, older_of, newer_of, is_among, numbers_of, or_empty, with_numbers, IsHeld, IsFresh, IsPastAll}
+use Rattle.mvo_hash.specs.Table.{KeyNumbers, Table}
+use Rattle.mvo_hash.specs.Lists.{Lists, no_versions, newest_of, older_of, newer_of, is_among, numbers_of, or_empty, with_numbers, IsHeld, IsNewNumber, IsPastAll}
 use Rattle.mvo_hash.specs.Links.{unheld, no_link, link, number_or_none, walk, numbers, listed, lists_of, index_of, first_or_none, some_unless_none, IsIndexOf, IsIndex, IsGrown}
 use Rattle.mvo_hash.proofs.Finds.{same_key, other_key}
 use Rattle.mvo_hash.proofs.Chains.{walk_chain, chain_short, chain_kept, among_held, among_within, older_is, newer_is}
@@ -39,12 +39,12 @@ find-listed ls (e ∷ es) q =
     ]
 
 -- what stands at a key
-get-lists_of : (heads : Map) (ls : List Link) (q : RowKey) → get (lists_of heads ls) q ≡ option_map (walk ls (length ls)) (get heads q)
+get-lists_of : (heads : KeyNumbers) (ls : List Link) (q : RowKey) → get (lists_of heads ls) q ≡ option_map (walk ls (length ls)) (get heads q)
 get-lists_of heads ls q =
     get-from_entries keys_total (map (listed ls) (entries heads)) q
     ∙ find-listed ls (entries heads) q ∙ ap (option_map (walk ls (length ls))) (sym (get-entries heads q))
 
-module _ (heads : Map) (ls : List Link) (at : RowKey → List ℕ) (t : IsIndexOf heads ls at) where
+module _ (heads : KeyNumbers) (ls : List Link) (at : RowKey → List ℕ) (t : IsIndexOf heads ls at) where
   -- a key's numbers are the walk from its head
   pub numbers_are : (key : RowKey) → numbers heads ls key ≡ at key
   numbers_are key =
@@ -70,25 +70,25 @@ module _ (heads : Map) (ls : List Link) (at : RowKey → List ℕ) (t : IsIndexO
   pub shown_held : (n : ℕ) → (link ls n).newer ≢ unheld → IsHeld (lists_of heads ls) n
   shown_held n h = let held = t.held n h in (held.0, ap (is_among n) (numbers_shown held.0) ∙ held.1)
 
-  pub shown_fresh : (n : ℕ) → (link ls n).newer ≡ unheld → IsFresh (lists_of heads ls) n
+  pub shown_fresh : (n : ℕ) → (link ls n).newer ≡ unheld → IsNewNumber (lists_of heads ls) n
   shown_fresh n h = record {
     at = λ key. ap (is_among n) (numbers_shown key)
         ∙ false_from_ne_true _ (λ a. among_held ls 0xFFFF_FFFF (at key) n (λ e. omega (arith, e)) t.numbered (t.chained key) a h);
   }
 
-pub shown_newest : (heads : Map) (ls : List Link) → IsIndex heads ls → (key : RowKey) → get heads key ≡ newest_of (numbers_of (lists_of heads ls) key)
+pub shown_newest : (heads : KeyNumbers) (ls : List Link) → IsIndex heads ls → (key : RowKey) → get heads key ≡ newest_of (numbers_of (lists_of heads ls) key)
 shown_newest heads ls t key = t.starts key ∙ ap newest_of (sym (numbers_shown heads ls (numbers heads ls) t key))
 
-pub shown_within : (heads : Map) (ls : List Link) → IsIndex heads ls → (key : RowKey) (n : ℕ) → is_among n (numbers_of (lists_of heads ls) key) ≡ true → n < length ls
+pub shown_within : (heads : KeyNumbers) (ls : List Link) → IsIndex heads ls → (key : RowKey) (n : ℕ) → is_among n (numbers_of (lists_of heads ls) key) ≡ true → n < length ls
 shown_within heads ls t key n a =
     among_within ls 0xFFFF_FFFF (numbers heads ls key) n (t.chained key) (ap (is_among n) (sym (numbers_shown heads ls (numbers heads ls) t key)) ∙ a)
 
-pub shown_older : (heads : Map) (ls : List Link) → IsIndex heads ls → (key : RowKey) (n : ℕ) → is_among n (numbers_of (lists_of heads ls) key) ≡ true → older_of n (numbers_of (lists_of heads ls) key) ≡ some_unless_none (link ls n).older
+pub shown_older : (heads : KeyNumbers) (ls : List Link) → IsIndex heads ls → (key : RowKey) (n : ℕ) → is_among n (numbers_of (lists_of heads ls) key) ≡ true → older_of n (numbers_of (lists_of heads ls) key) ≡ some_unless_none (link ls n).older
 shown_older heads ls t key n a =
     let e = numbers_shown heads ls (numbers heads ls) t key in
     ap (older_of n) e ∙ older_is ls 0xFFFF_FFFF (numbers heads ls key) n t.numbered (t.chained key) (ap (is_among n) (sym e) ∙ a)
 
-pub shown_newer : (heads : Map) (ls : List Link) → IsIndex heads ls → (key : RowKey) (n : ℕ) → is_among n (numbers_of (lists_of heads ls) key) ≡ true → newer_of n (numbers_of (lists_of heads ls) key) ≡ some_unless_none (link ls n).newer
+pub shown_newer : (heads : KeyNumbers) (ls : List Link) → IsIndex heads ls → (key : RowKey) (n : ℕ) → is_among n (numbers_of (lists_of heads ls) key) ≡ true → newer_of n (numbers_of (lists_of heads ls) key) ≡ some_unless_none (link ls n).newer
 shown_newer heads ls t key n a =
     let e = numbers_shown heads ls (numbers heads ls) t key in
     ap (newer_of n) e ∙ newer_is ls 0xFFFF_FFFF (numbers heads ls key) n t.numbered (t.chained key) (ap (is_among n) (sym e) ∙ a)
@@ -98,7 +98,7 @@ pub link_read : (ls : List Link) (i n : ℕ) (l : Link) → i ≡ n → n < leng
 link_read ls i n l is within e = get_or_read ls i l (omega (arith, is, within)) e no_link ∙ ap (link ls) is
 
 -- what was read of a number's link says what stands behind it
-pub read_older : (heads : Map) (ls : List Link) (lists : Lists) → IsIndex heads ls → lists_of heads ls ≡ lists → (key : RowKey) (n i : ℕ) (l : Link) → i ≡ n → l ≡ get_or ls i l → is_among n (numbers_of lists key) ≡ true → older_of n (numbers_of lists key) ≡ some_unless_none l.older
+pub read_older : (heads : KeyNumbers) (ls : List Link) (lists : Lists) → IsIndex heads ls → lists_of heads ls ≡ lists → (key : RowKey) (n i : ℕ) (l : Link) → i ≡ n → l ≡ get_or ls i l → is_among n (numbers_of lists key) ≡ true → older_of n (numbers_of lists key) ≡ some_unless_none l.older
 read_older heads ls lists t view key n i l is e a =
     let held : is_among n (numbers_of (lists_of heads ls) key) ≡ true = ap (λ m. is_among n (numbers_of m key)) view ∙ a in
     let read : l ≡ link ls n = link_read ls i n l is (shown_within heads ls t key n held) e in
@@ -106,14 +106,14 @@ read_older heads ls lists t view key n i l is e a =
     ∙ ap (λ (k : Link). some_unless_none k.older) (sym read)
 
 -- and what stands in front of it
-pub read_newer : (heads : Map) (ls : List Link) (lists : Lists) → IsIndex heads ls → lists_of heads ls ≡ lists → (key : RowKey) (n i : ℕ) (l : Link) → i ≡ n → l ≡ get_or ls i l → is_among n (numbers_of lists key) ≡ true → newer_of n (numbers_of lists key) ≡ some_unless_none l.newer
+pub read_newer : (heads : KeyNumbers) (ls : List Link) (lists : Lists) → IsIndex heads ls → lists_of heads ls ≡ lists → (key : RowKey) (n i : ℕ) (l : Link) → i ≡ n → l ≡ get_or ls i l → is_among n (numbers_of lists key) ≡ true → newer_of n (numbers_of lists key) ≡ some_unless_none l.newer
 read_newer heads ls lists t view key n i l is e a =
     let held : is_among n (numbers_of (lists_of heads ls) key) ≡ true = ap (λ m. is_among n (numbers_of m key)) view ∙ a in
     let read : l ≡ link ls n = link_read ls i n l is (shown_within heads ls t key n held) e in
     ap (λ m. newer_of n (numbers_of m key)) (sym view) ∙ shown_newer heads ls t key n held
     ∙ ap (λ (k : Link). some_unless_none k.newer) (sym read)
 
-pub walk_starts : (heads : Map) (ls : List Link) → IsIndex heads ls → (key : RowKey) → number_or_none (get heads key) ≡ first_or_none (numbers heads ls key)
+pub walk_starts : (heads : KeyNumbers) (ls : List Link) → IsIndex heads ls → (key : RowKey) → number_or_none (get heads key) ≡ first_or_none (numbers heads ls key)
 walk_starts heads ls t key = ap number_or_none (t.starts key)
 
 get-with_numbers : (lists : Lists) (key : RowKey) (ns : List ℕ) (q : RowKey) → get (with_numbers lists key ns) q ≡ cond (eq_by_cmp key_cmp q key) (none_if_empty ns) (get lists q)
@@ -132,7 +132,7 @@ numbers_put lists key ns q =
     or_empty-cond false o p = refl
 
 -- two that hold the same numbers look the same
-pub same_lists : (heads heads' : Map) (ls ls' : List Link) (at at' : RowKey → List ℕ) → IsIndexOf heads ls at → IsIndexOf heads' ls' at' → ((q : RowKey) → at' q ≡ at q) → lists_of heads' ls' ≡ lists_of heads ls
+pub same_lists : (heads heads' : KeyNumbers) (ls ls' : List Link) (at at' : RowKey → List ℕ) → IsIndexOf heads ls at → IsIndexOf heads' ls' at' → ((q : RowKey) → at' q ≡ at q) → lists_of heads' ls' ≡ lists_of heads ls
 same_lists heads heads' ls ls' at at' t t' same =
     same_map keys_total exact_keys _ _ (λ q. get_lists heads' ls' at' t' q ∙ ap none_if_empty (same q) ∙ sym (get_lists heads ls at t q))
 
@@ -154,7 +154,7 @@ cond-none_if_empty : (b : Bool) (ns ms : List ℕ) → none_if_empty (cond b ns 
 cond-none_if_empty true ns ms = refl
 cond-none_if_empty false ns ms = refl
 
-pub lists_put : (heads heads' : Map) (ls ls' : List Link) (at : RowKey → List ℕ) (key : RowKey) (ns : List ℕ) → IsIndexOf heads ls at → IsIndexOf heads' ls' (put_at at key ns) → lists_of heads' ls' ≡ with_numbers (lists_of heads ls) key ns
+pub lists_put : (heads heads' : KeyNumbers) (ls ls' : List Link) (at : RowKey → List ℕ) (key : RowKey) (ns : List ℕ) → IsIndexOf heads ls at → IsIndexOf heads' ls' (put_at at key ns) → lists_of heads' ls' ≡ with_numbers (lists_of heads ls) key ns
 lists_put heads heads' ls ls' at key ns t t' =
     same_map keys_total exact_keys _ _ (λ q.
     get_lists heads' ls' (put_at at key ns) t' q
@@ -164,7 +164,7 @@ lists_put heads heads' ls ls' at key ns t t' =
     ∙ sym (get-with_numbers (lists_of heads ls) key ns q))
 
 -- more links change nothing
-pub grown_index : (heads : Map) (old new : List Link) (at : RowKey → List ℕ) → IsGrown old new → IsIndexOf heads old at → IsIndexOf heads new at
+pub grown_index : (heads : KeyNumbers) (old new : List Link) (at : RowKey → List ℕ) → IsGrown old new → IsIndexOf heads old at → IsIndexOf heads new at
 grown_index heads old new at g t = record {
   numbered = g.numbered;
   starts = t.starts;
@@ -174,10 +174,10 @@ grown_index heads old new at g t = record {
   held = λ n h. t.held n (λ e. h (ap (λ (l : Link). l.newer) (g.same n) ∙ e));
 }
 
-pub grown_is : (heads : Map) (old new : List Link) → IsGrown old new → IsIndex heads old → IsIndex heads new
+pub grown_is : (heads : KeyNumbers) (old new : List Link) → IsGrown old new → IsIndex heads old → IsIndex heads new
 grown_is heads old new g t = to_index heads new (numbers heads old) (grown_index heads old new (numbers heads old) g t)
 
-grown_lists : (heads : Map) (old new : List Link) → IsGrown old new → IsIndex heads old → lists_of heads new ≡ lists_of heads old
+grown_lists : (heads : KeyNumbers) (old new : List Link) → IsGrown old new → IsIndex heads old → lists_of heads new ≡ lists_of heads old
 grown_lists heads old new g t =
     same_lists heads heads old new (numbers heads old) (numbers heads old) t (grown_index heads old new (numbers heads old) g t) (λ _. refl)
 
@@ -185,7 +185,7 @@ pub grown_same : (heads : Table) (old new : List Link) → IsGrown old new → I
 grown_same heads old new g t = let e = grown_lists heads.numbers old new g t in cc
 
 -- no key has a number that the links don't reach to
-pub past_all : (heads : Map) (ls : List Link) → IsIndex heads ls → (n : ℕ) → length ls ≤ n → IsPastAll (lists_of heads ls) n
+pub past_all : (heads : KeyNumbers) (ls : List Link) → IsIndex heads ls → (n : ℕ) → length ls ≤ n → IsPastAll (lists_of heads ls) n
 past_all heads ls t n past m above =
     shown_fresh heads ls (numbers heads ls) t m (ap (λ (l : Link). l.newer) (get_or_past ls m no_link (omega (arith, past, above))))
 
@@ -209,4 +209,4 @@ unfolding none_if_empty
 empty_lists = same_map keys_total exact_keys _ _ (λ q. get_lists (empty {R = key_cmp}) [] (λ _. []) empty_index q ∙ sym (get-empty key_cmp q))
 
 pub new_index : (heads : Table) → heads.numbers ≡ empty → heads.room ≡ 0 → index_of heads [] ≡ no_versions
-new_index heads none no_room = let e = ap (λ (m : Map). lists_of m []) none ∙ empty_lists in cc
+new_index heads none no_room = let e = ap (λ (m : KeyNumbers). lists_of m []) none ∙ empty_lists in cc

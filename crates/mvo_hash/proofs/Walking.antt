@@ -9,7 +9,7 @@ use Rattle.mvo_hash.specs.Links.{no_number, unheld, link, first_or_none, some_un
 use Rattle.std.specs.Iterator.{MakesProgress, YieldsFirst, item_count}
 use Rattle.std.specs.FinMap.{get}
 use Rattle.mvo_types.specs.declared.row.RowKey.{RowKey}
-use Rattle.mvo_hash.specs.Table.{Map}
+use Rattle.mvo_hash.specs.Table.{KeyNumbers}
 use Rattle.mvo_hash.specs.Links.{number_or_none, numbers, IsIndex}
 use Rattle.mvo_hash.proofs.Chains.{walk_chain, chain_short}
 use Rattle.mvo_hash.proofs.Views.{walk_starts}
@@ -50,7 +50,7 @@ pub walk_done : (ls : List Link) (at : ℕ) → IsWalk ls at → at ≡ no_numbe
 walk_done ls at w e = done ls w.newer (walk ls (length ls) at) w.numbered (sym w.starts ∙ e) w.chained
 
 -- a walk along a key's numbers
-pub index_walk : (heads : Map) (ls : List Link) → IsIndex heads ls → (key : RowKey) → IsWalk ls (number_or_none (get heads key))
+pub index_walk : (heads : KeyNumbers) (ls : List Link) → IsIndex heads ls → (key : RowKey) → IsWalk ls (number_or_none (get heads key))
 index_walk heads ls t key = record {
   newer = no_number;
   numbered = t.numbered;

@@ -3,7 +3,7 @@ use Rattle.std.specs.Prelude.{◌≡◌, ◌≢◌, ℕ, zero, suc, ◌<◌, ◌
 use Rattle.std.specs.FinMap as finite_map
 use Rattle.mvo_types.specs.declared.row.RowKey.{RowKey}
 use Rattle.mvo_hash.specs.declared.link.Link.{Link}
-use Rattle.mvo_hash.specs.Table.{Map, Table}
+use Rattle.mvo_hash.specs.Table.{KeyNumbers, Table}
 use Rattle.mvo_hash.specs.Lists.{Lists, Index, newest_of, is_among}
 
 -- what stands for no version
@@ -29,7 +29,7 @@ abbrev pub first_or_none : List ℕ → ℕ
 first_or_none ns = number_or_none (newest_of ns)
 
 -- the heads once a link goes, which may be that of the newest number of the key
-abbrev pub beheaded : Map → RowKey → Link → Map
+abbrev pub beheaded : KeyNumbers → RowKey → Link → KeyNumbers
 beheaded heads key gone =
     cond (eqb gone.newer no_number)
     (cond (eqb gone.older no_number) (finite_map.remove heads key)
@@ -46,13 +46,13 @@ to_come ls at false = walk ls (length ls) at
 to_come ls at true = drop 1 (walk ls (length ls) at)
 
 -- the numbers of a key
-abbrev pub numbers : Map → List Link → RowKey → List ℕ
+abbrev pub numbers : KeyNumbers → List Link → RowKey → List ℕ
 numbers heads ls key = walk ls (length ls) (number_or_none (finite_map.get heads key))
 
 abbrev pub listed : List Link → RowKey × ℕ → RowKey × List ℕ
 listed ls e = (e.0, walk ls (length ls) e.1)
 
-abbrev pub lists_of : Map → List Link → Lists
+abbrev pub lists_of : KeyNumbers → List Link → Lists
 lists_of heads ls = finite_map.from_entries (map (listed ls) (finite_map.entries heads))
 
 abbrev pub index_of : Table → List Link → Index
@@ -66,23 +66,23 @@ IsChain ls newer (n ∷ ns) =
     × IsChain ls n ns
 
 -- no number stands twice
-abbrev pub IsApart : List ℕ → Type 0
-IsApart [] = Unit {0}
-IsApart (n ∷ ns) = (is_among n ns ≡ false) × IsApart ns
+abbrev pub AreDistinctNumbers : List ℕ → Type 0
+AreDistinctNumbers [] = Unit {0}
+AreDistinctNumbers (n ∷ ns) = (is_among n ns ≡ false) × AreDistinctNumbers ns
 
 abbrev pub some_unless_none : ℕ → Option ℕ
 some_unless_none n = cond (eqb n no_number) None (Some n)
 
 -- the heads and the links hold these numbers
-pub record IsIndexOf (heads : Map) (ls : List Link) (at : RowKey → List ℕ) : Type 0 where
+pub record IsIndexOf (heads : KeyNumbers) (ls : List Link) (at : RowKey → List ℕ) : Type 0 where
   pub numbered : length ls ≤ unheld
   pub starts : (key : RowKey) → finite_map.get heads key ≡ newest_of (at key)
   pub chained : (key : RowKey) → IsChain ls no_number (at key)
-  pub apart : (key : RowKey) → IsApart (at key)
+  pub apart : (key : RowKey) → AreDistinctNumbers (at key)
   pub only : (j k : RowKey) (n : ℕ) → is_among n (at j) ≡ true → is_among n (at k) ≡ true → j ≡ k
   pub held : (n : ℕ) → (link ls n).newer ≢ unheld → (key : RowKey) × (is_among n (at key) ≡ true)
 
-abbrev pub IsIndex : Map → List Link → Type 0
+abbrev pub IsIndex : KeyNumbers → List Link → Type 0
 IsIndex heads ls = IsIndexOf heads ls (numbers heads ls)
 
 -- more links, of numbers that no key has

@@ -63,8 +63,8 @@ abbrev pub is_among : ℕ → List ℕ → Bool
 is_among n ns = list_any (eqb n) ns
 
 -- the numbers without this one, in their order
-abbrev pub without : ℕ → List ℕ → List ℕ
-without n ns = filter (λ m. not (eqb n m)) ns
+abbrev pub without_number : ℕ → List ℕ → List ℕ
+without_number n ns = filter (λ m. not (eqb n m)) ns
 
 -- the number that stands behind this one
 abbrev pub older_of : ℕ → List ℕ → Option ℕ
@@ -85,12 +85,12 @@ abbrev pub IsHeld : Lists → ℕ → Type 0
 IsHeld lists n = (key : RowKey) × IsTrue (is_among n (numbers_of lists key))
 
 -- no key has the number
-pub record IsFresh (lists : Lists) (n : ℕ) : Type 0 where
+pub record IsNewNumber (lists : Lists) (n : ℕ) : Type 0 where
   pub at : (key : RowKey) → is_among n (numbers_of lists key) ≡ false
 
 -- no key has the number, or one above it
 abbrev pub IsPastAll : Lists → ℕ → Type 0
-IsPastAll lists n = (m : ℕ) → n ≤ m → IsFresh lists m
+IsPastAll lists n = (m : ℕ) → n ≤ m → IsNewNumber lists m
 
 -- the answer is the number behind this one, with whichever key has it
 pub record IsOlder (lists : Lists) (n : ℕ) (answer : Option ℕ) : Type 0 where

@@ -4,7 +4,7 @@ use Rattle.std.specs.FinMap as map
 use Rattle.mvo_types.specs.declared.row.RowKey.{RowKey}
 use Rattle.mvo_hash.specs.declared.seeds.Seeds.{Seeds}
 use Rattle.mvo_hash.specs.Home.{hash_of, shard_of, shard_count}
-use Rattle.mvo_hash.specs.Table.{Map, Table, no_keys}
+use Rattle.mvo_hash.specs.Table.{KeyNumbers, Table, no_keys}
 
 abbrev pub no_table : Table
 no_table = no_keys (record { first = 0; second = 0 }) 0
@@ -18,7 +18,7 @@ abbrev pub all_entries : List Table → List (RowKey × ℕ)
 all_entries [] = []
 all_entries (t ∷ ts) = map.entries t.numbers ++ all_entries ts
 
-abbrev pub joined : List Table → Map
+abbrev pub joined : List Table → KeyNumbers
 joined ts = map.from_entries (all_entries ts)
 
 abbrev pub least_from : ℕ → List Table → ℕ
@@ -34,15 +34,15 @@ abbrev pub heads_of : Seeds → List Table → Table
 heads_of seeds ts = record { seeds = seeds; numbers = joined ts; room = least_room ts }
 
 -- the table that a key belongs to
-abbrev pub place_of : Seeds → RowKey → ℕ
-place_of seeds key = shard_of (hash_of seeds.first seeds.second key)
+abbrev pub shard_of_key : Seeds → RowKey → ℕ
+shard_of_key seeds key = shard_of (hash_of seeds.first seeds.second key)
 
 -- each key stands in its own table; before the first key there are no tables
 pub record IsSharded (seeds : Seeds) (ts : List Table) : Type 0 where
   pub counted : (length ts ≡ 0) ⊎ (length ts ≡ shard_count)
   pub seeded : (i : ℕ) → i < length ts → (table ts i).seeds ≡ seeds
   pub placed : (i : ℕ) (key : RowKey) → map.get (table ts i).numbers key ≢ None
-      → place_of seeds key ≡ i
+      → shard_of_key seeds key ≡ i
 
 -- the tables hold what they held, and each has so much room at least
 pub record AreMoved (old : List Table) (keys : ℕ) (new : List Table) : Type 0 where

@@ -56,12 +56,12 @@ held_by Left e = None
 held_by Live e = Some e
 
 -- the entry that a slot holds
-abbrev pub entry_of : Slot → Option (RowKey × ℕ)
-entry_of s = held_by s.state (slot_key s, s.number)
+abbrev pub slot_entry : Slot → Option (RowKey × ℕ)
+slot_entry s = held_by s.state (slot_key s, s.number)
 
 -- the keys with their numbers
-abbrev pub entries_of : List Slot → List (RowKey × ℕ)
-entries_of ss = filter_map entry_of ss
+abbrev pub slot_entries : List Slot → List (RowKey × ℕ)
+slot_entries ss = filter_map slot_entry ss
 
 -- no slot from one place up to another is empty
 pub record IsFilled (ss : List Slot) (from to : ℕ) : Type 0 where

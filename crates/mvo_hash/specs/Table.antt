@@ -7,17 +7,17 @@ use Rattle.mvo_types.specs.Keys.{key_cmp, coded_key}
 use Rattle.mvo_hash.specs.declared.slot.Slot.{Slot}
 use Rattle.mvo_hash.specs.declared.seeds.Seeds.{Seeds}
 use Rattle.mvo_hash.specs.Home.{hash_of, home_of}
-use Rattle.mvo_hash.specs.Slots.{slot, slot_key, IsLive, IsReached, entries_of, used_count, live_count}
+use Rattle.mvo_hash.specs.Slots.{slot, slot_key, IsLive, IsReached, slot_entries, used_count, live_count}
 
 -- a finite map from keys to numbers
-abbrev pub Map : Type 0
-Map = map.FinMap key_cmp ℕ
+abbrev pub KeyNumbers : Type 0
+KeyNumbers = map.FinMap key_cmp ℕ
 
-abbrev pub coded_map : Coded Map
-coded_map = map.code coded_key coded_ℕ
+abbrev pub coded_key_numbers : Coded KeyNumbers
+coded_key_numbers = map.code coded_key coded_ℕ
 
-abbrev pub map_of : List Slot → Map
-map_of ss = map.from_entries (entries_of ss)
+abbrev pub map_of : List Slot → KeyNumbers
+map_of ss = map.from_entries (slot_entries ss)
 
 abbrev pub coded_seeds : Coded Seeds
 coded_seeds =
@@ -28,12 +28,12 @@ coded_seeds =
 -- of keys depend on
 pub record Table : Type 0 where
   pub seeds : Seeds
-  pub numbers : Map
+  pub numbers : KeyNumbers
   pub room : ℕ
 
 abbrev pub coded_table : Coded Table
 coded_table =
-    code_by (Seeds × (Map × ℕ)) (coded× coded_seeds (coded× coded_map coded_ℕ))
+    code_by (Seeds × (KeyNumbers × ℕ)) (coded× coded_seeds (coded× coded_key_numbers coded_ℕ))
     (λ t. (t.seeds, (t.numbers, t.room)))
     (λ p. record { seeds = p.0; numbers = p.1.0; room = p.1.1 }) (λ _. refl)
 
@@ -51,7 +51,7 @@ table_of seeds most used ss =
     record { seeds = seeds; numbers = map_of ss; room = most - used }
 
 -- each key stands once, where a search from its home among so many finds it
-pub record IsTable (first second homes : ℕ) (ss : List Slot) : Type 0 where
+pub record IsHashTable (first second homes : ℕ) (ss : List Slot) : Type 0 where
   pub reached : (key : RowKey) → IsReached ss (home_of first second homes key) key
   pub apart : (i j : ℕ) → IsLive (slot ss i) → IsLive (slot ss j)
       → slot_key (slot ss i) ≡ slot_key (slot ss j) → i ≡ j
@@ -59,7 +59,7 @@ pub record IsTable (first second homes : ℕ) (ss : List Slot) : Type 0 where
 -- a table whose used slots and keys are counted, with no more used slots than may be, each slot of
 -- which is a home
 pub record IsHeads (first second most used keys : ℕ) (ss : List Slot) : Type 0 where
-  pub table : IsTable first second (length ss) ss
+  pub table : IsHashTable first second (length ss) ss
   pub counted : used ≡ used_count ss
   pub live : keys ≡ live_count ss
   pub room : used ≤ most

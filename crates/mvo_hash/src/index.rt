@@ -4,13 +4,13 @@ ghost use Rattle.std.specs.Option.{option_map};
 ghost use Rattle.std.specs.FinMap as finite_map;
 ghost use Rattle.mvo_hash.specs.Home.{shard_count};
 ghost use Rattle.mvo_hash.specs.Links.{beheaded};
-ghost use Rattle.mvo_hash.specs.Lists.{no_versions, numbers_of, with_numbers, newest_of, without};
-ghost use Rattle.mvo_hash.specs.Lists.{is_among, number, IsFresh, IsHeld, IsOlder, IsNewer, IsPastAll};
+ghost use Rattle.mvo_hash.specs.Lists.{no_versions, numbers_of, with_numbers, newest_of, without_number};
+ghost use Rattle.mvo_hash.specs.Lists.{is_among, number, IsNewNumber, IsHeld, IsOlder, IsNewer, IsPastAll};
 
 use crate::heads::Heads;
 use crate::link::{Link, NONE, UNHELD, or_none};
 use crate::links::{join, listed, reach, unlink};
-use crate::walk::Versions;
+use crate::version_walk::VersionWalk;
 use mvo_chain::{Pieces, VersionNo};
 use mvo_types::RowKey;
 use std::alloc::{AllocError, Global};
@@ -87,7 +87,7 @@ impl HashIndex {
     /// Whether some key has the version.
     pub fn is_held(&self, version: VersionNo) -> bool
         ensures held { OnTrue result (IsHeld self.now.versions version.0) }
-        ensures fresh { OnFalse result (IsFresh self.now.versions version.0) }
+        ensures fresh { OnFalse result (IsNewNumber self.now.versions version.0) }
     {
         version.index() < self.links.len() && self.links[version.index()].newer != UNHELD
     }
@@ -126,17 +126,17 @@ impl HashIndex {
     }
 
     /// A walk over the versions of a key, newest first. It takes no memory.
-    pub fn walk(&self, key: RowKey) -> Versions<'_>
+    pub fn walk(&self, key: RowKey) -> VersionWalk<'_>
         ensures { result ≡ map number (numbers_of self.now.versions key) }
     {
-        Versions::from(&self.links, or_none(self.heads.get(key)))
+        VersionWalk::from(&self.links, or_none(self.heads.get(key)))
     }
 
     /// Adds a version in front of those of its key. It takes room for one version at most, and none
     /// where its key has versions; where there is none, it takes the time of moving a 256th part of
     /// the keys, more or less.
     pub fn add(&mut self, key: RowKey, version: VersionNo) -> Result<(), AllocError>
-        requires { IsFresh self.old.versions version.0 }
+        requires { IsNewNumber self.old.versions version.0 }
         ensures ok { OnOk result (self.new.versions ≡ with_numbers self.old.versions key
             (version.0 ∷ numbers_of self.old.versions key)) }
         ensures room { self.old.room ≤ self.new.room + 1 }
@@ -159,7 +159,7 @@ impl HashIndex {
     pub fn bring_to_front(&mut self, key: RowKey, version: VersionNo)
         requires { IsTrue (is_among version.0 (numbers_of self.old.versions key)) }
         ensures front { self.new.versions ≡ with_numbers self.old.versions key
-            (version.0 ∷ without version.0 (numbers_of self.old.versions key)) }
+            (version.0 ∷ without_number version.0 (numbers_of self.old.versions key)) }
         ensures room { self.new.room ≡ self.old.room }
     {
         if self.links[version.index()].newer == NONE {
@@ -174,7 +174,7 @@ impl HashIndex {
     pub fn remove(&mut self, key: RowKey, version: VersionNo)
         requires { IsTrue (is_among version.0 (numbers_of self.old.versions key)) }
         ensures gone { self.new.versions ≡ with_numbers self.old.versions key
-            (without version.0 (numbers_of self.old.versions key)) }
+            (without_number version.0 (numbers_of self.old.versions key)) }
         ensures room { self.new.room ≡ self.old.room }
     {
         let gone = self.links[version.index()];

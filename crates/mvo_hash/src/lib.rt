@@ -10,9 +10,9 @@ mod probe;
 mod seeds;
 mod shards;
 mod slot;
-mod walk;
+mod version_walk;
 
 pub use heads::Heads;
 pub use index::HashIndex;
 pub use open_table::OpenTable;
-pub use walk::Versions;
+pub use version_walk::VersionWalk;

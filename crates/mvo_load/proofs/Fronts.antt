@@ -14,8 +14,8 @@ use Rattle.mvo_pair.proofs.Fronts.{loads_of_front, loads_in_front, only_alike}
 use Rattle.mvo_manifest.specs.Data.{ManifestData}
 use Rattle.mvo_manifest.specs.Slots.{SlotSays}
 use Rattle.mvo_manifest.proofs.Fronts.{slot_front, slot_of_front, slot_in_front}
-use Rattle.mvo_image.specs.Files.{SegmentIs}
-use Rattle.mvo_image.proofs.Fronts.{segment_says_of_front, segment_says_in_front}
+use Rattle.mvo_recovery.specs.image.Files.{SegmentIs}
+use Rattle.mvo_recovery.proofs.image.Fronts.{segment_says_of_front, segment_says_in_front}
 
 pub slot_on_disk : (version slot : ℕ) (bytes : List ℕ) (found : Found (Option ManifestData)) → IsOnly (SlotSays version slot (slot_front bytes)) found → IsOnly (SlotSays version slot bytes) found
 slot_on_disk version slot bytes = only_alike (SlotSays version slot (slot_front bytes)) (SlotSays version slot bytes) (slot_of_front version slot bytes) (slot_in_front version slot bytes)

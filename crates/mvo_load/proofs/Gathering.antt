@@ -6,7 +6,7 @@ use Rattle.std.specs.List.Sorted.{IsPermutation}
 use Rattle.std.specs.FinMap.{from_entries}
 use Rattle.std.proofs.lemmas.List.{append-nil, map-append}
 use Rattle.std.proofs.lemmas.List.Elements.{All-append, All-from_recursion, recursion_from_All}
-use Rattle.std.proofs.lemmas.List.Concat.{flat_map-cons, flat_map-append}
+use Rattle.std.proofs.lemmas.List.Concat.{flat_map-cons}
 use Rattle.std.proofs.lemmas.List.Sorted.{IsPermutation-refl, IsPermutation-append, IsPermutation-map, All-permutation}
 use Rattle.mvo_types.specs.declared.row.RowKey.{RowKey}
 use Rattle.mvo_types.specs.Keys.{Map}
@@ -17,14 +17,15 @@ use Rattle.mvo_pair.specs.Loading.{LoadsAs}
 use Rattle.mvo_pair.specs.declared.pair.Pair.{Pair}
 use Rattle.mvo_manifest.specs.Data.{ManifestData}
 use Rattle.mvo_manifest.specs.Rules.{IsManifest}
-use Rattle.mvo_image.specs.Rows.{rows_of}
-use Rattle.mvo_image.specs.Opens.{Image, Outcome, Pairs}
-use Rattle.mvo_image.specs.Gives.{HaveLive}
-use Rattle.mvo_image.proofs.Apart.{distinct_front}
-use Rattle.mvo_places.specs.declared.place.Place.{Place}
-use Rattle.mvo_places.specs.Places.{PlaceMap, ArePlaces, file_of, places_in, places_of}
+use Rattle.mvo_manifest.proofs.Spelled.{all_parts}
+use Rattle.mvo_places.specs.Rows.{rows_of}
+use Rattle.mvo_recovery.specs.image.Opens.{Image, OpeningOutcome, Pairs}
+use Rattle.mvo_recovery.specs.image.Gives.{HaveLive}
+use Rattle.mvo_recovery.proofs.image.Apart.{distinct_front}
+use Rattle.mvo_places.specs.declared.record_place.RecordPlace.{RecordPlace}
+use Rattle.mvo_places.specs.Places.{PlaceMap, ArePlaces, file_of, places_in, record_places}
 use Rattle.mvo_places.proofs.Rising.{live_numbers_rise}
-use Rattle.mvo_places.proofs.Growing.{no_places, places_grow}
+use Rattle.mvo_places.proofs.Growing.{no_places, places_grow, keys-push}
 use Rattle.mvo_places.proofs.Keys.{eq}
 use Rattle.mvo_places.proofs.Held.{first_of, keys-places_of}
 use Rattle.mvo_load.specs.Leading.{Leads}
@@ -34,20 +35,13 @@ use Rattle.mvo_load.specs.Files.{PairBytes, bytes_of, IsPart}
 use Rattle.mvo_load.specs.declared.part.Part.{Part}
 use Rattle.mvo_load.proofs.Fronts.{pair_on_disk}
 use Rattle.mvo_load.proofs.Ordered.{AreRows, all_of, same_entries, apart_each, rows_each, made_in_order}
-use Rattle.mvo_load.proofs.Pairing.{HasFiles, front_of, pair_files_fit, data_files_differ, live_push, none_alone, one_more_alone, Behind, Whole}
+use Rattle.mvo_load.proofs.Pairing.{HasFiles, pair_files_fit, data_files_differ, live_push, none_alone, one_more_alone, Behind, Whole}
 use Rattle.mvo_load.proofs.Steps.{pair_leads}
-
-abbrev Placed : Type 0
-Placed = List (RowKey × Place)
+use Rattle.mvo_load.proofs.Taken.{Placed}
 
 -- live records that lie in one data file
 abbrev pub file_all : ℕ → List Numbered → List Filed
 file_all file live = map (λ l. (file, l)) live
-
-keys-push : (lives : List (List Numbered)) (live : List Numbered) → keys_of (lives ++ live ∷ []) ≡ keys_of lives ++ map key_of live
-keys-push lives live =
-    flat_map-append (λ l. map key_of l) lives (live ∷ [])
-    ∙ ap (λ (ks : List RowKey). keys_of lives ++ ks) (flat_map-cons (λ l. map key_of l) live [] ∙ append-nil (map key_of live))
 
 -- ---- live records of pairs with their data files
 
@@ -77,7 +71,7 @@ placed-all : (file : ℕ) (live : List Numbered) → map keyed_place (file_all f
 placed-all file [] = refl
 placed-all file (l ∷ live) = ap (λ (es : Placed). keyed_place (file, l) ∷ es) (placed-all file live)
 
-placed-by : (ps : List Pair) (lives : List (List Numbered)) → map keyed_place (filed_by ps lives) ≡ places_of ps lives
+placed-by : (ps : List Pair) (lives : List (List Numbered)) → map keyed_place (filed_by ps lives) ≡ record_places ps lives
 placed-by [] lives = refl
 placed-by (p ∷ ps) [] = refl
 placed-by (p ∷ ps) (live ∷ lives) =
@@ -99,7 +93,7 @@ all_files (p ∷ ps) fit = ((fit.0.«data», fit.0.delta), all_files ps fit.1)
 -- ---- the pairs of a manifest
 
 module _ (f : Format) (image : Image) (m : ManifestData) where
-  abbrev next : List (List Numbered) → Outcome → Type 0
+  abbrev next : List (List Numbered) → OpeningOutcome → Type 0
   next lives = Behind f image m (rows_of lives)
 
   -- the pairs in front of these are gathered
@@ -113,7 +107,7 @@ module _ (f : Format) (image : Image) (m : ManifestData) where
     pub all : IsPermutation (filed_by done lives) gathered
     pub long : length done ≡ length lives
     pub leads : AreApart lives → Leads (Pairs f image next rest lives) (Whole f image m)
-    pub places : AreApart lives → ArePlaces done lives (from_entries (places_of done lives))
+    pub places : AreApart lives → ArePlaces done lives (from_entries (record_places done lives))
 
   pub none_gathered : IsManifest m → GatheredSoFar m.pairs []
   none_gathered good = record {
@@ -145,9 +139,9 @@ module _ (f : Format) (image : Image) (m : ManifestData) where
         distinct_front nat_eq (map file_of (here.done ++ p ∷ [])) (map file_of ps)
         (subst (λ (l : List ℕ). IsDistinct nat_eq l) (ap (λ (l : List Pair). map file_of l) whole_more ∙ map-append file_of (here.done ++ p ∷ []) ps) (data_files_differ m good))
 
-    places_more : AreApart (here.lives ++ live ∷ []) → ArePlaces (here.done ++ p ∷ []) (here.lives ++ live ∷ []) (from_entries (places_of (here.done ++ p ∷ []) (here.lives ++ live ∷ [])))
+    places_more : AreApart (here.lives ++ live ∷ []) → ArePlaces (here.done ++ p ∷ []) (here.lives ++ live ∷ []) (from_entries (record_places (here.done ++ p ∷ []) (here.lives ++ live ∷ [])))
     places_more apart =
-        let grown = places_grow here.done here.lives (from_entries (places_of here.done here.lives)) p live (here.places (front apart)) files_differ apart (live_numbers_rise f p (image p.data_file) (image p.delta_file) live only.0).0 in
+        let grown = places_grow here.done here.lives (from_entries (record_places here.done here.lives)) p live (here.places (front apart)) files_differ apart (live_numbers_rise f p (image p.data_file) (image p.delta_file) live only.0).0 in
         subst (λ (at : PlaceMap). ArePlaces (here.done ++ p ∷ []) (here.lives ++ live ∷ []) at) grown.are grown
 
     pub one_gathered : GatheredSoFar ps (before ++ file_all p.data_file sorted)
@@ -166,7 +160,7 @@ module _ (f : Format) (image : Image) (m : ManifestData) where
 
   -- the files that the first of these pairs name
   pub front_files : (ps qs : List Pair) (gathered : List Filed) → GatheredSoFar (ps ++ qs) gathered → All AreFiles ps
-  front_files ps qs gathered here = All-from_recursion AreFiles ps (all_files ps (front_of HasFiles ps qs here.files).0)
+  front_files ps qs gathered here = All-from_recursion AreFiles ps (all_files ps (all_parts HasFiles ps qs here.files).0)
 
   abbrev pub ArePartsOf : List Pair → List Part → Type 0
   ArePartsOf ps parts = AllZip (IsPart f) (map (bytes_of f image) ps) parts
@@ -189,12 +183,12 @@ module _ (f : Format) (image : Image) (m : ManifestData) where
     pairs_are : m.pairs ≡ all.done
     pairs_are = all.whole ∙ append-nil all.done
 
-    places_all : AreApart all.lives → HavePlaces f image m.pairs (from_entries (places_of m.pairs all.lives))
+    places_all : AreApart all.lives → HavePlaces f image m.pairs (from_entries (record_places m.pairs all.lives))
     places_all apart = record {
       are = λ lives have.
           let same : lives ≡ all.lives = all.alone lives (subst (λ (ps : List Pair). HaveLive f image ps lives) pairs_are have) in
-          subst (λ (ps : List Pair). ArePlaces ps lives (from_entries (places_of ps all.lives))) (sym pairs_are)
-          (subst (λ (ls : List (List Numbered)). ArePlaces all.done ls (from_entries (places_of all.done all.lives))) (sym same) (all.places apart));
+          subst (λ (ps : List Pair). ArePlaces ps lives (from_entries (record_places ps all.lives))) (sym pairs_are)
+          (subst (λ (ls : List (List Numbered)). ArePlaces all.done ls (from_entries (record_places all.done all.lives))) (sym same) (all.places apart));
     }
 
     pub all_gathered : AreGathered f image m gathered
@@ -226,14 +220,14 @@ module _ (f : Format) (image : Image) (m : ManifestData) (gathered : List Filed)
   apart : AreApart all.lives
   apart = apart_each all.lives (all_of all.lives) refl each_made.apart
 
-  keys_apart : IsDistinct eq (map first_of (places_of m.pairs all.lives))
+  keys_apart : IsDistinct eq (map first_of (record_places m.pairs all.lives))
   keys_apart = subst (λ (ks : List RowKey). IsDistinct eq ks) (sym (keys-places_of m.pairs all.lives long)) apart
 
-  places_moved : IsPermutation (places_of m.pairs all.lives) (map keyed_place gathered)
+  places_moved : IsPermutation (record_places m.pairs all.lives) (map keyed_place gathered)
   places_moved = subst (λ (es : Placed). IsPermutation es (map keyed_place gathered)) (placed-by m.pairs all.lives) (IsPermutation-map keyed_place (filed_by m.pairs all.lives) gathered all.whole)
 
-  at_is : from_entries (places_of m.pairs all.lives) ≡ at
-  at_is = same_entries (places_of m.pairs all.lives) (map keyed_place gathered) places_moved keys_apart ∙ sym made.places_are
+  at_is : from_entries (record_places m.pairs all.lives) ≡ at
+  at_is = same_entries (record_places m.pairs all.lives) (map keyed_place gathered) places_moved keys_apart ∙ sym made.places_are
 
   rows_are : rows ≡ rows_of all.lives
   rows_are = each_made.are ∙ rows_each all.lives (all_of all.lives) refl

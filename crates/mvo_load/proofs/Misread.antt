@@ -6,11 +6,11 @@ use Rattle.mvo_frame.specs.declared.kind.Kind.{Kind}
 use Rattle.mvo_pair.specs.declared.pair.Pair.{Pair}
 use Rattle.mvo_pair.specs.declared.unread.Unread.{Unread}
 use Rattle.mvo_pair.specs.declared.unread.Unread.TheVariants.{Memory, Broken, OtherVersion}
-use Rattle.mvo_pair.specs.Answers.{Found, IsFound, Goes, After, file_refusal}
+use Rattle.mvo_pair.specs.Answers.{FoundOrUnread, IsFound, Goes, After, file_refusal}
 use Rattle.mvo_pair.specs.Data.{Numbered, live_of}
-use Rattle.mvo_pair.specs.Files.{HasEntries, HasNumbers, IsOtherVersion, data_magic, delta_magic}
+use Rattle.mvo_pair.specs.Files.{HasEntries, HasDeadNumbers, HasOtherVersion, data_magic, delta_magic}
 use Rattle.mvo_pair.specs.Loading.{LoadsAs}
-use Rattle.mvo_image.specs.Files.{SegmentIs}
+use Rattle.mvo_recovery.specs.image.Files.{SegmentIs}
 use Rattle.mvo_load.specs.Read.{IsMisread}
 
 unread : {X : Type 0} (file : ℕ) (Other : Type 0) (Holds : X → Type 0) (u : Unread) → IsFound Other Holds (Err u) → IsMisread (file_refusal file u)
@@ -21,14 +21,14 @@ unread file Other Holds Memory says = absurd says
 after : {X Y : Type 0} (file : ℕ) (Other : Type 0) (Holds : X → Type 0) (next : X → Result Y Refusal → Type 0) → ((x : X) (e : Refusal) → next x (Err e) → IsMisread e) → (e : Refusal) → After file (IsFound Other Holds) next (Err e) → IsMisread e
 after {X} {Y} file Other Holds next so e h = go h.0 h.1 h.2
   where
-    go : (found : Found X) → IsFound Other Holds found → Goes {Y = Y} file next found (Err e) → IsMisread e
+    go : (found : FoundOrUnread X) → IsFound Other Holds found → Goes {Y = Y} file next found (Err e) → IsMisread e
     go (Ok x) says goes = so x e goes
     go (Err u) says goes = let same : file_refusal file u ≡ e = cc goes in subst IsMisread same (unread file Other Holds u says)
 
 -- the live records of a pair
 pub pair_misread : (f : Format) (p : Pair) (a b : List ℕ) (e : Refusal) → LoadsAs f p a b (Err e) → IsMisread e
-pair_misread f p a b e = after {Y = List Numbered} p.data_file (IsOtherVersion data_magic f.version a) (λ es. HasEntries f p.lo.0 p.hi.0 p.records es a) _
-    (λ es k. after {Y = List Numbered} p.delta_file (IsOtherVersion delta_magic f.version b) (λ ns. HasNumbers f.version p.records p.entries ns b) (λ ns out. out ≡ Ok (live_of ns es)) (λ ns r same. absurd (cc same)) k) e
+pair_misread f p a b e = after {Y = List Numbered} p.data_file (HasOtherVersion data_magic f.version a) (λ es. HasEntries f p.lo.0 p.hi.0 p.records es a) _
+    (λ es k. after {Y = List Numbered} p.delta_file (HasOtherVersion delta_magic f.version b) (λ ns. HasDeadNumbers f.version p.records p.entries ns b) (λ ns out. out ≡ Ok (live_of ns es)) (λ ns r same. absurd (cc same)) k) e
 
 -- the groups of a segment
 pub segment_misread : (f : Format) (file mark : ℕ) (kind : Kind) (bytes : List ℕ) (e : Refusal) → SegmentIs f file mark kind bytes (Err e) → IsMisread e

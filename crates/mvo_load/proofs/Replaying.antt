@@ -38,9 +38,9 @@ use Rattle.mvo_frame.specs.Standing.{gate_of}
 use Rattle.mvo_frame.proofs.Fronts.{segment_front}
 use Rattle.mvo_frame.proofs.Stepwise.{IsReadUpTo, read_begun, read_more, read_ended, read_failed, read_shorter}
 use Rattle.mvo_pair.proofs.Loads.{tells_ok}
-use Rattle.mvo_image.specs.Rows.{after_record, after_groups}
-use Rattle.mvo_image.specs.Files.{SegmentIs}
-use Rattle.mvo_image.proofs.Opening.{segment_exact}
+use Rattle.mvo_places.specs.Rows.{after_record, after_groups}
+use Rattle.mvo_recovery.specs.image.Files.{SegmentIs}
+use Rattle.mvo_recovery.proofs.image.Opening.{segment_exact}
 use Rattle.mvo_load.specs.Parts.{IsReplayed}
 use Rattle.mvo_load.specs.Replay.{all_writes, after_writes}
 use Rattle.mvo_load.proofs.Fronts.{segment_on_disk}
@@ -49,7 +49,7 @@ use Rattle.mvo_load.proofs.Groups.{after_push}
 
 -- ---- writes
 
-abbrev with_write : Map → Write → Map
+abbrev pub with_write : Map → Write → Map
 with_write m w = after_effect w.0 w.1 m
 
 abbrev writes_in : RecordData → List Write

@@ -4,7 +4,7 @@ ghost use Rattle.mvo_disk.specs.Disk.{AllStay, AllOf, LeavesOnly, IsHonest};
 ghost use Rattle.mvo_types.specs.declared.limits.TheConstants.{MAX_SEGMENT_LEN, MAX_STAMP};
 ghost use Rattle.mvo_pair.specs.Answers.{Tells};
 ghost use Rattle.mvo_pair.specs.Writing.{IsStop, CountsFaults};
-ghost use Rattle.mvo_image.specs.Files.{OpensAs};
+ghost use Rattle.mvo_recovery.specs.image.Files.{OpensAs};
 ghost use Rattle.mvo_load.specs.Loaded.{IsLoaded};
 ghost use Rattle.mvo_load.specs.Parts.{HavePlaces};
 

@@ -1,14 +1,10 @@
 //! Loads the live records of all pairs.
-ghost use Rattle.std.specs.Prelude.{◌≡◌, ◌<◌, ◌+◌, ◌^◌, List, [], Some, IfOk};
+ghost use Rattle.std.specs.Prelude.{◌≡◌, ◌<◌, ◌+◌, ◌^◌, List, IfOk};
 ghost use Rattle.mvo_pair.specs.Data.{Numbered};
 ghost use Rattle.mvo_pair.specs.Data.{AreApart};
-ghost use Rattle.mvo_image.specs.Rows.{rows_of};
-ghost use Rattle.mvo_image.specs.Opens.{Segments, OpensWith};
-ghost use Rattle.mvo_image.specs.Files.{SegmentSays};
-ghost use Rattle.mvo_load.specs.Leading.{LeadsOn};
-ghost use Rattle.mvo_load.specs.Parts.{Joins, HaveRows, HavePlaces};
-ghost use Rattle.mvo_disk.specs.Disk.{IsHonest};
-ghost use Rattle.mvo_load.specs.Read.{HasRead};
+ghost use Rattle.mvo_places.specs.Rows.{rows_of};
+ghost use Rattle.mvo_load.specs.Parts.{Joins};
+ghost use Rattle.mvo_load.specs.Pairs.{HavePairs};
 
 use crate::at_once::at_once;
 use crate::gather::gather;
@@ -16,7 +12,7 @@ use crate::single::pair_on;
 use mvo_disk::Disk;
 use mvo_format::Format;
 use mvo_manifest::Manifest;
-use mvo_pair::{Entry, Live};
+use mvo_pair::{DataRecord, Live};
 use mvo_places::Places;
 use mvo_types::{Refusal, Rows};
 use std::alloc::{AllocError, Global};
@@ -34,7 +30,7 @@ pub fn join(rows: &mut Rows, live: Vec<Live>) -> Result<bool, AllocError>
     let before = rows.len();
     for one in live {
         let Live { entry, .. } = one;
-        let Entry { row, .. } = entry;
+        let DataRecord { row, .. } = entry;
         rows.put(row)?;
     }
     // A key that stood there already makes no new place.
@@ -50,15 +46,7 @@ fn load_in_turn<D: Disk>(
     seed: u64,
 ) -> Result<(Rows, Places), Refusal>
     requires room { D.fault_count disk.old + 1 < 2 ^ 64 }
-    ensures live { IsHonest (D.moment disk.new) → IfOk result (λ found. HaveRows format
-        (D.content disk.old) manifest.now.pairs found.0) }
-    ensures places { IsHonest (D.moment disk.new) → IfOk result (λ found. HavePlaces format
-        (D.content disk.old) manifest.now.pairs found.1.at) }
-    ensures leads { IsHonest (D.moment disk.new) → LeadsOn
-        (λ found. Segments (SegmentSays format) (D.content disk.old) found.0 manifest.now.segments
-        manifest.now.checkpoint_mark [])
-        (OpensWith (SegmentSays format) format (D.content disk.old) (Some manifest.now)) result }
-    ensures read { HasRead D.Disk disk.old disk.new result }
+    ensures { HavePairs D.Disk format manifest.now disk.old disk.new result }
 {
     let mut places = Places::new(alloc, seed);
     let mut rows = Rows::new(alloc);
@@ -89,15 +77,7 @@ fn load_beside<D: Disk>(
     seed: u64,
 ) -> Result<(Rows, Places), Refusal>
     requires room { D.fault_count disk.old + 1 < 2 ^ 64 }
-    ensures live { IsHonest (D.moment disk.new) → IfOk result (λ found. HaveRows format
-        (D.content disk.old) manifest.now.pairs found.0) }
-    ensures places { IsHonest (D.moment disk.new) → IfOk result (λ found. HavePlaces format
-        (D.content disk.old) manifest.now.pairs found.1.at) }
-    ensures leads { IsHonest (D.moment disk.new) → LeadsOn
-        (λ found. Segments (SegmentSays format) (D.content disk.old) found.0 manifest.now.segments
-        manifest.now.checkpoint_mark [])
-        (OpensWith (SegmentSays format) format (D.content disk.old) (Some manifest.now)) result }
-    ensures read { HasRead D.Disk disk.old disk.new result }
+    ensures { HavePairs D.Disk format manifest.now disk.old disk.new result }
 {
     let gathered = match gather(rt, alloc, disk, format, manifest) {
         Ok(gathered) => gathered,
@@ -134,15 +114,7 @@ pub fn load_pairs<D: Disk>(
     seed: u64,
 ) -> Result<(Rows, Places), Refusal>
     requires room { D.fault_count disk.old + 1 < 2 ^ 64 }
-    ensures live { IsHonest (D.moment disk.new) → IfOk result (λ found. HaveRows format
-        (D.content disk.old) manifest.now.pairs found.0) }
-    ensures places { IsHonest (D.moment disk.new) → IfOk result (λ found. HavePlaces format
-        (D.content disk.old) manifest.now.pairs found.1.at) }
-    ensures leads { IsHonest (D.moment disk.new) → LeadsOn
-        (λ found. Segments (SegmentSays format) (D.content disk.old) found.0 manifest.now.segments
-        manifest.now.checkpoint_mark [])
-        (OpensWith (SegmentSays format) format (D.content disk.old) (Some manifest.now)) result }
-    ensures read { HasRead D.Disk disk.old disk.new result }
+    ensures { HavePairs D.Disk format manifest.now disk.old disk.new result }
 {
     if count_of(manifest) < FEW_RECORDS {
         return match load_in_turn(alloc, disk, format, manifest, seed) {

@@ -6,7 +6,7 @@ ghost use Rattle.mvo_frame.specs.Reading.{enough_found};
 ghost use Rattle.mvo_frame.specs.Standing.{gate_of};
 ghost use Rattle.mvo_types.specs.declared.limits.TheConstants.{MAX_STAMP};
 ghost use Rattle.mvo_pair.specs.Answers.{IsOnly};
-ghost use Rattle.mvo_image.specs.Files.{SegmentIs};
+ghost use Rattle.mvo_recovery.specs.image.Files.{SegmentIs};
 ghost use Rattle.mvo_load.specs.Parts.{IsReplayed};
 
 use crate::log_end::LogEnd;

@@ -8,14 +8,14 @@ use Rattle.mvo_format.proofs.Fronts.{front_taken, front_back, says_alike, other_
 use Rattle.mvo_manifest.specs.declared.constants.TheConstants.{MAGIC, MAX_SLOT_LEN}
 use Rattle.mvo_manifest.specs.Data.{ManifestData}
 use Rattle.mvo_manifest.specs.Rules.{IsManifest}
-use Rattle.mvo_manifest.specs.Body.{body_of, sized_body}
+use Rattle.mvo_manifest.specs.Body.{manifest_body, sized_body}
 use Rattle.mvo_manifest.specs.Slots.{IsShut, IsClosed, IsOpen, SlotHas, IsOtherSlot, SlotSays}
 use Rattle.mvo_manifest.proofs.Spelled.{length-body}
 
 length-sized_body : (version : ℕ) (m : ManifestData) → IsManifest m → length (OPEN ∷ sized_body version m) ≤ MAX_SLOT_LEN
 unfolding sized_body
 length-sized_body version m is =
-    let body = body_of version m in
+    let body = manifest_body version m in
     let pairs = is.rules.pairs in
     let segments = is.rules.segments in
     omega (arith, length-append (field 4 (length body)) body, length-field 4 (length body), length-body version m, pairs, segments)

@@ -8,7 +8,7 @@ use lib.ListN.{get_elem?}
 use Rattle.atomic_table.specs.Table.{State, Me, Step, keeps, opening, Allows, Splits, Joins}
 use Rattle.atomic_table.proofs.Lists.{at_set, at_snoc, at_longer, set_again, set_here, set_else}
 use Rattle.mvo_marks.specs.declared.rule.Known.{Known}
-use Rattle.mvo_marks.specs.Marks.{first, onlooker, with_closed, with_raised, with_durable, with_published, Fits, Standing, IsKept, noted, nobody}
+use Rattle.mvo_marks.specs.Marks.{first, onlooker, with_closed, with_raised, with_durable, with_published, Fits, Standing, IsRuleKept, seat_noted, nobody}
 use Rattle.mvo_marks.specs.Telling.{HasSeenDurable, HasSeenClosed, HasRaised, HasPublished, HasConfirmed}
 
 in_range : {A : Type 0} (l : List A) (i : ℕ) (a : A) → get_elem? l i ≡ some a → i < length l
@@ -41,7 +41,7 @@ changed c d c' d' seat id old new views v w k at is le mine same others =
     office (no n) each =
         record { words_are = is; ordered = le; publisher = k.publisher; there = set_else views id seat w n ∙ k.there; in_office = k.in_office; each = each }
 
-pub begins : (start : ℕ) → IsKept (opening (start ∷ start ∷ []) [] (first start))
+pub begins : (start : ℕ) → IsRuleKept (opening (start ∷ start ∷ []) [] (first start))
 begins start = (start, start, 0, record { words_are = refl; ordered = omega arith; publisher = first start; there = refl; in_office = refl; each = one })
   where
     one : (by : ℕ) (v : Known) → get_elem? (first start ∷ []) by ≡ some v → Fits start start 0 by v
@@ -51,7 +51,7 @@ begins start = (start, start, 0, record { words_are = refl; ordered = omega arit
 off : false ≡ true → ⊥
 off e = true≢false (sym e)
 
-pub splits : (id : ℕ) (v : Known) → Splits IsKept id v v (onlooker v)
+pub splits : (id : ℕ) (v : Known) → Splits IsRuleKept id v v (onlooker v)
 splits id v s kept at =
     let c = kept.0 in
     let d = kept.1 in
@@ -75,7 +75,7 @@ splits id v s kept at =
       },
     )
 
-pub sees_durable : (slots id : ℕ) (me : Me ℕ Known) (st : Step ℕ) → Allows IsKept slots id me 1 (λ n. n) (HasSeenDurable st me)
+pub sees_durable : (slots id : ℕ) (me : Me ℕ Known) (st : Step ℕ) → Allows IsRuleKept slots id me 1 (λ n. n) (HasSeenDurable st me)
 sees_durable slots id me st s kept count at small =
     let c = kept.0 in
     let d = kept.1 in
@@ -88,7 +88,7 @@ sees_durable slots id me st s kept count at small =
     let fits : Fits c d seat id (with_durable me.0 n) = record { closed_seen = mine.closed_seen; durable_seen = omega (arith, found); one = mine.one; published = mine.published } in
     (with_durable me.0 n, keeps, tt, (c, d, seat, changed c d c d seat id s.words _ s.views me.0 _ k at words k.ordered fits refl (λ by u apart f. f)), (refl, omega (arith, found, mine.durable_seen)))
 
-pub sees_closed : (slots id : ℕ) (me : Me ℕ Known) (st : Step ℕ) → Allows IsKept slots id me 0 (λ n. n) (HasSeenClosed st me)
+pub sees_closed : (slots id : ℕ) (me : Me ℕ Known) (st : Step ℕ) → Allows IsRuleKept slots id me 0 (λ n. n) (HasSeenClosed st me)
 sees_closed slots id me st s kept count at small =
     let c = kept.0 in
     let d = kept.1 in
@@ -101,7 +101,7 @@ sees_closed slots id me st s kept count at small =
     let fits : Fits c d seat id (with_closed me.0 n) = record { closed_seen = omega (arith, found); durable_seen = mine.durable_seen; one = mine.one; published = mine.published } in
     (with_closed me.0 n, keeps, tt, (c, d, seat, changed c d c d seat id s.words _ s.views me.0 _ k at words k.ordered fits refl (λ by u apart f. f)), (refl, omega (arith, found, mine.closed_seen)))
 
-pub raises : (slots id : ℕ) (me : Me ℕ Known) (st : Step ℕ) → Allows IsKept slots id me 0 (λ n. max n st.first) (HasRaised st me)
+pub raises : (slots id : ℕ) (me : Me ℕ Known) (st : Step ℕ) → Allows IsRuleKept slots id me 0 (λ n. max n st.first) (HasRaised st me)
 raises slots id me st s kept count at small =
     let c = kept.0 in
     let d = kept.1 in
@@ -129,7 +129,7 @@ raises slots id me st s kept count at small =
     )
 
 -- a publishing seat may raise the durable word as far as it has seen the closed one
-pub publishes : (slots id : ℕ) (me : Me ℕ Known) (st : Step ℕ) → me.0.publishes ≡ true → st.first ≤ me.0.closed → Allows IsKept slots id me 1 (λ n. max n st.first) (HasPublished st me)
+pub publishes : (slots id : ℕ) (me : Me ℕ Known) (st : Step ℕ) → me.0.publishes ≡ true → st.first ≤ me.0.closed → Allows IsRuleKept slots id me 1 (λ n. max n st.first) (HasPublished st me)
 publishes slots id me st may far s kept count at small =
     let c = kept.0 in
     let d = kept.1 in
@@ -158,7 +158,7 @@ publishes slots id me st may far s kept count at small =
       (refl, found ∙ sym (mine.published may)),
     )
 
-pub confirms : (slots id : ℕ) (me : Me ℕ Known) (st : Step ℕ) → me.0.publishes ≡ true → Allows IsKept slots id me 1 (λ n. n) (HasConfirmed st me)
+pub confirms : (slots id : ℕ) (me : Me ℕ Known) (st : Step ℕ) → me.0.publishes ≡ true → Allows IsRuleKept slots id me 1 (λ n. n) (HasConfirmed st me)
 confirms slots id me st may s kept count at small =
     let k = kept.3 in
     let found : slice_index s.words 1 ≡ kept.1 = ap (λ l. slice_index l 1) k.words_are in
@@ -166,7 +166,7 @@ confirms slots id me st may s kept count at small =
     (r.0, r.1, r.2, r.3, (r.4.0, r.4.1, found ∙ sym ((k.each id me.0 at).published may)))
 
 -- the publisher takes in what an onlooker has seen
-pub takes_in : (id : ℕ) (v : Known) (other : ℕ) (u : Known) → v.publishes ≡ true → u.publishes ≡ false → Joins IsKept id v other u (noted v u) nobody
+pub takes_in : (id : ℕ) (v : Known) (other : ℕ) (u : Known) → v.publishes ≡ true → u.publishes ≡ false → Joins IsRuleKept id v other u (seat_noted v u) nobody
 takes_in id v other u may not s kept at apart there =
     let c = kept.0 in
     let d = kept.1 in
@@ -174,12 +174,12 @@ takes_in id v other u may not s kept at apart there =
     let k = kept.3 in
     let mine = k.each id v at in
     let theirs : Fits c d seat other u = ⊎_elim
-    (λ (x : (other ≡ id) × (noted v u ≡ u)). absurd (apart x.0))
+    (λ (x : (other ≡ id) × (seat_noted v u ≡ u)). absurd (apart x.0))
     (λ (x : (other ≢ id) × (get_elem? s.views other ≡ some u)). k.each other u x.1)
-    (at_set s.views id other (noted v u) u there) in
+    (at_set s.views id other (seat_noted v u) u there) in
     let low = mine.durable_seen in
     let low' = theirs.durable_seen in
-    let fits : Fits c d seat id (noted v u) = record { closed_seen = mine.closed_seen; durable_seen = omega (arith, low, low'); one = mine.one; published = mine.published } in
-    let first = changed c d c d seat id s.words s.words s.views v (noted v u) k at k.words_are k.ordered fits refl (λ by w far f. f) in
+    let fits : Fits c d seat id (seat_noted v u) = record { closed_seen = mine.closed_seen; durable_seen = omega (arith, low, low'); one = mine.one; published = mine.published } in
+    let first = changed c d c d seat id s.words s.words s.views v (seat_noted v u) k at k.words_are k.ordered fits refl (λ by w far f. f) in
     let none : Fits c d seat other nobody = record { closed_seen = omega arith; durable_seen = omega arith; one = λ x. absurd (off x); published = λ x. absurd (off x) } in
-    (c, d, seat, changed c d c d seat other s.words s.words (set s.views id (noted v u)) u nobody first there k.words_are k.ordered none (sym not) (λ by w far f. f))
+    (c, d, seat, changed c d c d seat other s.words s.words (set s.views id (seat_noted v u)) u nobody first there k.words_are k.ordered none (sym not) (λ by w far f. f))

@@ -71,9 +71,10 @@ pub record Standing (closed durable seat : ℕ) (words : List ℕ) (views : List
   pub each : (by : ℕ) (v : Known) → get_elem? views by ≡ some v → Fits closed durable seat by v
 
 -- the rule
-abbrev pub IsKept : State ℕ Known → Type 0
-IsKept s = (closed : ℕ) × (durable : ℕ) × (seat : ℕ) × Standing closed durable seat s.words s.views
+abbrev pub IsRuleKept : State ℕ Known → Type 0
+IsRuleKept s =
+    (closed : ℕ) × (durable : ℕ) × (seat : ℕ) × Standing closed durable seat s.words s.views
 
 -- a seat that has seen what the other has seen
-abbrev pub noted : Known → Known → Known
-noted v w = with_durable v (max v.durable w.durable)
+abbrev pub seat_noted : Known → Known → Known
+seat_noted v w = with_durable v (max v.durable w.durable)

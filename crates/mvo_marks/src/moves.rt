@@ -62,9 +62,9 @@ impl Split<Known> for Another {
 pub struct TakesIn;
 
 impl Join<Known> for TakesIn {
-    ghost use Rattle.mvo_marks.specs.Marks.{noted, nobody};
+    ghost use Rattle.mvo_marks.specs.Marks.{seat_noted, nobody};
 
-    ghost both = { noted };
+    ghost both = { seat_noted };
 
     ghost spent = { nobody };
 }

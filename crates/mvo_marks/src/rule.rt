@@ -15,9 +15,9 @@ pub struct Known {
 pub struct Law;
 
 impl TableRule<u8, Known, u64> for Law {
-    ghost use Rattle.mvo_marks.specs.Marks.{IsKept, first};
+    ghost use Rattle.mvo_marks.specs.Marks.{IsRuleKept, first};
 
-    ghost holds = { λ start s. IsKept s };
+    ghost holds = { λ start s. IsRuleKept s };
 
     ghost first = { first };
 }

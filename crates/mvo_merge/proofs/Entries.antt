@@ -14,20 +14,20 @@ use Rattle.mvo_pair.specs.Data.{EntryData, Numbered, entry_cmp, live_of}
 use Rattle.mvo_pair.specs.Files.{IsEntry}
 use Rattle.mvo_pair.specs.declared.pair.Pair.{Pair}
 use Rattle.mvo_places.proofs.Members.{Among, among_append, among_mapped, among_filtered, all_among, all_from, contains_from}
-use Rattle.mvo_merge.specs.Merged.{entries_of}
-use Rattle.mvo_merge.specs.Laws.{GivesEntries}
+use Rattle.mvo_merge.specs.Merged.{entries_alone}
+use Rattle.mvo_merge.specs.Laws.{MergeGivesEntries}
 use Rattle.mvo_merge.proofs.Lists.{names}
 use Rattle.mvo_merge.proofs.Moves.{among_numbered}
 use Rattle.mvo_merge.proofs.Loaded.{Loaded, loaded}
 
 -- a live record is one of the records
-entry_among : (ns : List ℕ) (es : List EntryData) (e : EntryData) → Among (entries_of (live_of ns es)) e → Among es e
+entry_among : (ns : List ℕ) (es : List EntryData) (e : EntryData) → Among (entries_alone (live_of ns es)) e → Among es e
 entry_among ns es e a =
     let l = among_mapped (λ (x : Numbered). x.1) (live_of ns es) e a in
     subst (λ x. Among es x) l.2 (among_numbered 0 es l.0 (among_filtered (λ (x : Numbered). not (names ns x.0)) (enumerate_from 0 es) l.0 l.1).0)
 
 -- some of the records rise as all of them do
-sorted_some : (ns : List ℕ) (n : ℕ) (es : List EntryData) → IsStrictlySortedBy entry_cmp es → IsStrictlySortedBy entry_cmp (entries_of (filter (λ (l : Numbered). not (names ns l.0)) (enumerate_from n es)))
+sorted_some : (ns : List ℕ) (n : ℕ) (es : List EntryData) → IsStrictlySortedBy entry_cmp es → IsStrictlySortedBy entry_cmp (entries_alone (filter (λ (l : Numbered). not (names ns l.0)) (enumerate_from n es)))
 unfolding IsStrictlySortedBy
 sorted_some ns n [] up = tt
 sorted_some ns n (e ∷ es) up = go (not (names ns n)) (sorted_some ns (n + 1) es up.1)
@@ -35,9 +35,9 @@ sorted_some ns n (e ∷ es) up = go (not (names ns n)) (sorted_some ns (n + 1) e
     rest : List Numbered
     rest = filter (λ (l : Numbered). not (names ns l.0)) (enumerate_from (n + 1) es)
 
-    go : (b : Bool) → IsStrictlySortedBy entry_cmp (entries_of rest) → IsStrictlySortedBy entry_cmp (entries_of (cond b ((n, e) ∷ rest) rest))
+    go : (b : Bool) → IsStrictlySortedBy entry_cmp (entries_alone rest) → IsStrictlySortedBy entry_cmp (entries_alone (cond b ((n, e) ∷ rest) rest))
     go true later = (
-      all_from (λ x. entry_cmp e x ≡ Less) (entries_of rest) (λ x a.
+      all_from (λ x. entry_cmp e x ≡ Less) (entries_alone rest) (λ x a.
           let l = among_mapped (λ (y : Numbered). y.1) rest x a in
           let there = among_numbered (n + 1) es l.0 (among_filtered (λ (y : Numbered). not (names ns y.0)) (enumerate_from (n + 1) es) l.0 l.1).0 in
           all_among (λ y. entry_cmp e y ≡ Less) es x up.0 (subst (λ y. Among es y) l.2 there)),
@@ -61,27 +61,27 @@ earlier a b lt = ap (λ o. ordering_then o (key_cmp a.row.key b.row.key)) (less 
 
 -- the records of a pair that is loaded
 module _ (f : Format) (p : Pair) (live : List Numbered) (l : Loaded f p live) where
-  pub each_entry : (e : EntryData) → Among (entries_of live) e → IsEntry f p.lo.0 p.hi.0 e
+  pub each_entry : (e : EntryData) → Among (entries_alone live) e → IsEntry f p.lo.0 p.hi.0 e
   each_entry e a =
       All-contains (IsEntry f p.lo.0 p.hi.0) l.entries e l.are.each
-      (contains_from l.entries e (entry_among l.numbers l.entries e (subst (λ (ls : List Numbered). Among (entries_of ls) e) l.is a)))
+      (contains_from l.entries e (entry_among l.numbers l.entries e (subst (λ (ls : List Numbered). Among (entries_alone ls) e) l.is a)))
 
-  pub entries_rise : IsStrictlySortedBy entry_cmp (entries_of live)
-  entries_rise = subst (λ (ls : List Numbered). IsStrictlySortedBy entry_cmp (entries_of ls)) (sym l.is) (sorted_some l.numbers 0 l.entries l.are.rise)
+  pub entries_rise : IsStrictlySortedBy entry_cmp (entries_alone live)
+  entries_rise = subst (λ (ls : List Numbered). IsStrictlySortedBy entry_cmp (entries_alone ls)) (sym l.is) (sorted_some l.numbers 0 l.entries l.are.rise)
 
-pub gives_entries : GivesEntries
+pub gives_entries : MergeGivesEntries
 gives_entries f p q left right are =
     let here = loaded f p are.left_data are.left_delta left are.left_loads in
     let there = loaded f q are.right_data are.right_delta right are.right_loads in
     record {
-      each = All-append (IsEntry f p.lo.0 q.hi.0) (entries_of left) (entries_of right)
-          (All-from_recursion (IsEntry f p.lo.0 q.hi.0) (entries_of left) (all_from (IsEntry f p.lo.0 q.hi.0) (entries_of left) (λ e a.
+      each = All-append (IsEntry f p.lo.0 q.hi.0) (entries_alone left) (entries_alone right)
+          (All-from_recursion (IsEntry f p.lo.0 q.hi.0) (entries_alone left) (all_from (IsEntry f p.lo.0 q.hi.0) (entries_alone left) (λ e a.
           let is = each_entry f p left here e a in
           record { above = is.above; upto = omega (arith, is.upto, are.next, are.goes_on); table = is.table; size = is.size })))
-          (All-from_recursion (IsEntry f p.lo.0 q.hi.0) (entries_of right) (all_from (IsEntry f p.lo.0 q.hi.0) (entries_of right) (λ e a.
+          (All-from_recursion (IsEntry f p.lo.0 q.hi.0) (entries_alone right) (all_from (IsEntry f p.lo.0 q.hi.0) (entries_alone right) (λ e a.
           let is = each_entry f q right there e a in
           record { above = omega (arith, is.above, are.next, are.rises); upto = is.upto; table = is.table; size = is.size })));
-      rise = sorted_append entry_cmp (entries_of left) (entries_of right) (entries_rise f p left here) (entries_rise f q right there) (λ x y a b.
+      rise = sorted_append entry_cmp (entries_alone left) (entries_alone right) (entries_rise f p left here) (entries_rise f q right there) (λ x y a b.
           let is = each_entry f p left here x a in
           let also = each_entry f q right there y b in
           earlier x y (omega (arith, is.upto, are.next, also.above)));

@@ -10,15 +10,15 @@ use Rattle.std.proofs.lemmas.List.FromFn.{length-enumerate_from}
 use Rattle.mvo_types.specs.declared.refusal.Refusal.{Refusal}
 use Rattle.mvo_format.specs.declared.format.Format.{Format}
 use Rattle.mvo_pair.specs.Data.{EntryData, Numbered, live_of}
-use Rattle.mvo_pair.specs.Answers.{Found, Goes, After}
+use Rattle.mvo_pair.specs.Answers.{FoundOrUnread, Goes, After}
 use Rattle.mvo_pair.specs.Files.{AreEntries, AreNumbers}
 use Rattle.mvo_pair.specs.Loading.{DataSays, DeltaSays, LoadsAs}
 use Rattle.mvo_pair.specs.declared.pair.Pair.{Pair}
 use Rattle.mvo_places.proofs.Members.{Among, among_map, among_mapped, among_filter, all_among, Rises}
 use Rattle.mvo_places.proofs.Held.{numbers_in}
 use Rattle.mvo_places.proofs.Rising.{same_filter, two_filters, live_rises}
-use Rattle.mvo_merge.specs.Merged.{entries_of, merged, without}
-use Rattle.mvo_merge.specs.Laws.{CountsLive, LeavesOthers, LoadsMerged, HasBoth, IsFewEnough}
+use Rattle.mvo_merge.specs.Merged.{entries_alone, merged, without}
+use Rattle.mvo_merge.specs.Laws.{CountsLive, MergeLeavesOthers, LoadsMerged, HasBoth, MergeIsFewEnough}
 use Rattle.mvo_merge.proofs.Lists.{names, not_named}
 
 pub record Loaded (f : Format) (p : Pair) (live : List Numbered) : Type 0 where
@@ -34,11 +34,11 @@ module _ (f : Format) (p : Pair) (delta_bytes : List ℕ) (live : List Numbered)
   abbrev Rest : List EntryData → List ℕ → Result (List Numbered) Refusal → Type 0
   Rest es ns out = out ≡ Ok (live_of ns es)
 
-  of_numbers : (es : List EntryData) → length es ≡ p.records → AreEntries f p.lo.0 p.hi.0 es → (found : Found (List ℕ)) → DeltaSays f p delta_bytes found → Goes p.delta_file (Rest es) found (Ok live) → Loaded f p live
+  of_numbers : (es : List EntryData) → length es ≡ p.records → AreEntries f p.lo.0 p.hi.0 es → (found : FoundOrUnread (List ℕ)) → DeltaSays f p delta_bytes found → Goes p.delta_file (Rest es) found (Ok live) → Loaded f p live
   of_numbers es counted are (Ok ns) says is = let same : live ≡ live_of ns es = cc in record { entries = es; numbers = ns; counted = counted; are = are; numbers_counted = says.counted; numbers_are = says.are; is = same }
   of_numbers es counted are (Err e) says is = absurd cc
 
-  of_entries : (data_bytes : List ℕ) (found : Found (List EntryData)) → DataSays f p data_bytes found → Goes p.data_file (λ es. After p.delta_file (DeltaSays f p delta_bytes) (Rest es)) found (Ok live) → Loaded f p live
+  of_entries : (data_bytes : List ℕ) (found : FoundOrUnread (List EntryData)) → DataSays f p data_bytes found → Goes p.data_file (λ es. After p.delta_file (DeltaSays f p delta_bytes) (Rest es)) found (Ok live) → Loaded f p live
   of_entries data_bytes (Ok es) says goes = of_numbers es says.counted says.are goes.0 goes.1 goes.2
   of_entries data_bytes (Err e) says goes = absurd cc
 
@@ -47,7 +47,7 @@ loaded f p data_bytes delta_bytes live loads = of_entries f p delta_bytes live d
 
 -- ---- more numbers
 
-pub leaves_others : LeavesOthers
+pub leaves_others : MergeLeavesOthers
 leaves_others ns late es =
     same_filter (λ (e : Numbered). not (names (ns ++ late) e.0)) (λ (e : Numbered). not (names ns e.0 || names late e.0)) (enumerate_from 0 es) (λ e a. ap not (list_any-append (λ x. x == e.0) ns late))
     ∙ two_filters (λ (e : Numbered). names ns e.0) (λ (e : Numbered). names late e.0) (enumerate_from 0 es)
@@ -132,9 +132,9 @@ counts_live f p data_bytes delta_bytes live loads =
     omega (arith, count, same, l.counted, l.numbers_counted)
 
 pub has_both : HasBoth
-has_both left right = omega (arith, length-append (entries_of left) (entries_of right), length-map left (λ (l : Numbered). l.1), length-map right (λ (l : Numbered). l.1))
+has_both left right = omega (arith, length-append (entries_alone left) (entries_alone right), length-map left (λ (l : Numbered). l.1), length-map right (λ (l : Numbered). l.1))
 
-pub few_enough : IsFewEnough
+pub few_enough : MergeIsFewEnough
 few_enough f p q left right are few =
     let here = counts_live f p are.left_data are.left_delta left are.left_loads in
     let there = counts_live f q are.right_data are.right_delta right are.right_loads in

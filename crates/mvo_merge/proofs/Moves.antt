@@ -10,7 +10,7 @@ use Rattle.std.proofs.lemmas.Grind.{fold-append}
 use Rattle.mvo_types.specs.declared.row.RowKey.{RowKey}
 use Rattle.mvo_types.proofs.Maps.{keys_total}
 use Rattle.mvo_pair.specs.Data.{EntryData, Numbered, key_of}
-use Rattle.mvo_places.specs.declared.place.Place.{Place}
+use Rattle.mvo_places.specs.declared.record_place.RecordPlace.{RecordPlace}
 use Rattle.mvo_places.specs.Places.{PlaceMap, place, with_live}
 use Rattle.mvo_places.proofs.Members.{Among, among_map, among_filtered}
 use Rattle.mvo_places.proofs.Keys.{eq, eq_flips}
@@ -63,7 +63,7 @@ module _ (left right file : ℕ) (at : PlaceMap) where
       let there : Among (take n es) l.1 = among_numbered 0 (take n es) l (among_filtered lies (enumerate_from 0 (take n es)) l a).0 in
       eq_flips e.row.key (key_of l) ∙ differs_before (map entry_key (take n es)) e.row.key (map entry_key (drop (n + 1) es)) (key_of l) apart (among_map entry_key (take n es) l.1 there)) in
       put
-      ∙ ap (λ (o : Option Place). cond (lies_in left right o) (insert before e.row.key (place file n)) before) same
+      ∙ ap (λ (o : Option RecordPlace). cond (lies_in left right o) (insert before e.row.key (place file n)) before) same
       ∙ ap (λ (m : PlaceMap). cond (lies_in left right (get at e.row.key)) (insert m e.row.key (place file n)) m) done
       ∙ ap (λ (k : ℕ). cond (lies_in left right (get at e.row.key)) (insert (moved left right file (take n es) at) e.row.key (place file k)) (moved left right file (take n es) at)) (sym many)
       ∙ sym (one_more (take n es) e)

@@ -10,15 +10,15 @@ use Rattle.mvo_types.specs.Keys.{key_cmp}
 use Rattle.mvo_types.proofs.Maps.{keys_total, exact_keys}
 use Rattle.mvo_pair.specs.Data.{Numbered, key_of, keys_of, AreApart}
 use Rattle.mvo_pair.specs.declared.pair.Pair.{Pair}
-use Rattle.mvo_places.specs.declared.place.Place.{Place}
-use Rattle.mvo_places.specs.Places.{PlaceMap, places_in, places_of, file_of, Rise, ArePlaces, with_live}
+use Rattle.mvo_places.specs.declared.record_place.RecordPlace.{RecordPlace}
+use Rattle.mvo_places.specs.Places.{PlaceMap, places_in, record_places, file_of, Rise, ArePlaces, with_live}
 use Rattle.mvo_places.proofs.Members.{Among, among_map, among_mapped, among_filter, among_filtered, among_append, among_left, among_right, all_among, increasing_from}
 use Rattle.mvo_places.proofs.Keys.{eq, eq_self}
 use Rattle.mvo_places.proofs.Held.{Entries, first_of, keys-places_in, keys-places_of, found_among, Zips, zips_once, at_live, live_at}
 use Rattle.mvo_places.proofs.Rising.{same_filter, live_rises}
 use Rattle.mvo_places.proofs.Finding.{or_else, find_append}
 use Rattle.mvo_places.proofs.Putting.{found_none, there_found, get-with}
-use Rattle.mvo_merge.specs.Merged.{numbers_of, merged, renumbering_of, of_left, of_right, without, live_after, under}
+use Rattle.mvo_merge.specs.Merged.{live_numbers, merged, renumbering_of, of_left, of_right, without, live_after, under}
 use Rattle.mvo_merge.specs.Moved.{lies_in, lying_in, moved}
 use Rattle.mvo_merge.specs.Laws.{AreLate, PlacesMerged}
 use Rattle.mvo_merge.proofs.Lists.{names, differs_left, differs_right, differs_across}
@@ -42,13 +42,13 @@ one_keyed (l ∷ live) a b differ (inr e) (inr f) same = one_keyed live a b diff
 
 -- ---- pairs in two parts
 
-places-split : (before : List Pair) (lives : List (List Numbered)) (ps : List Pair) (ls : List (List Numbered)) → length before ≡ length lives → places_of (before ++ ps) (lives ++ ls) ≡ places_of before lives ++ places_of ps ls
+places-split : (before : List Pair) (lives : List (List Numbered)) (ps : List Pair) (ls : List (List Numbered)) → length before ≡ length lives → record_places (before ++ ps) (lives ++ ls) ≡ record_places before lives ++ record_places ps ls
 places-split [] [] ps ls same = refl
 places-split [] (m ∷ lives) ps ls same = absurd (omega (arith, same))
 places-split (q ∷ before) [] ps ls same = absurd (omega (arith, same))
 places-split (q ∷ before) (m ∷ lives) ps ls same =
     ap (λ (es : Entries). places_in q.data_file m ++ es) (places-split before lives ps ls (omega (arith, same)))
-    ∙ sym (append_assoc (places_in q.data_file m) (places_of before lives) (places_of ps ls))
+    ∙ sym (append_assoc (places_in q.data_file m) (record_places before lives) (record_places ps ls))
 
 zips_behind : (before : List Pair) (lives : List (List Numbered)) (ps : List Pair) (ls : List (List Numbered)) (p : Pair) (live : List Numbered) → length before ≡ length lives → Zips ps ls p live → Zips (before ++ ps) (lives ++ ls) p live
 zips_behind [] [] ps ls p live same zips = zips
@@ -107,10 +107,10 @@ module _ (before behind : List Pair) (p q r : Pair) (lives more : List (List Num
   lies_not : (k : RowKey) → ((l : Numbered) → Among here l → key_of l ≡ k → ⊥) → ((l : Numbered) → Among there l → key_of l ≡ k → ⊥) → lies k ≡ false
   lies_not k no_left no_right = go (get at k) refl
     where
-      of_place : (v : Place) → get at k ≡ Some v → (v.data_file == p.data_file) || (v.data_file == q.data_file) ≡ true → ⊥
+      of_place : (v : RecordPlace) → get at k ≡ Some v → (v.data_file == p.data_file) || (v.data_file == q.data_file) ≡ true → ⊥
       of_place v is some =
           let x = live_at ps ls at are k v is in
-          let file : x.pair.data_file ≡ v.data_file = ap (λ (y : Place). y.data_file) x.place in
+          let file : x.pair.data_file ≡ v.data_file = ap (λ (y : RecordPlace). y.data_file) x.place in
           elim (or_cases (v.data_file == p.data_file) (v.data_file == q.data_file) some) [
             | inl first ↦
                 let same : x.live ≡ here = zips_once ps ls x.pair p x.live here are.files x.zips zips_left (file ∙ eqb-true v.data_file p.data_file first) in
@@ -120,7 +120,7 @@ module _ (before behind : List Pair) (p q r : Pair) (lives more : List (List Num
                 no_right x.one (subst (λ (ms : List Numbered). Among ms x.one) same x.among) x.key
           ]
 
-      go : (o : Option Place) → get at k ≡ o → lies_in p.data_file q.data_file o ≡ false
+      go : (o : Option RecordPlace) → get at k ≡ o → lies_in p.data_file q.data_file o ≡ false
       go None is = refl
       go (Some v) is = false_from_ne_true ((v.data_file == p.data_file) || (v.data_file == q.data_file)) (λ some. of_place v is some)
 
@@ -180,10 +180,10 @@ module _ (before behind : List Pair) (p q r : Pair) (lives more : List (List Num
   -- ---- looking up
 
   abbrev first : Entries
-  first = places_of before lives
+  first = record_places before lives
 
   abbrev last : Entries
-  last = places_of behind more
+  last = record_places behind more
 
   abbrev middle : Entries
   middle = places_in r.data_file live
@@ -200,7 +200,7 @@ module _ (before behind : List Pair) (p q r : Pair) (lives more : List (List Num
   keys_live : map key_of live ≡ map key_of here ++ map key_of there
   keys_live = live_keys left right late_left late_right are_left are_right
 
-  key_live : (k : RowKey) (v : Place) → Among middle (k, v) → Among (map key_of live) k
+  key_live : (k : RowKey) (v : RecordPlace) → Among middle (k, v) → Among (map key_of live) k
   key_live k v a = subst (λ (ks : List RowKey). Among ks k) (keys-places_in r.data_file live) (among_map first_of middle (k, v) a)
 
   -- none of the earlier pairs has its key
@@ -216,39 +216,39 @@ module _ (before behind : List Pair) (p q r : Pair) (lives more : List (List Num
       let key : Among (map key_of ms) k = subst (λ (ks : List RowKey). Among ks k) (keys-places_in file ms) (among_map first_of (places_in file ms) (k, v) a) in
       there_found middle k (subst (λ (ks : List RowKey). Among ks k) (sym (keys-places_in r.data_file live)) (within k key)) none)
 
-  abbrev of_two : RowKey → Option Place
+  abbrev of_two : RowKey → Option RecordPlace
   of_two k = or_else (find key_cmp k first) (or_else (find key_cmp k (places_in p.data_file here)) (or_else (find key_cmp k (places_in q.data_file there)) (find key_cmp k last)))
 
   before_is : (k : RowKey) → get at k ≡ of_two k
   before_is k =
       ap (λ (m : PlaceMap). get m k) are.are
-      ∙ get-from_entries keys_total (places_of ps ls) k
+      ∙ get-from_entries keys_total (record_places ps ls) k
       ∙ ap (λ (es : Entries). find key_cmp k es) (places-split before lives (p ∷ q ∷ behind) (here ∷ there ∷ more) long)
       ∙ find_append first (places_in p.data_file here ++ (places_in q.data_file there ++ last)) k
-      ∙ ap (λ (o : Option Place). or_else (find key_cmp k first) o) (find_append (places_in p.data_file here) (places_in q.data_file there ++ last) k
-      ∙ ap (λ (o : Option Place). or_else (find key_cmp k (places_in p.data_file here)) o) (find_append (places_in q.data_file there) last k))
+      ∙ ap (λ (o : Option RecordPlace). or_else (find key_cmp k first) o) (find_append (places_in p.data_file here) (places_in q.data_file there ++ last) k
+      ∙ ap (λ (o : Option RecordPlace). or_else (find key_cmp k (places_in p.data_file here)) o) (find_append (places_in q.data_file there) last k))
 
-  after_is : (k : RowKey) → find key_cmp k (places_of (before ++ r ∷ behind) (lives ++ live ∷ more)) ≡ or_else (find key_cmp k first) (or_else (find key_cmp k middle) (find key_cmp k last))
+  after_is : (k : RowKey) → find key_cmp k (record_places (before ++ r ∷ behind) (lives ++ live ∷ more)) ≡ or_else (find key_cmp k first) (or_else (find key_cmp k middle) (find key_cmp k last))
   after_is k =
       ap (λ (es : Entries). find key_cmp k es) (places-split before lives (r ∷ behind) (live ∷ more) long)
       ∙ find_append first (middle ++ last) k
-      ∙ ap (λ (o : Option Place). or_else (find key_cmp k first) o) (find_append middle last k)
+      ∙ ap (λ (o : Option RecordPlace). or_else (find key_cmp k first) o) (find_append middle last k)
 
-  settled : (k : RowKey) (o : Option Place) → find key_cmp k middle ≡ o → or_else o (of_two k) ≡ or_else (find key_cmp k first) (or_else o (find key_cmp k last))
-  settled k (Some v) is = ap (λ (x : Option Place). or_else x (Some v)) (sym (not_before k (key_live k v (found_among middle k v is))))
+  settled : (k : RowKey) (o : Option RecordPlace) → find key_cmp k middle ≡ o → or_else o (of_two k) ≡ or_else (find key_cmp k first) (or_else o (find key_cmp k last))
+  settled k (Some v) is = ap (λ (x : Option RecordPlace). or_else x (Some v)) (sym (not_before k (key_live k v (found_among middle k v is))))
   settled k None is =
-      ap (λ (x : Option Place). or_else (find key_cmp k first) (or_else x (or_else (find key_cmp k (places_in q.data_file there)) (find key_cmp k last)))) (missing p.data_file here k (λ j a. subst (λ (ks : List RowKey). Among ks j) (sym keys_live) (among_left (map key_of here) (map key_of there) j a)) is)
-      ∙ ap (λ (x : Option Place). or_else (find key_cmp k first) (or_else x (find key_cmp k last))) (missing q.data_file there k (λ j a. subst (λ (ks : List RowKey). Among ks j) (sym keys_live) (among_right (map key_of here) (map key_of there) j a)) is)
+      ap (λ (x : Option RecordPlace). or_else (find key_cmp k first) (or_else x (or_else (find key_cmp k (places_in q.data_file there)) (find key_cmp k last)))) (missing p.data_file here k (λ j a. subst (λ (ks : List RowKey). Among ks j) (sym keys_live) (among_left (map key_of here) (map key_of there) j a)) is)
+      ∙ ap (λ (x : Option RecordPlace). or_else (find key_cmp k first) (or_else x (find key_cmp k last))) (missing q.data_file there k (λ j a. subst (λ (ks : List RowKey). Among ks j) (sym keys_live) (among_right (map key_of here) (map key_of there) j a)) is)
 
-  places_are : moved p.data_file q.data_file r.data_file (merged left right) at ≡ from_entries {R = key_cmp} (places_of (before ++ r ∷ behind) (lives ++ live ∷ more))
+  places_are : moved p.data_file q.data_file r.data_file (merged left right) at ≡ from_entries {R = key_cmp} (record_places (before ++ r ∷ behind) (lives ++ live ∷ more))
   places_are =
       ap (λ (ms : List Numbered). with_live r.data_file ms at) lying_live
-      ∙ same_map keys_total exact_keys (with_live r.data_file live at) (from_entries (places_of (before ++ r ∷ behind) (lives ++ live ∷ more))) (λ k.
+      ∙ same_map keys_total exact_keys (with_live r.data_file live at) (from_entries (record_places (before ++ r ∷ behind) (lives ++ live ∷ more))) (λ k.
       get-with r.data_file live at k own
-      ∙ ap (λ (o : Option Place). or_else (find key_cmp k middle) o) (before_is k)
+      ∙ ap (λ (o : Option RecordPlace). or_else (find key_cmp k middle) o) (before_is k)
       ∙ settled k (find key_cmp k middle) refl
       ∙ sym (after_is k)
-      ∙ sym (get-from_entries keys_total (places_of (before ++ r ∷ behind) (lives ++ live ∷ more)) k))
+      ∙ sym (get-from_entries keys_total (record_places (before ++ r ∷ behind) (lives ++ live ∷ more)) k))
 
   pub placed : IsDistinct nat_eq (map file_of (before ++ r ∷ behind)) → ArePlaces (before ++ r ∷ behind) (lives ++ live ∷ more) (moved p.data_file q.data_file r.data_file (merged left right) at)
   placed files =
@@ -257,7 +257,7 @@ module _ (before behind : List Pair) (p q r : Pair) (lives more : List (List Num
         each = omega (arith, are.each, long, length-append before (p ∷ q ∷ behind), length-append lives (here ∷ there ∷ more), length-append before (r ∷ behind), length-append lives (live ∷ more));
         files = files;
         apart = still_apart;
-        rise = all_whole Rise lives (live ∷ more) rise.0 (increasing_from (numbers_of live) (live_rises gone (merged left right)), rise.1.1.1);
+        rise = all_whole Rise lives (live ∷ more) rise.0 (increasing_from (live_numbers live) (live_rises gone (merged left right)), rise.1.1.1);
         are = places_are;
       }
 

@@ -4,13 +4,13 @@ use Rattle.std.specs.List.{Contains, IsDistinct, enumerate_from}
 use Rattle.mvo_types.specs.declared.limits.TheConstants.{MAX_PAIR_RECORDS}
 use Rattle.mvo_format.specs.declared.format.Format.{Format}
 use Rattle.mvo_pair.specs.Data.{EntryData, Numbered, live_of, AreApart}
-use Rattle.mvo_pair.specs.Files.{AreEntries, AreNumbers, HasEntries, HasNumbers}
+use Rattle.mvo_pair.specs.Files.{AreEntries, AreNumbers, HasEntries, HasDeadNumbers}
 use Rattle.mvo_pair.specs.Loading.{LoadsAs}
 use Rattle.mvo_pair.specs.declared.pair.Pair.{Pair}
-use Rattle.mvo_image.specs.Rows.{rows_of}
+use Rattle.mvo_places.specs.Rows.{rows_of}
 use Rattle.mvo_places.specs.Places.{PlaceMap, Rise, ArePlaces, file_of}
-use Rattle.mvo_merge.specs.Merged.{numbers_of, merged, renumbering_of, of_left, of_right, renumbered}
-use Rattle.mvo_merge.specs.Merged.{entries_of, without, live_after, under}
+use Rattle.mvo_merge.specs.Merged.{live_numbers, merged, renumbering_of, of_left, of_right, renumbered}
+use Rattle.mvo_merge.specs.Merged.{entries_alone, without, live_after, under}
 use Rattle.mvo_merge.specs.Moved.{HaveOwnKeys, moved}
 
 -- ---- numbers that come late
@@ -18,7 +18,7 @@ use Rattle.mvo_merge.specs.Moved.{HaveOwnKeys, moved}
 -- The live records of a pair with rising numbers, and distinct numbers of some of them.
 pub record AreLate (live : List Numbered) (late : List ℕ) : Type 0 where
   pub rise : Rise live
-  pub among : All (Contains (numbers_of live)) late
+  pub among : All (Contains (live_numbers live)) late
   pub distinct : IsDistinct nat_eq late
 
 -- Numbers that a delta file gains are those of live records.
@@ -27,8 +27,8 @@ GainedAreLate = (below : ℕ) (ns late : List ℕ) (es : List EntryData) → len
     AreNumbers below (ns ++ late) → AreLate (live_of ns es) late
 
 -- With them it leaves the other live records.
-abbrev pub LeavesOthers : Type 0
-LeavesOthers = (ns late : List ℕ) (es : List EntryData) →
+abbrev pub MergeLeavesOthers : Type 0
+MergeLeavesOthers = (ns late : List ℕ) (es : List EntryData) →
     live_of (ns ++ late) es ≡ without late (live_of ns es)
 
 -- Where none comes late, all of them are left.
@@ -56,20 +56,20 @@ LiveInOne = (left right : List Numbered) (late_left late_right : List ℕ) →
 abbrev pub LiveInEither : Type 0
 LiveInEither = (left right : List Numbered) (late_left late_right : List ℕ) (e : EntryData) →
     AreLate left late_left → AreLate right late_right →
-    Contains (entries_of (live_after left right late_left late_right)) e
-    ↔ (Contains (entries_of (without late_left left)) e
-    ⊎ Contains (entries_of (without late_right right)) e)
+    Contains (entries_alone (live_after left right late_left late_right)) e
+    ↔ (Contains (entries_alone (without late_left left)) e
+    ⊎ Contains (entries_alone (without late_right right)) e)
 
 -- The rows are those of before.
-abbrev pub KeepsRows : Type 0
-KeepsRows = (left right : List Numbered) (late_left late_right : List ℕ)
+abbrev pub MergeKeepsRows : Type 0
+MergeKeepsRows = (left right : List Numbered) (late_left late_right : List ℕ)
     (before behind : List (List Numbered)) → AreLate left late_left → AreLate right late_right →
     rows_of (before ++ live_after left right late_left late_right ∷ behind)
     ≡ rows_of (before ++ without late_left left ∷ without late_right right ∷ behind)
 
 -- No two live records have one key.
-abbrev pub StaysApart : Type 0
-StaysApart = (left right : List Numbered) (late_left late_right : List ℕ)
+abbrev pub MergeStaysApart : Type 0
+MergeStaysApart = (left right : List Numbered) (late_left late_right : List ℕ)
     (before behind : List (List Numbered)) → AreLate left late_left → AreLate right late_right →
     AreApart (before ++ without late_left left ∷ without late_right right ∷ behind) →
     AreApart (before ++ live_after left right late_left late_right ∷ behind)
@@ -82,7 +82,7 @@ CountsLive = (f : Format) (p : Pair) (data_bytes delta_bytes : List ℕ) (live :
     LoadsAs f p data_bytes delta_bytes (Ok live) → length live + p.entries ≡ p.records
 
 -- two pairs, the right one directly behind the left one, with their live records
-pub record AreNeighbours (f : Format) (p q : Pair) (left right : List Numbered) : Type 0 where
+pub record LoadAsNeighbours (f : Format) (p q : Pair) (left right : List Numbered) : Type 0 where
   pub left_data : List ℕ
   pub left_delta : List ℕ
   pub right_data : List ℕ
@@ -95,9 +95,9 @@ pub record AreNeighbours (f : Format) (p q : Pair) (left right : List Numbered) 
 
 -- The records of two neighbours keep the rules of a data file from the lo of the left pair to the
 -- hi of the right one.
-abbrev pub GivesEntries : Type 0
-GivesEntries = (f : Format) (p q : Pair) (left right : List Numbered) →
-    AreNeighbours f p q left right → AreEntries f p.lo.0 q.hi.0 (merged left right)
+abbrev pub MergeGivesEntries : Type 0
+MergeGivesEntries = (f : Format) (p q : Pair) (left right : List Numbered) →
+    LoadAsNeighbours f p q left right → AreEntries f p.lo.0 q.hi.0 (merged left right)
 
 -- They are as many as both pairs have live ones.
 abbrev pub HasBoth : Type 0
@@ -105,9 +105,9 @@ HasBoth = (left right : List Numbered) →
     length (merged left right) ≡ length left + length right
 
 -- They are no more than a pair may have, where the counts say so.
-abbrev pub IsFewEnough : Type 0
-IsFewEnough = (f : Format) (p q : Pair) (left right : List Numbered) →
-    AreNeighbours f p q left right →
+abbrev pub MergeIsFewEnough : Type 0
+MergeIsFewEnough = (f : Format) (p q : Pair) (left right : List Numbered) →
+    LoadAsNeighbours f p q left right →
     (p.records - p.entries) + (q.records - q.entries) ≤ MAX_PAIR_RECORDS →
     length left + length right ≤ MAX_PAIR_RECORDS
 
@@ -123,7 +123,7 @@ abbrev pub LoadsMerged : Type 0
 LoadsMerged = (f : Format) (p : Pair) (left right : List Numbered) (late_left late_right : List ℕ)
     (data_bytes delta_bytes : List ℕ) →
     HasEntries f p.lo.0 p.hi.0 p.records (merged left right) data_bytes →
-    HasNumbers f.version p.records p.entries
+    HasDeadNumbers f.version p.records p.entries
     (renumbered (renumbering_of left right) late_left late_right) delta_bytes →
     LoadsAs f p data_bytes delta_bytes (Ok (live_after left right late_left late_right))
 

@@ -4,16 +4,16 @@ use Rattle.std.specs.List.{count_by, list_any}
 use Rattle.mvo_pair.specs.Data.{EntryData, Numbered, live_of}
 
 -- the numbers of live records
-abbrev pub numbers_of : List Numbered → List ℕ
-numbers_of live = map (λ l. l.0) live
+abbrev pub live_numbers : List Numbered → List ℕ
+live_numbers live = map (λ l. l.0) live
 
 -- the records without their numbers
-abbrev pub entries_of : List Numbered → List EntryData
-entries_of live = map (λ l. l.1) live
+abbrev pub entries_alone : List Numbered → List EntryData
+entries_alone live = map (λ l. l.1) live
 
 -- the live records of the left pair, and then of the right one
 abbrev pub merged : List Numbered → List Numbered → List EntryData
-merged left right = entries_of left ++ entries_of right
+merged left right = entries_alone left ++ entries_alone right
 
 -- ---- new numbers
 
@@ -27,7 +27,7 @@ pub record RenumberingData : Type 0 where
   pub right : List ℕ
 
 abbrev pub renumbering_of : List Numbered → List Numbered → RenumberingData
-renumbering_of left right = record { left = numbers_of left; right = numbers_of right }
+renumbering_of left right = record { left = live_numbers left; right = live_numbers right }
 
 -- a live record of the left pair has its rank among the live as its number
 abbrev pub of_left : RenumberingData → ℕ → ℕ

@@ -5,12 +5,12 @@ ghost use Rattle.mvo_merge.specs.Merged.{merged, renumbering_of};
 
 use crate::merged::Merged;
 use crate::renumbering::Renumbering;
-use mvo_pair::{Entry, Live};
+use mvo_pair::{DataRecord, Live};
 use mvo_types::MAX_PAIR_RECORDS;
 use std::alloc::{AllocError, Global};
 
 /// Appends the records without their numbers.
-fn add_records(records: &mut Vec<Entry>, live: Vec<Live>) -> Result<(), AllocError>
+fn add_records(records: &mut Vec<DataRecord>, live: Vec<Live>) -> Result<(), AllocError>
     ensures { OnOk result (records.new.items ≡
         records.old.items ++ map (λ l. l.1) live.items) }
 {

@@ -1,6 +1,6 @@
-ghost use Rattle.mvo_merge.specs.Laws.{GainedAreLate, LeavesOthers, NoneIsLate, AllAreLive};
-ghost use Rattle.mvo_merge.specs.Laws.{LiveInOne, LiveInEither, KeepsRows, StaysApart, CountsLive, GivesEntries};
-ghost use Rattle.mvo_merge.specs.Laws.{HasBoth, IsFewEnough, GivesNumbers, LoadsMerged};
+ghost use Rattle.mvo_merge.specs.Laws.{GainedAreLate, MergeLeavesOthers, NoneIsLate, AllAreLive};
+ghost use Rattle.mvo_merge.specs.Laws.{LiveInOne, LiveInEither, MergeKeepsRows, MergeStaysApart, CountsLive, MergeGivesEntries};
+ghost use Rattle.mvo_merge.specs.Laws.{HasBoth, MergeIsFewEnough, GivesNumbers, LoadsMerged};
 ghost use Rattle.mvo_merge.specs.Laws.{OwnKeys, PlacesMerged};
 
 /// The laws of a merge of two neighbouring pairs, whose deltas may gain numbers of live records
@@ -11,17 +11,17 @@ ghost use Rattle.mvo_merge.specs.Laws.{OwnKeys, PlacesMerged};
 /// pair. Where the places are moved, each live record has its place. The call does nothing.
 pub fn laws_of_merge()
     ensures gained { GainedAreLate }
-    ensures others { LeavesOthers }
+    ensures others { MergeLeavesOthers }
     ensures none { NoneIsLate }
     ensures all { AllAreLive }
     ensures live { LiveInOne }
     ensures either { LiveInEither }
-    ensures rows { KeepsRows }
-    ensures apart { StaysApart }
+    ensures rows { MergeKeepsRows }
+    ensures apart { MergeStaysApart }
     ensures counted { CountsLive }
-    ensures entries { GivesEntries }
+    ensures entries { MergeGivesEntries }
     ensures both { HasBoth }
-    ensures few { IsFewEnough }
+    ensures few { MergeIsFewEnough }
     ensures numbers { GivesNumbers }
     ensures loads { LoadsMerged }
     ensures keys { OwnKeys }

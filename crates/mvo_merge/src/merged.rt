@@ -1,12 +1,12 @@
 use crate::renumbering::Renumbering;
-use mvo_pair::Entry;
+use mvo_pair::DataRecord;
 use std::marker::Model;
 
 /// What a merge makes of two pairs.
 #[derive(Debug, Drop)]
 pub struct Merged {
     /// The live records of the left pair and then of the right one, as they stand.
-    pub records: Vec<Entry>,
+    pub records: Vec<DataRecord>,
     /// Which number each of them had.
     pub renumbering: Renumbering,
 }

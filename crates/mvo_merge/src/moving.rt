@@ -3,8 +3,8 @@ ghost use Rattle.std.specs.Prelude.{◌≡◌, ◌<◌, ◌≤◌, length};
 ghost use Rattle.std.specs.FinMap.{get};
 ghost use Rattle.mvo_merge.specs.Moved.{HaveOwnKeys, lies_in, with_one, moved};
 
-use mvo_pair::Entry;
-use mvo_places::{Place, Places};
+use mvo_pair::DataRecord;
+use mvo_places::{Places, RecordPlace};
 use mvo_types::{MAX_FILE, MAX_PAIR_RECORDS, RowKey};
 
 /// Whether the key has its place in one of the two data files.
@@ -18,7 +18,7 @@ fn lies_in(places: &Places, left: u16, right: u16, key: RowKey) -> bool
 }
 
 /// Gives the key another place, where it has its place in one of the two data files.
-fn move_place(places: &mut Places, left: u16, right: u16, key: RowKey, place: Place)
+fn move_place(places: &mut Places, left: u16, right: u16, key: RowKey, place: RecordPlace)
     requires file { place.data_file ≤ MAX_FILE }
     requires number { place.number < MAX_PAIR_RECORDS }
     ensures moved { places.new.at ≡ with_one left right key place places.old.at }
@@ -37,7 +37,13 @@ fn move_place(places: &mut Places, left: u16, right: u16, key: RowKey, place: Pl
 ///
 /// So it is where each record has a key of its own. It takes no memory and no room, and the time of
 /// two look-ups a record.
-pub fn move_places(places: &mut Places, left: u16, right: u16, data_file: u16, records: &[Entry])
+pub fn move_places(
+    places: &mut Places,
+    left: u16,
+    right: u16,
+    data_file: u16,
+    records: &[DataRecord],
+)
     requires file { data_file ≤ MAX_FILE }
     requires few { length records.now ≤ MAX_PAIR_RECORDS }
     ensures moved { HaveOwnKeys records.now →
@@ -45,7 +51,7 @@ pub fn move_places(places: &mut Places, left: u16, right: u16, data_file: u16, r
     ensures room { places.new.room ≡ places.old.room }
 {
     for (number, entry) in records.iter().enumerate() {
-        let place = Place {
+        let place = RecordPlace {
             data_file,
             number: number as u32,
         };

@@ -19,6 +19,7 @@ use Rattle.mvo_types.specs.declared.row.RowKey.{RowKey}
 use Rattle.mvo_types.specs.RowData.{RowData, ContentData, row_with}
 use Rattle.mvo_types.specs.Keys.{Map, key_cmp}
 use Rattle.mvo_types.specs.RowLists.{is_within, rows_by_key, rows_within}
+use Rattle.mvo_types.proofs.Ranges.{first, second}
 use Rattle.mvo_model.specs.Serial.{scan_cmp, IsScan, scan}
 use Rattle.mvo_model.specs.Trace.{Step, commits, end_cmp, IsCommitOrder, committed}
 use Rattle.mvo_model.proofs.Orders.{in_order_is, only_in_order}
@@ -33,15 +34,7 @@ end_total = on_total (λ (c : ℕ × ℕ). c.0) nat_cmp_total
 abbrev row_cmp : RowData → RowData → Ordering
 row_cmp a b = key_cmp a.key b.key
 
-first : (a b : Bool) → T (a && b) → T a
-first true b h = tt
-first false b h = h
-
-second : (a b : Bool) → T (a && b) → T b
-second true b h = h
-second false b h = absurd h
-
-less_of : (o : Ordering) → T (is_lt o) → o ≡ Less
+pub less_of : (o : Ordering) → T (is_lt o) → o ≡ Less
 less_of Less h = refl
 less_of Equal h = absurd h
 less_of Greater h = absurd h
@@ -68,7 +61,7 @@ one_table table low high (r ∷ rows) = go (is_within table low high r) refl (on
     go true e all = (eqb-true _ _ (and_first (r.key.table == table) (nat_le low r.sort && nat_le r.sort high) e), all)
     go false e all = all
 
-same_table : (o p : Ordering) → o ≡ Equal → ordering_then o p ≡ Less → p ≡ Less
+pub same_table : (o p : Ordering) → o ≡ Equal → ordering_then o p ≡ Less → p ≡ Less
 same_table Less p e f = absurd cc
 same_table Equal p e f = f
 same_table Greater p e f = absurd cc
@@ -78,7 +71,7 @@ differ Less p e = refl
 differ Equal p e = ap is_eq e
 differ Greater p e = refl
 
-nat_equal : (x y : ℕ) → x ≡ y → nat_cmp x y ≡ Equal
+pub nat_equal : (x y : ℕ) → x ≡ y → nat_cmp x y ≡ Equal
 nat_equal x y e = subst (λ z. nat_cmp x z ≡ Equal) e (same (nat_cmp x x) (nat_cmp_total.antisymm x x))
   where
     same : (o : Ordering) → o ≡ ordering_reverse o → o ≡ Equal

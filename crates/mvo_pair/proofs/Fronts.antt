@@ -12,37 +12,37 @@ use Rattle.mvo_format.proofs.Fronts.{front_taken, front_back}
 use Rattle.mvo_pair.specs.declared.pair.Pair.{Pair}
 use Rattle.mvo_pair.specs.declared.unread.Unread.TheVariants.{Memory, Broken, OtherVersion}
 use Rattle.mvo_pair.specs.Data.{EntryData, Numbered, live_of}
-use Rattle.mvo_pair.specs.Answers.{Found, IsFound, Goes, After, IsOnly}
-use Rattle.mvo_pair.specs.Files.{header, data_magic, delta_magic, IsOtherVersion, entry_bytes, data_bytes, IsEntry, HasEntries, delta_bytes, HasNumbers}
+use Rattle.mvo_pair.specs.Answers.{FoundOrUnread, IsFound, Goes, After, IsOnly}
+use Rattle.mvo_pair.specs.Files.{file_header, data_magic, delta_magic, HasOtherVersion, entry_bytes, data_bytes, IsEntry, HasEntries, delta_bytes, HasDeadNumbers}
 use Rattle.mvo_pair.specs.Loading.{DataSays, DeltaSays, LoadsAs, data_reach, delta_reach}
 use Rattle.mvo_pair.proofs.Appends.{length-delta}
 
 -- ---- headers
 
-length-header : (magic : List ℕ) (version : ℕ) → length magic ≡ 4 → length (header magic version) ≡ 8
+length-header : (magic : List ℕ) (version : ℕ) → length magic ≡ 4 → length (file_header magic version) ≡ 8
 length-header magic version four = omega (arith, length-append magic (field 4 version), length-field 4 version, four)
 
 module _ (n : ℕ) (magic : List ℕ) (version : ℕ) (bytes : List ℕ) where
-  other_in_front : length magic ≡ 4 → 8 ≤ n → IsOtherVersion magic version bytes → IsOtherVersion magic version (take n bytes)
+  other_in_front : length magic ≡ 4 → 8 ≤ n → HasOtherVersion magic version bytes → HasOtherVersion magic version (take n bytes)
   other_in_front four le o = record {
     number = o.number;
-    rest = take (n - length (header magic o.number)) o.rest;
-    whole = front_taken n bytes (header magic o.number) o.rest (omega (arith, le, length-header magic o.number four)) o.whole;
+    rest = take (n - length (file_header magic o.number)) o.rest;
+    whole = front_taken n bytes (file_header magic o.number) o.rest (omega (arith, le, length-header magic o.number four)) o.whole;
     fits = o.fits;
     other = o.other;
   }
 
-  other_of_front : IsOtherVersion magic version (take n bytes) → IsOtherVersion magic version bytes
+  other_of_front : HasOtherVersion magic version (take n bytes) → HasOtherVersion magic version bytes
   other_of_front o = record {
     number = o.number;
     rest = o.rest ++ drop n bytes;
-    whole = front_back n bytes (header magic o.number) o.rest o.whole;
+    whole = front_back n bytes (file_header magic o.number) o.rest o.whole;
     fits = o.fits;
     other = o.other;
   }
 
 -- where two files are of another version alike, and hold the same values, the same is found
-found_alike : {X : Type 0} (OtherA OtherB : Type 0) (A B : X → Type 0) → (OtherA → OtherB) → (OtherB → OtherA) → ((x : X) → A x → B x) → ((x : X) → B x → A x) → (found : Found X) → IsFound OtherA A found → IsFound OtherB B found
+found_alike : {X : Type 0} (OtherA OtherB : Type 0) (A B : X → Type 0) → (OtherA → OtherB) → (OtherB → OtherA) → ((x : X) → A x → B x) → ((x : X) → B x → A x) → (found : FoundOrUnread X) → IsFound OtherA A found → IsFound OtherB B found
 found_alike OtherA OtherB A B over back holds held (Ok x) s = holds x s
 found_alike OtherA OtherB A B over back holds held (Err OtherVersion) s = over s
 found_alike OtherA OtherB A B over back holds held (Err Broken) s = (λ o. s.0 (back o), λ x h. s.1 x (held x h))
@@ -68,7 +68,7 @@ module _ (f : Format) (p : Pair) (bytes : List ℕ) where
 
   length-data : (es : List EntryData) → HasEntries f p.lo.0 p.hi.0 p.records es bytes → length (data_bytes f.version es) ≤ n
   length-data es h =
-      let whole : length (data_bytes f.version es) ≡ length (header data_magic f.version) + length (flat_map entry_bytes es) = length-append (header data_magic f.version) (flat_map entry_bytes es) in
+      let whole : length (data_bytes f.version es) ≡ length (file_header data_magic f.version) + length (flat_map entry_bytes es) = length-append (file_header data_magic f.version) (flat_map entry_bytes es) in
       let most = subst (λ (k : ℕ). length (flat_map entry_bytes es) ≤ k * (27 + f.max_data_len)) h.counted (length-entries f p.lo.0 p.hi.0 es (recursion_from_All (IsEntry f p.lo.0 p.hi.0) es h.are.each)) in
       omega (arith, whole, most, length-header data_magic f.version refl)
 
@@ -84,12 +84,12 @@ module _ (f : Format) (p : Pair) (bytes : List ℕ) where
   Holds l es = HasEntries f p.lo.0 p.hi.0 p.records es l
 
   abbrev Other : List ℕ → Type 0
-  Other l = IsOtherVersion data_magic f.version l
+  Other l = HasOtherVersion data_magic f.version l
 
-  data_of_front : (found : Found (List EntryData)) → DataSays f p (take n bytes) found → DataSays f p bytes found
+  data_of_front : (found : FoundOrUnread (List EntryData)) → DataSays f p (take n bytes) found → DataSays f p bytes found
   data_of_front = found_alike (Other (take n bytes)) (Other bytes) (Holds (take n bytes)) (Holds bytes) (other_of_front n data_magic f.version bytes) (other_in_front n data_magic f.version bytes refl (omega arith)) entries_of_front entries_in_front
 
-  data_in_front : (found : Found (List EntryData)) → DataSays f p bytes found → DataSays f p (take n bytes) found
+  data_in_front : (found : FoundOrUnread (List EntryData)) → DataSays f p bytes found → DataSays f p (take n bytes) found
   data_in_front = found_alike (Other bytes) (Other (take n bytes)) (Holds bytes) (Holds (take n bytes)) (other_in_front n data_magic f.version bytes refl (omega arith)) (other_of_front n data_magic f.version bytes) entries_in_front entries_of_front
 
 -- ---- delta files
@@ -99,10 +99,10 @@ module _ (f : Format) (p : Pair) (bytes : List ℕ) where
   m = delta_reach p
 
   abbrev HoldsNumbers : List ℕ → List ℕ → Type 0
-  HoldsNumbers l ns = HasNumbers f.version p.records p.entries ns l
+  HoldsNumbers l ns = HasDeadNumbers f.version p.records p.entries ns l
 
   abbrev OtherDelta : List ℕ → Type 0
-  OtherDelta l = IsOtherVersion delta_magic f.version l
+  OtherDelta l = HasOtherVersion delta_magic f.version l
 
   numbers_in_front : (ns : List ℕ) → HoldsNumbers bytes ns → HoldsNumbers (take m bytes) ns
   numbers_in_front ns h =
@@ -113,19 +113,19 @@ module _ (f : Format) (p : Pair) (bytes : List ℕ) where
   numbers_of_front : (ns : List ℕ) → HoldsNumbers (take m bytes) ns → HoldsNumbers bytes ns
   numbers_of_front ns h = record { rest = h.rest ++ drop m bytes; whole = front_back m bytes (delta_bytes f.version ns) h.rest h.whole; counted = h.counted; are = h.are }
 
-  delta_of_front : (found : Found (List ℕ)) → DeltaSays f p (take m bytes) found → DeltaSays f p bytes found
+  delta_of_front : (found : FoundOrUnread (List ℕ)) → DeltaSays f p (take m bytes) found → DeltaSays f p bytes found
   delta_of_front = found_alike (OtherDelta (take m bytes)) (OtherDelta bytes) (HoldsNumbers (take m bytes)) (HoldsNumbers bytes) (other_of_front m delta_magic f.version bytes) (other_in_front m delta_magic f.version bytes refl (omega arith)) numbers_of_front numbers_in_front
 
-  delta_in_front : (found : Found (List ℕ)) → DeltaSays f p bytes found → DeltaSays f p (take m bytes) found
+  delta_in_front : (found : FoundOrUnread (List ℕ)) → DeltaSays f p bytes found → DeltaSays f p (take m bytes) found
   delta_in_front = found_alike (OtherDelta bytes) (OtherDelta (take m bytes)) (HoldsNumbers bytes) (HoldsNumbers (take m bytes)) (other_in_front m delta_magic f.version bytes refl (omega arith)) (other_of_front m delta_magic f.version bytes) numbers_in_front numbers_of_front
 
 -- ---- the pair
 
 -- where two files say the same, and the same comes next, the same is answered
-after_alike : {X Y : Type 0} (file : ℕ) (A B : Found X → Type 0) (first second : X → Result Y Refusal → Type 0) → ((found : Found X) → A found → B found) → ((x : X) (out : Result Y Refusal) → first x out → second x out) → (out : Result Y Refusal) → After file A first out → After file B second out
+after_alike : {X Y : Type 0} (file : ℕ) (A B : FoundOrUnread X → Type 0) (first second : X → Result Y Refusal → Type 0) → ((found : FoundOrUnread X) → A found → B found) → ((x : X) (out : Result Y Refusal) → first x out → second x out) → (out : Result Y Refusal) → After file A first out → After file B second out
 after_alike {X} {Y} file A B first second over next out h = (h.0, over h.0 h.1, go h.0 h.2)
   where
-    go : (found : Found X) → Goes {Y = Y} file first found out → Goes {Y = Y} file second found out
+    go : (found : FoundOrUnread X) → Goes {Y = Y} file first found out → Goes {Y = Y} file second found out
     go (Ok x) goes = next x out goes
     go (Err e) goes = goes
 

@@ -3,12 +3,12 @@ ghost use Rattle.std.specs.Prelude.{◌≡◌, ◌≤◌, ◌<◌, ◌+◌, ◌^
 ghost use Rattle.std.specs.List.{flat_map};
 ghost use Rattle.mvo_disk.specs.Disk.{Holds, Only, OthersStay, LeavesOnly, Touched, IsHonest};
 ghost use Rattle.mvo_bytes.specs.Fields.{field};
-ghost use Rattle.mvo_pair.specs.Files.{AreEntries, AreNumbers, HasEntries, HasNumbers, data_bytes, delta_bytes};
+ghost use Rattle.mvo_pair.specs.Files.{AreEntries, AreNumbers, HasEntries, HasDeadNumbers, data_bytes, delta_bytes};
 ghost use Rattle.mvo_pair.specs.Writing.{IsWriteRefusal, KeepsNumbers, GainsNumbers, place_behind};
 
+use crate::data_record::DataRecord;
 use crate::delta::NUMBER;
 use crate::encode::{encode_data, encode_delta, encode_numbers};
-use crate::entry::Entry;
 use crate::header::HEADER;
 use crate::pair::Pair;
 use mvo_disk::{Disk, rewrite_synced, write_synced};
@@ -23,7 +23,7 @@ pub fn write_data<D: Disk>(
     disk: &mut D,
     format: Format,
     pair: Pair,
-    entries: &[Entry],
+    entries: &[DataRecord],
 ) -> Result<(), Refusal>
     requires file { pair.data_file < 1024 }
     requires room { D.fault_count disk.old + 1 < 2 ^ 64 }
@@ -63,7 +63,7 @@ pub fn write_delta<D: Disk>(
     ensures written { OnOk result
         (D.content disk.new pair.delta_file ≡ delta_bytes format.version numbers.now) }
     ensures holds { OnOk result ((below : ℕ) → AreNumbers below numbers.now →
-        HasNumbers format.version below (length numbers.now) numbers.now
+        HasDeadNumbers format.version below (length numbers.now) numbers.now
         (D.content disk.new pair.delta_file)) }
     ensures durable { OnOk result (Only (D.content disk.new pair.delta_file)
         (D.may_leave disk.new pair.delta_file)) }

@@ -10,8 +10,8 @@ use Rattle.mvo_types.specs.Keys.{key_cmp}
 use Rattle.mvo_types.proofs.Maps.{keys_total, exact_keys}
 use Rattle.mvo_pair.specs.Data.{Numbered, key_of, keys_of}
 use Rattle.mvo_pair.specs.declared.pair.Pair.{Pair}
-use Rattle.mvo_places.specs.declared.place.Place.{Place}
-use Rattle.mvo_places.specs.Places.{PlaceMap, place, places_in, places_of, Rise, with_live}
+use Rattle.mvo_places.specs.declared.record_place.RecordPlace.{RecordPlace}
+use Rattle.mvo_places.specs.Places.{PlaceMap, place, places_in, record_places, Rise, with_live}
 use Rattle.mvo_places.specs.Laws.{NoPlaces, PlacesGrow}
 use Rattle.mvo_places.proofs.Members.{Among, among_map}
 use Rattle.mvo_places.proofs.Keys.{eq, eq_self}
@@ -31,7 +31,7 @@ differs_before (z ∷ xs) k ys x differ (inr a) = differs_before xs k ys x diffe
 not_found : (es : Entries) (k : RowKey) (ys : List RowKey) → IsDistinct eq (map first_of es ++ k ∷ ys) → find key_cmp k es ≡ None
 not_found es k ys differ = go (find key_cmp k es) refl
   where
-    go : (o : Option Place) → find key_cmp k es ≡ o → o ≡ None
+    go : (o : Option RecordPlace) → find key_cmp k es ≡ o → o ≡ None
     go None is = refl
     go (Some v) is =
         let same : eq k k ≡ false = differs_before (map first_of es) k ys k differ (among_map first_of es (k, v) (found_among es k v is)) in
@@ -50,26 +50,26 @@ grown file (l ∷ live) es differ =
     ∙ grown file live more (subst (λ (ks : List RowKey). IsDistinct eq ks) (sym keys) differ)
     ∙ ap (λ (x : Entries). from_entries {R = key_cmp} x) (append_assoc es ((key_of l, v) ∷ []) (places_in file live))
 
-pub places-push : (ps : List Pair) (lives : List (List Numbered)) (p : Pair) (live : List Numbered) → length ps ≡ length lives → places_of (ps ++ p ∷ []) (lives ++ live ∷ []) ≡ places_of ps lives ++ places_in p.data_file live
+pub places-push : (ps : List Pair) (lives : List (List Numbered)) (p : Pair) (live : List Numbered) → length ps ≡ length lives → record_places (ps ++ p ∷ []) (lives ++ live ∷ []) ≡ record_places ps lives ++ places_in p.data_file live
 places-push [] [] p live same = append-nil (places_in p.data_file live)
 places-push [] (m ∷ lives) p live same = absurd (omega (arith, same))
 places-push (q ∷ ps) [] p live same = absurd (omega (arith, same))
 places-push (q ∷ ps) (m ∷ lives) p live same =
     ap (λ (es : Entries). places_in q.data_file m ++ es) (places-push ps lives p live (omega (arith, same)))
-    ∙ sym (append_assoc (places_in q.data_file m) (places_of ps lives) (places_in p.data_file live))
+    ∙ sym (append_assoc (places_in q.data_file m) (record_places ps lives) (places_in p.data_file live))
 
 pub rise-push : (lives : List (List Numbered)) (live : List Numbered) → AllByRecursion Rise lives → Rise live → AllByRecursion Rise (lives ++ live ∷ [])
 rise-push [] live all up = (up, tt)
 rise-push (m ∷ lives) live all up = (all.0, rise-push lives live all.1 up)
 
-keys-push : (lives : List (List Numbered)) (live : List Numbered) → keys_of (lives ++ live ∷ []) ≡ keys_of lives ++ map key_of live
+pub keys-push : (lives : List (List Numbered)) (live : List Numbered) → keys_of (lives ++ live ∷ []) ≡ keys_of lives ++ map key_of live
 keys-push lives live =
     flat_map-append (λ l. map key_of l) lives (live ∷ [])
     ∙ ap (λ (ks : List RowKey). keys_of lives ++ ks) (flat_map-cons (λ l. map key_of l) live [] ∙ append-nil (map key_of live))
 
 pub places_grow : PlacesGrow
 places_grow ps lives at p live are files apart up =
-    let keys : keys_of (lives ++ live ∷ []) ≡ map first_of (places_of ps lives) ++ map key_of live =
+    let keys : keys_of (lives ++ live ∷ []) ≡ map first_of (record_places ps lives) ++ map key_of live =
     keys-push lives live ∙ ap (λ (ks : List RowKey). ks ++ map key_of live) (sym (keys-places_of ps lives are.each)) in
     record {
       each = omega (arith, length-append ps (p ∷ []), length-append lives (live ∷ []), are.each);
@@ -77,7 +77,7 @@ places_grow ps lives at p live are files apart up =
       apart = apart;
       rise = rise-push lives live are.rise up;
       are = ap (λ (m : PlaceMap). with_live p.data_file live m) are.are
-          ∙ grown p.data_file live (places_of ps lives) (subst (λ (ks : List RowKey). IsDistinct eq ks) keys apart)
+          ∙ grown p.data_file live (record_places ps lives) (subst (λ (ks : List RowKey). IsDistinct eq ks) keys apart)
           ∙ ap (λ (es : Entries). from_entries {R = key_cmp} es) (sym (places-push ps lives p live are.each));
     }
 

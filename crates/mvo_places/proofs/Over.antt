@@ -10,9 +10,9 @@ use Rattle.mvo_types.specs.declared.row.RowKey.{RowKey}
 use Rattle.mvo_types.specs.declared.limits.TheConstants.{MAX_PAIR_RECORDS}
 use Rattle.mvo_types.specs.Keys.{key_cmp}
 use Rattle.mvo_types.proofs.Maps.{keys_total, exact_keys}
-use Rattle.mvo_hash.specs.Table.{Map}
-use Rattle.mvo_places.specs.declared.place.Place.{Place}
-use Rattle.mvo_places.specs.Places.{placed, place_of, number_of}
+use Rattle.mvo_hash.specs.Table.{KeyNumbers}
+use Rattle.mvo_places.specs.declared.record_place.RecordPlace.{RecordPlace}
+use Rattle.mvo_places.specs.Places.{numbers_as_places, place_numbered, number_of}
 use Rattle.mvo_places.specs.Falling.{keys, HaveDistinctKeys}
 use Rattle.mvo_places.specs.Fixed.{Numbers, with_number, AllLive, live_place, places_of_live, with_or_without, numbers_over}
 use Rattle.mvo_places.proofs.Placing.{get-placed, place_of-number_of}
@@ -21,11 +21,11 @@ use Rattle.mvo_places.proofs.Members.{Among, among_from, among_map, all_among}
 
 -- ---- what stands at a key
 
-get-with_or_without : (m : Map) (k : RowKey) (o : Option ℕ) (q : RowKey) → get (with_or_without m k o) q ≡ cond (eq q k) o (get m q)
+get-with_or_without : (m : KeyNumbers) (k : RowKey) (o : Option ℕ) (q : RowKey) → get (with_or_without m k o) q ≡ cond (eq q k) o (get m q)
 get-with_or_without m k None q = get-remove keys_total m k q
 get-with_or_without m k (Some n) q = get-insert keys_total m k n q
 
-pub get-over : (es : Numbers) (m : Map) (q : RowKey) → get (numbers_over es m) q ≡ unwrap_or (find key_cmp q es) (get m q)
+pub get-over : (es : Numbers) (m : KeyNumbers) (q : RowKey) → get (numbers_over es m) q ≡ unwrap_or (find key_cmp q es) (get m q)
 get-over [] m q = refl
 get-over (e ∷ es) m q = get-with_or_without (numbers_over es m) e.0 e.1 q ∙ go (eq q e.0) (get-over es m q)
   where
@@ -57,7 +57,7 @@ given None o d some = absurd cc
 given (Some x) o d some = refl
 
 -- at a key of the opening
-pub over-fixed : (es : Numbers) (m : Map) (k : RowKey) (o : Option ℕ) → IsSome (find key_cmp k es) → numbers_over (with_number es k o) m ≡ with_or_without (numbers_over es m) k o
+pub over-fixed : (es : Numbers) (m : KeyNumbers) (k : RowKey) (o : Option ℕ) → IsSome (find key_cmp k es) → numbers_over (with_number es k o) m ≡ with_or_without (numbers_over es m) k o
 over-fixed es m k o some = same_map keys_total exact_keys (numbers_over (with_number es k o) m) (with_or_without (numbers_over es m) k o) (λ q.
     get-over (with_number es k o) m q
     ∙ ap (λ (x : Option (Option ℕ)). unwrap_or x (get m q)) (find-with_number es k o q)
@@ -70,7 +70,7 @@ over-fixed es m k o some = same_map keys_total exact_keys (numbers_over (with_nu
     go q false is = refl
 
 -- at another key
-pub over-later : (es : Numbers) (m : Map) (k : RowKey) (o : Option ℕ) → find key_cmp k es ≡ None → numbers_over es (with_or_without m k o) ≡ with_or_without (numbers_over es m) k o
+pub over-later : (es : Numbers) (m : KeyNumbers) (k : RowKey) (o : Option ℕ) → find key_cmp k es ≡ None → numbers_over es (with_or_without m k o) ≡ with_or_without (numbers_over es m) k o
 over-later es m k o none = same_map keys_total exact_keys (numbers_over es (with_or_without m k o)) (with_or_without (numbers_over es m) k o) (λ q.
     get-over es (with_or_without m k o) q
     ∙ ap (unwrap_or (find key_cmp q es)) (get-with_or_without m k o q)
@@ -121,13 +121,13 @@ pub live-push : (es : Numbers) (k : RowKey) (n : ℕ) → AllLive es → AllLive
 live-push [] k n live = (refl, tt)
 live-push (e ∷ es) k n live = (live.0, live-push es k n live.1)
 
-pub places-live-push : (es : Numbers) (k : RowKey) (p : Place) → p.number < MAX_PAIR_RECORDS → places_of_live (es ++ (k, Some (number_of p)) ∷ []) ≡ places_of_live es ++ (k, p) ∷ []
+pub places-live-push : (es : Numbers) (k : RowKey) (p : RecordPlace) → p.number < MAX_PAIR_RECORDS → places_of_live (es ++ (k, Some (number_of p)) ∷ []) ≡ places_of_live es ++ (k, p) ∷ []
 places-live-push es k p small =
     filter_map-append live_place es ((k, Some (number_of p)) ∷ [])
-    ∙ ap (λ (x : Place). places_of_live es ++ (k, x) ∷ []) (place_of-number_of p small)
+    ∙ ap (λ (x : RecordPlace). places_of_live es ++ (k, x) ∷ []) (place_of-number_of p small)
 
 -- after a push that may have changed nothing
-pub places-pushed : (es : Numbers) (k : RowKey) (p : Place) (n : ℕ) → n ≡ number_of p → p.number < MAX_PAIR_RECORDS → (b : Bool) → places_of_live (cond b (es ++ (k, Some n) ∷ []) es) ≡ cond b (places_of_live es ++ (k, p) ∷ []) (places_of_live es)
+pub places-pushed : (es : Numbers) (k : RowKey) (p : RecordPlace) (n : ℕ) → n ≡ number_of p → p.number < MAX_PAIR_RECORDS → (b : Bool) → places_of_live (cond b (es ++ (k, Some n) ∷ []) es) ≡ cond b (places_of_live es ++ (k, p) ∷ []) (places_of_live es)
 places-pushed es k p n is small true = ap (λ (m : ℕ). places_of_live (es ++ (k, Some m) ∷ [])) is ∙ places-live-push es k p small
 places-pushed es k p n is small false = refl
 
@@ -141,20 +141,20 @@ keys-live [] live = refl
 keys-live ((k, None) ∷ es) live = let no : false ≡ true = live.0 in absurd cc
 keys-live ((k, Some n) ∷ es) live = ap (λ (ks : List RowKey). k ∷ ks) (keys-live es live.1)
 
-find-live : (es : Numbers) → AllLive es → (q : RowKey) → find key_cmp q (places_of_live es) ≡ option_map place_of (unwrap_or (find key_cmp q es) None)
+find-live : (es : Numbers) → AllLive es → (q : RowKey) → find key_cmp q (places_of_live es) ≡ option_map place_numbered (unwrap_or (find key_cmp q es) None)
 find-live [] live q = refl
 find-live ((k, None) ∷ es) live q = let no : false ≡ true = live.0 in absurd cc
 find-live ((k, Some n) ∷ es) live q = go (eq q k) (find-live es live.1 q)
   where
-    go : (b : Bool) → find key_cmp q (places_of_live es) ≡ option_map place_of (unwrap_or (find key_cmp q es) None) → cond b (Some (place_of n)) (find key_cmp q (places_of_live es)) ≡ option_map place_of (unwrap_or (cond b (Some (Some n)) (find key_cmp q es)) None)
+    go : (b : Bool) → find key_cmp q (places_of_live es) ≡ option_map place_numbered (unwrap_or (find key_cmp q es) None) → cond b (Some (place_numbered n)) (find key_cmp q (places_of_live es)) ≡ option_map place_numbered (unwrap_or (cond b (Some (Some n)) (find key_cmp q es)) None)
     go true later = refl
     go false later = later
 
 -- their places are those of a table without later keys
-pub placed-live : (es : Numbers) → AllLive es → placed (numbers_over es empty) ≡ from_entries (places_of_live es)
-placed-live es live = same_map keys_total exact_keys (placed (numbers_over es empty)) (from_entries (places_of_live es)) (λ q.
+pub placed-live : (es : Numbers) → AllLive es → numbers_as_places (numbers_over es empty) ≡ from_entries (places_of_live es)
+placed-live es live = same_map keys_total exact_keys (numbers_as_places (numbers_over es empty)) (from_entries (places_of_live es)) (λ q.
     get-placed (numbers_over es empty) q
-    ∙ ap (option_map place_of) (get-over es empty q ∙ ap (unwrap_or (find key_cmp q es)) (get-empty key_cmp q))
+    ∙ ap (option_map place_numbered) (get-over es empty q ∙ ap (unwrap_or (find key_cmp q es)) (get-empty key_cmp q))
     ∙ sym (find-live es live q)
     ∙ sym (get-from_entries keys_total (places_of_live es) q))
 
@@ -164,7 +164,7 @@ pub none_there : {X : Type 0} (o : Option X) → (IsSome o → IsTrue false) →
 none_there None absent = refl
 none_there (Some x) absent = let both : false ≡ true = absent refl in absurd cc
 
-pub after-fixed : (es new : Numbers) (m : Map) (k : RowKey) (o : Option ℕ) → new ≡ with_number es k o → IsSome (find key_cmp k es) → numbers_over new m ≡ with_or_without (numbers_over es m) k o
+pub after-fixed : (es new : Numbers) (m : KeyNumbers) (k : RowKey) (o : Option ℕ) → new ≡ with_number es k o → IsSome (find key_cmp k es) → numbers_over new m ≡ with_or_without (numbers_over es m) k o
 after-fixed es new m k o set some = ap (λ (xs : Numbers). numbers_over xs m) set ∙ over-fixed es m k o some
 
 -- where the key isn't one of the opening
@@ -175,11 +175,11 @@ module _ (es new : Numbers) (k : RowKey) (o : Option ℕ) (set : new ≡ with_nu
   pub same-fixed : new ≡ es
   same-fixed = set ∙ unchanged es k o none
 
-  pub after-later : (m later : Map) → later ≡ with_or_without m k o → numbers_over new later ≡ with_or_without (numbers_over es m) k o
+  pub after-later : (m later : KeyNumbers) → later ≡ with_or_without m k o → numbers_over new later ≡ with_or_without (numbers_over es m) k o
   after-later m later is =
       ap (λ (xs : Numbers). numbers_over xs later) same-fixed
       ∙ ap (numbers_over es) is
       ∙ over-later es m k o none
 
-  pub later-at : (m : Map) → get (numbers_over es m) k ≡ get m k
+  pub later-at : (m : KeyNumbers) → get (numbers_over es m) k ≡ get m k
   later-at m = get-over es m k ∙ ap (λ (x : Option (Option ℕ)). unwrap_or x (get m k)) none

@@ -9,7 +9,7 @@ use Rattle.mvo_types.specs.declared.row.RowKey.{RowKey}
 use Rattle.mvo_types.specs.Keys.{key_cmp}
 use Rattle.mvo_types.proofs.Maps.{keys_total}
 use Rattle.mvo_pair.specs.Data.{EntryData, Numbered, key_of}
-use Rattle.mvo_places.specs.declared.place.Place.{Place}
+use Rattle.mvo_places.specs.declared.record_place.RecordPlace.{RecordPlace}
 use Rattle.mvo_places.specs.Places.{PlaceMap, place, places_in, with_live, without_keys}
 use Rattle.mvo_places.proofs.Members.{Among, among_map, all_among}
 use Rattle.mvo_places.proofs.Keys.{eq, eq_self, eq_flips}
@@ -45,10 +45,10 @@ took file es n e at before after below is held put =
 
 -- ---- looking up
 
-pub found_none : (es : Entries) (k : RowKey) → ((v : Place) → Among es (k, v) → ⊥) → find key_cmp k es ≡ None
+pub found_none : (es : Entries) (k : RowKey) → ((v : RecordPlace) → Among es (k, v) → ⊥) → find key_cmp k es ≡ None
 found_none es k absent = go (find key_cmp k es) refl
   where
-    go : (o : Option Place) → find key_cmp k es ≡ o → o ≡ None
+    go : (o : Option RecordPlace) → find key_cmp k es ≡ o → o ≡ None
     go None is = refl
     go (Some v) is = absurd (absent v (found_among es k v is))
 
@@ -68,7 +68,7 @@ pub get-without : (ks : List RowKey) (at : PlaceMap) (q : RowKey) → get (witho
 get-without [] at q = refl
 get-without (k ∷ ks) at q =
     get-without ks (remove at k) q
-    ∙ ap (λ (o : Option Place). cond (list_any (eq q) ks) None o) (get-remove keys_total at k q)
+    ∙ ap (λ (o : Option RecordPlace). cond (list_any (eq q) ks) None o) (get-remove keys_total at k q)
     ∙ go (eq q k) (list_any (eq q) ks)
   where
     go : (b c : Bool) → cond c None (cond b None (get at q)) ≡ cond (b || c) None (get at q)
@@ -82,7 +82,7 @@ unfolding IsDistinct
 get-with file [] at q differ = refl
 get-with file (l ∷ live) at q differ =
     get-with file live (insert at (key_of l) (place file l.0)) q differ.1
-    ∙ ap (λ (o : Option Place). or_else (find key_cmp q (places_in file live)) o) (get-insert keys_total at (key_of l) (place file l.0) q)
+    ∙ ap (λ (o : Option RecordPlace). or_else (find key_cmp q (places_in file live)) o) (get-insert keys_total at (key_of l) (place file l.0) q)
     ∙ go (eq q (key_of l)) refl
   where
     other : eq q (key_of l) ≡ true → find key_cmp q (places_in file live) ≡ None
@@ -93,5 +93,5 @@ get-with file (l ∷ live) at q differ =
         absurd cc)
 
     go : (b : Bool) → eq q (key_of l) ≡ b → or_else (find key_cmp q (places_in file live)) (cond b (Some (place file l.0)) (get at q)) ≡ or_else (cond b (Some (place file l.0)) (find key_cmp q (places_in file live))) (get at q)
-    go true is = ap (λ (o : Option Place). or_else o (Some (place file l.0))) (other is)
+    go true is = ap (λ (o : Option RecordPlace). or_else o (Some (place file l.0))) (other is)
     go false is = refl

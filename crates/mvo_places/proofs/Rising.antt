@@ -4,7 +4,7 @@ use Rattle.std.specs.Prelude.{filter, not, ◌==◌, ◌||◌, All}
 use Rattle.std.specs.List.{enumerate_from, list_any, AllByRecursion}
 use Rattle.std.proofs.lemmas.List.Elements.{All-from_recursion}
 use Rattle.mvo_pair.specs.Data.{EntryData, Numbered, live_of}
-use Rattle.mvo_pair.specs.Answers.{Found, Goes, After}
+use Rattle.mvo_pair.specs.Answers.{FoundOrUnread, Goes, After}
 use Rattle.mvo_pair.specs.Loading.{DataSays, DeltaSays}
 use Rattle.mvo_pair.specs.declared.pair.Pair.{Pair}
 use Rattle.mvo_format.specs.declared.format.Format.{Format}
@@ -90,11 +90,11 @@ module _ (f : Format) (p : Pair) (delta : List ℕ) (live : List Numbered) where
   abbrev Rest : List EntryData → List ℕ → Result (List Numbered) Refusal → Type 0
   Rest es ns out = out ≡ Ok (live_of ns es)
 
-  of_numbers : (es : List EntryData) → length es ≡ p.records → (found : Found (List ℕ)) → Goes p.delta_file (Rest es) found (Ok live) → HasRising p live
+  of_numbers : (es : List EntryData) → length es ≡ p.records → (found : FoundOrUnread (List ℕ)) → Goes p.delta_file (Rest es) found (Ok live) → HasRising p live
   of_numbers es counted (Ok ns) is = let same : live ≡ live_of ns es = cc in subst (HasRising p) (sym same) (live_kept p ns es counted)
   of_numbers es counted (Err e) is = absurd cc
 
-  of_entries : (data_bytes : List ℕ) (found : Found (List EntryData)) → DataSays f p data_bytes found → Goes p.data_file (λ es. After p.delta_file (DeltaSays f p delta) (Rest es)) found (Ok live) → HasRising p live
+  of_entries : (data_bytes : List ℕ) (found : FoundOrUnread (List EntryData)) → DataSays f p data_bytes found → Goes p.data_file (λ es. After p.delta_file (DeltaSays f p delta) (Rest es)) found (Ok live) → HasRising p live
   of_entries data_bytes (Ok es) says goes = of_numbers es says.counted goes.0 goes.2
   of_entries data_bytes (Err e) says goes = absurd cc
 

@@ -9,15 +9,15 @@ use Rattle.std.specs.declared.cmp.Ordering.TheVariants.{Less}
 use Rattle.mvo_types.specs.declared.row.RowKey.{RowKey}
 use Rattle.mvo_types.specs.declared.limits.TheConstants.{MAX_TABLE}
 use Rattle.mvo_types.specs.Keys.{key_cmp, coded_key}
-use Rattle.mvo_places.specs.declared.place.Place.{Place}
-use Rattle.mvo_places.specs.Places.{coded_place}
+use Rattle.mvo_places.specs.declared.record_place.RecordPlace.{RecordPlace}
+use Rattle.mvo_places.specs.Places.{coded_record_place}
 
 -- keys with their places
 abbrev pub PlaceList : Type 0
-PlaceList = List (RowKey × Place)
+PlaceList = List (RowKey × RecordPlace)
 
 abbrev pub coded_place_list : Coded PlaceList
-coded_place_list = coded_list (coded× coded_key coded_place)
+coded_place_list = coded_list (coded× coded_key coded_record_place)
 
 abbrev pub keys : {V : Type 0} → List (RowKey × V) → List RowKey
 keys es = map (λ e. e.0) es

@@ -8,10 +8,10 @@ use Rattle.std.specs.Coded.{Coded, coded×, coded_option, coded_list, coded_ℕ}
 use Rattle.std.specs.FinMap as finite_map
 use Rattle.mvo_types.specs.declared.row.RowKey.{RowKey}
 use Rattle.mvo_types.specs.Keys.{key_cmp, coded_key}
-use Rattle.mvo_hash.specs.Table.{Map, Table}
+use Rattle.mvo_hash.specs.Table.{KeyNumbers, Table}
 use Rattle.mvo_places.specs.declared.fixed_key.TheConstants.{GONE}
-use Rattle.mvo_places.specs.declared.place.Place.{Place}
-use Rattle.mvo_places.specs.Places.{place_of, placed, PlaceTable}
+use Rattle.mvo_places.specs.declared.record_place.RecordPlace.{RecordPlace}
+use Rattle.mvo_places.specs.Places.{place_numbered, numbers_as_places, PlaceTable}
 use Rattle.mvo_places.specs.Falling.{PlaceList}
 
 -- ---- a key in 13 bytes
@@ -40,8 +40,8 @@ with_number es key number = map (λ e. (e.0, cond (eq_by_cmp key_cmp key e.0) nu
 abbrev pub AllLive : Numbers → Type 0
 AllLive es = AllByRecursion (λ e. IsSome e.1) es
 
-abbrev pub live_place : RowKey × Option ℕ → Option (RowKey × Place)
-live_place e = option_map (λ n. (e.0, place_of n)) e.1
+abbrev pub live_place : RowKey × Option ℕ → Option (RowKey × RecordPlace)
+live_place e = option_map (λ n. (e.0, place_numbered n)) e.1
 
 -- the places of the keys that have numbers
 abbrev pub places_of_live : Numbers → PlaceList
@@ -49,14 +49,15 @@ places_of_live es = filter_map live_place es
 
 -- ---- beside keys that came later
 
-abbrev pub with_or_without : Map → RowKey → Option ℕ → Map
+abbrev pub with_or_without : KeyNumbers → RowKey → Option ℕ → KeyNumbers
 with_or_without m key None = finite_map.remove m key
 with_or_without m key (Some n) = finite_map.insert m key n
 
 -- the numbers of later keys, under those of the keys that were there
-abbrev pub numbers_over : Numbers → Map → Map
+abbrev pub numbers_over : Numbers → KeyNumbers → KeyNumbers
 numbers_over [] later = later
 numbers_over (e ∷ es) later = with_or_without (numbers_over es later) e.0 e.1
 
 abbrev pub table_over : Numbers → Table → PlaceTable
-table_over es later = record { at = placed (numbers_over es later.numbers); room = later.room }
+table_over es later =
+    record { at = numbers_as_places (numbers_over es later.numbers); room = later.room }

@@ -1,4 +1,5 @@
 pub mod Places
+pub mod Rows
 pub mod Falling
 pub mod Fixed
 pub mod Laws

@@ -7,34 +7,34 @@ use Rattle.std.specs.FinMap as map
 use Rattle.mvo_types.specs.declared.row.RowKey.{RowKey}
 use Rattle.mvo_types.specs.declared.limits.TheConstants.{MAX_PAIR_RECORDS}
 use Rattle.mvo_types.specs.Keys.{key_cmp, coded_key}
-use Rattle.mvo_hash.specs.Table.{Map, Table}
+use Rattle.mvo_hash.specs.Table.{KeyNumbers, Table}
 use Rattle.mvo_pair.specs.Data.{EntryData, Numbered, key_of, AreApart}
 use Rattle.mvo_pair.specs.declared.pair.Pair.{Pair}
-use Rattle.mvo_places.specs.declared.place.Place.{Place}
+use Rattle.mvo_places.specs.declared.record_place.RecordPlace.{RecordPlace}
 
 -- ---- a finite map from keys to places
 
-abbrev pub place : ℕ → ℕ → Place
+abbrev pub place : ℕ → ℕ → RecordPlace
 place file number = record { data_file = file; number = number }
 
-abbrev pub coded_place : Coded Place
-coded_place =
+abbrev pub coded_record_place : Coded RecordPlace
+coded_record_place =
     code_by (ℕ × ℕ) (coded× coded_ℕ coded_ℕ) (λ p. (p.data_file, p.number))
     (λ x. place x.0 x.1) (λ _. refl)
 
 abbrev pub PlaceMap : Type 0
-PlaceMap = map.FinMap key_cmp Place
+PlaceMap = map.FinMap key_cmp RecordPlace
 
 abbrev pub coded_places : Coded PlaceMap
-coded_places = map.code coded_key coded_place
+coded_places = map.code coded_key coded_record_place
 
 -- the place of each key, and how many more keys can be put before every key is moved
 pub record PlaceTable : Type 0 where
   pub at : PlaceMap
   pub room : ℕ
 
-abbrev pub coded_table : Coded PlaceTable
-coded_table =
+abbrev pub coded_place_table : Coded PlaceTable
+coded_place_table =
     code_by (PlaceMap × ℕ) (coded× coded_places coded_ℕ) (λ t. (t.at, t.room))
     (λ x. record { at = x.0; room = x.1 }) (λ _. refl)
 
@@ -43,36 +43,37 @@ no_places = record { at = map.empty; room = 0 }
 
 -- ---- a place as one number
 
-abbrev pub number_of : Place → ℕ
+abbrev pub number_of : RecordPlace → ℕ
 number_of p = p.data_file * MAX_PAIR_RECORDS + p.number
 
-abbrev pub place_of : ℕ → Place
-place_of n = place (n / MAX_PAIR_RECORDS) (n % MAX_PAIR_RECORDS)
+abbrev pub place_numbered : ℕ → RecordPlace
+place_numbered n = place (n / MAX_PAIR_RECORDS) (n % MAX_PAIR_RECORDS)
 
-abbrev pub placed_by : RowKey × ℕ → RowKey × Place
-placed_by e = (e.0, place_of e.1)
+abbrev pub placed_by : RowKey × ℕ → RowKey × RecordPlace
+placed_by e = (e.0, place_numbered e.1)
 
 -- the numbers of a map as places
-abbrev pub placed : Map → PlaceMap
-placed numbers = map.from_entries (map placed_by (map.entries numbers))
+abbrev pub numbers_as_places : KeyNumbers → PlaceMap
+numbers_as_places numbers = map.from_entries (map placed_by (map.entries numbers))
 
-abbrev pub table_of : Table → PlaceTable
-table_of t = record { at = placed t.numbers; room = t.room }
+abbrev pub place_table_of : Table → PlaceTable
+place_table_of t = record { at = numbers_as_places t.numbers; room = t.room }
 
 -- each number is one that a pair may have
 pub record AreSmall (places : PlaceMap) : Type 0 where
-  pub each : (k : RowKey) (p : Place) → map.get places k ≡ Some p → p.number < MAX_PAIR_RECORDS
+  pub each : (k : RowKey) (p : RecordPlace) → map.get places k ≡ Some p
+      → p.number < MAX_PAIR_RECORDS
 
 -- ---- the places of live records
 
-abbrev pub places_in : ℕ → List Numbered → List (RowKey × Place)
+abbrev pub places_in : ℕ → List Numbered → List (RowKey × RecordPlace)
 places_in file live = map (λ l. (key_of l, place file l.0)) live
 
 -- the places of the live records of some pairs
-abbrev pub places_of : List Pair → List (List Numbered) → List (RowKey × Place)
-places_of [] lives = []
-places_of (p ∷ ps) [] = []
-places_of (p ∷ ps) (live ∷ lives) = places_in p.data_file live ++ places_of ps lives
+abbrev pub record_places : List Pair → List (List Numbered) → List (RowKey × RecordPlace)
+record_places [] lives = []
+record_places (p ∷ ps) [] = []
+record_places (p ∷ ps) (live ∷ lives) = places_in p.data_file live ++ record_places ps lives
 
 abbrev pub file_of : Pair → ℕ
 file_of p = p.data_file
@@ -89,7 +90,7 @@ pub record ArePlaces (ps : List Pair) (lives : List (List Numbered)) (places : P
   pub files : IsDistinct nat_eq (map file_of ps)
   pub apart : AreApart lives
   pub rise : AllByRecursion Rise lives
-  pub are : places ≡ map.from_entries (places_of ps lives)
+  pub are : places ≡ map.from_entries (record_places ps lives)
 
 -- ---- changes of places
 
@@ -103,5 +104,5 @@ without_keys ks at = fold (λ m k. map.remove m k) at ks
 
 -- the places after a checkpoint: those of its records, in the data file of its pair, and none of
 -- the keys at which it leaves no row
-abbrev pub taken_over : ℕ → List EntryData → List RowKey → PlaceMap → PlaceMap
-taken_over file es gone at = with_live file (enumerate_from 0 es) (without_keys gone at)
+abbrev pub taken_places : ℕ → List EntryData → List RowKey → PlaceMap → PlaceMap
+taken_places file es gone at = with_live file (enumerate_from 0 es) (without_keys gone at)

@@ -3,7 +3,7 @@ ghost use Rattle.mvo_places.specs.Falling.{MayStandLast, HaveDistinctKeys};
 ghost use Rattle.mvo_places.specs.Fixed.{places_of_live, AllLive};
 
 use crate::fixed_keys::FixedKeys;
-use crate::place::Place;
+use crate::record_place::RecordPlace;
 use mvo_types::{MAX_FILE, MAX_PAIR_RECORDS, RowKey};
 use std::alloc::{AllocError, Global};
 use std::marker::Model;
@@ -44,7 +44,7 @@ impl Falling {
     /// Puts a key behind the others, where it may stand there, and answers that: whether its table
     /// is one that there can be, and it is below the last key. It takes no memory where there is
     /// some for it.
-    pub fn push(&mut self, key: RowKey, place: Place) -> Result<bool, AllocError>
+    pub fn push(&mut self, key: RowKey, place: RecordPlace) -> Result<bool, AllocError>
         requires file { place.data_file ≤ MAX_FILE }
         requires number { place.number < MAX_PAIR_RECORDS }
         ensures answer { IfOk result (λ pushed. IsTrue pushed ↔ MayStandLast self.old key) }

@@ -6,10 +6,10 @@ mod falling;
 mod fixed_key;
 mod fixed_keys;
 mod laws;
-mod place;
 mod places;
+mod record_place;
 
 pub use falling::Falling;
 pub use laws::laws_of_places;
-pub use place::Place;
 pub use places::Places;
+pub use record_place::RecordPlace;

@@ -2,14 +2,14 @@ ghost use Rattle.std.specs.Prelude.{◌≡◌, ◌<◌, ◌≤◌, ◌+◌, leng
 ghost use Rattle.std.specs.Option.{option_map};
 ghost use Rattle.std.specs.FinMap as map;
 ghost use Rattle.mvo_places.specs.Places.{no_places, number_of, AreSmall, with_live};
-ghost use Rattle.mvo_places.specs.Places.{without_keys, taken_over};
+ghost use Rattle.mvo_places.specs.Places.{without_keys, taken_places};
 ghost use Rattle.mvo_places.specs.Falling.{HaveDistinctKeys};
 
 use crate::falling::Falling;
 use crate::fixed_keys::FixedKeys;
-use crate::place::Place;
+use crate::record_place::RecordPlace;
 use mvo_hash::OpenTable;
-use mvo_pair::{Entry, Live};
+use mvo_pair::{DataRecord, Live};
 use mvo_types::{MAX_FILE, MAX_PAIR_RECORDS, RowKey};
 use std::alloc::{AllocError, Global};
 use std::marker::Model;
@@ -38,11 +38,11 @@ impl Drop for Places {
 }
 
 impl Model for Places {
-    ghost use Rattle.mvo_places.specs.Places.{PlaceTable, coded_table};
+    ghost use Rattle.mvo_places.specs.Places.{PlaceTable, coded_place_table};
 
     ghost Value = { PlaceTable };
 
-    ghost coded = { coded_table };
+    ghost coded = { coded_place_table };
 
     ghost use Rattle.mvo_places.specs.Fixed.{table_over};
 
@@ -105,12 +105,12 @@ impl Places {
     }
 
     /// The place of a key.
-    pub fn get(&self, key: RowKey) -> Option<Place>
+    pub fn get(&self, key: RowKey) -> Option<RecordPlace>
         ensures place { result ≡ map.get self.now.at key }
         ensures small { AreSmall self.now.at }
     {
         match self.number(key) {
-            Some(number) => Some(Place {
+            Some(number) => Some(RecordPlace {
                 data_file: (number / MAX_PAIR_RECORDS) as u16,
                 number: number % MAX_PAIR_RECORDS,
             }),
@@ -120,7 +120,7 @@ impl Places {
 
     /// Gives the key the place. A key that is there takes no memory and no room. One that isn't
     /// takes room for one key at most; where there is none, it takes the time of moving every key.
-    pub fn put(&mut self, key: RowKey, place: Place) -> Result<(), AllocError>
+    pub fn put(&mut self, key: RowKey, place: RecordPlace) -> Result<(), AllocError>
         requires file { place.data_file ≤ MAX_FILE }
         requires number { place.number < MAX_PAIR_RECORDS }
         ensures ok { OnOk result (self.new.at ≡ map.insert self.old.at key place) }
@@ -158,7 +158,7 @@ impl Places {
         self.reserve(live.len())?;
         for one in live {
             let number = one.number;
-            self.put(one.entry.row.key, Place { data_file, number })?;
+            self.put(one.entry.row.key, RecordPlace { data_file, number })?;
         }
         Ok(())
     }
@@ -176,15 +176,15 @@ impl Places {
     /// Takes over what a checkpoint makes of the places: its records lie in the data file of its
     /// pair, each at its own number, and these keys have no record. The room for the records is
     /// there, so it takes no memory.
-    pub fn take_over(&mut self, data_file: u16, records: &[Entry], gone: &[RowKey])
+    pub fn take_over(&mut self, data_file: u16, records: &[DataRecord], gone: &[RowKey])
         requires file { data_file ≤ MAX_FILE }
         requires few { length records.now ≤ MAX_PAIR_RECORDS }
         requires room { length records.now ≤ self.old.room }
-        ensures { self.new.at ≡ taken_over data_file records.now gone.now self.old.at }
+        ensures { self.new.at ≡ taken_places data_file records.now gone.now self.old.at }
     {
         self.remove_keys(gone);
         for (number, entry) in records.iter().enumerate() {
-            let place = Place {
+            let place = RecordPlace {
                 data_file,
                 number: number as u32,
             };

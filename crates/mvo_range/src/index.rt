@@ -2,7 +2,7 @@ ghost use Rattle.std.specs.Prelude.{◌≡◌, ◌↔◌, ◌<◌, ◌^◌, OnOk
 ghost use Rattle.std.specs.FinMap as map;
 ghost use Rattle.mvo_range.specs.Place.{is_between, is_between_after, all_added, HasKey};
 
-use crate::place::Place;
+use crate::sort_place::SortPlace;
 use crate::walk::Walk;
 use std::alloc::{AllocError, Global};
 use std::collections::BTreeMap;
@@ -14,17 +14,17 @@ use std::ops::Bound;
 /// numbers, whose entries stand in the order of table, sort and key.
 #[derive(Drop)]
 pub struct RangeIndex {
-    held: BTreeMap<Place, u32>,
+    held: BTreeMap<SortPlace, u32>,
 }
 
 impl Model for RangeIndex {
     ghost use Rattle.std.specs.List.{All};
     ghost use Rattle.std.specs.FinMap as map;
-    ghost use Rattle.mvo_range.specs.Place.{Map, coded_map};
+    ghost use Rattle.mvo_range.specs.Place.{PlaceNumbers, coded_place_numbers};
 
-    ghost Value = { Map };
+    ghost Value = { PlaceNumbers };
 
-    ghost coded = { coded_map };
+    ghost coded = { coded_place_numbers };
 
     ghost view = { λ m. map.from_entries m.held.entries };
 
@@ -46,7 +46,10 @@ impl RangeIndex {
 
     /// The index of these entries, as if each had been added in turn. It is built in one go,
     /// fastest where they stand in order.
-    pub fn from_entries(alloc: Global, entries: Vec<(Place, u32)>) -> Result<RangeIndex, AllocError>
+    pub fn from_entries(
+        alloc: Global,
+        entries: Vec<(SortPlace, u32)>,
+    ) -> Result<RangeIndex, AllocError>
         ensures { IfOk result (λ m. m ≡ all_added entries.items) }
     {
         // The keys are of 64 bits, which the invariant asks for.
@@ -70,7 +73,7 @@ impl RangeIndex {
     }
 
     /// The number at a place.
-    pub fn get(&self, place: Place) -> Option<u32>
+    pub fn get(&self, place: SortPlace) -> Option<u32>
         ensures { result ≡ map.get self.now place }
     {
         self.held.get(&place).copied()
@@ -78,7 +81,7 @@ impl RangeIndex {
 
     /// Puts the number at a place, and answers the one that stood there before. Only a place with
     /// no entry takes memory, a node's now and then.
-    pub fn add(&mut self, place: Place, number: u32) -> Result<Option<u32>, AllocError>
+    pub fn add(&mut self, place: SortPlace, number: u32) -> Result<Option<u32>, AllocError>
         ensures ok { OnOk result (self.new ≡ map.insert self.old place number) }
         ensures before { IfOk result (λ r. r ≡ map.get self.old place) }
         ensures err { OnErr result (self.new ≡ self.old) }
@@ -90,7 +93,7 @@ impl RangeIndex {
     }
 
     /// Removes the entry at a place, and answers its number. It takes no memory.
-    pub fn remove(&mut self, place: Place) -> Option<u32>
+    pub fn remove(&mut self, place: SortPlace) -> Option<u32>
         ensures number { result ≡ map.get self.old place }
         ensures gone { self.new ≡ map.remove self.old place }
     {
@@ -102,7 +105,7 @@ impl RangeIndex {
     pub fn between(&self, table: u8, lo: u64, hi: u64) -> Walk<'_>
         ensures { result ≡ filter (is_between table lo hi) (map.entries self.now) }
     {
-        let first = Place {
+        let first = SortPlace {
             table,
             sort: lo,
             key: 0,
@@ -115,7 +118,7 @@ impl RangeIndex {
 
     /// A walk over those entries of the place's table that stand behind the place and whose sort is
     /// at most `hi`, so that a walk goes on where it was left.
-    pub fn after(&self, place: Place, hi: u64) -> Walk<'_>
+    pub fn after(&self, place: SortPlace, hi: u64) -> Walk<'_>
         ensures { result ≡ filter (is_between_after place hi) (map.entries self.now) }
     {
         if hi < place.sort {
@@ -129,10 +132,10 @@ impl RangeIndex {
     }
 }
 
-fn last_of(table: u8, sort: u64) -> Place
+fn last_of(table: u8, sort: u64) -> SortPlace
     ensures { result ≡ record { table = table; sort = sort; key = u64.MAX } }
 {
-    Place {
+    SortPlace {
         table,
         sort,
         key: u64::MAX,
@@ -141,7 +144,7 @@ fn last_of(table: u8, sort: u64) -> Place
 
 // For the proof alone: a key that was read is known to be one of 64 bits. The loop has no effect,
 // so that a compiler that optimises leaves it out.
-fn read_keys(entries: &[(Place, u32)])
+fn read_keys(entries: &[(SortPlace, u32)])
     ensures { All HasKey entries.now }
 {
     for (place, _) in entries {

@@ -2,9 +2,9 @@
 #![tactic(auto)]
 
 mod index;
-mod place;
+mod sort_place;
 mod walk;
 
 pub use index::RangeIndex;
-pub use place::Place;
+pub use sort_place::SortPlace;
 pub use walk::Walk;

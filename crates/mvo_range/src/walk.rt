@@ -1,4 +1,4 @@
-use crate::place::Place;
+use crate::sort_place::SortPlace;
 use std::collections::btree_map;
 use std::marker::Model;
 
@@ -6,14 +6,14 @@ use std::marker::Model;
 /// that are still to come.
 #[derive(Drop)]
 pub struct Walk<'a> {
-    entries: btree_map::Range<'a, Place, u32>,
+    entries: btree_map::Range<'a, SortPlace, u32>,
 }
 
 impl<'a> Model for Walk<'a> {
     ghost use Rattle.std.specs.Prelude.{ℕ, List};
-    ghost use Rattle.mvo_range.specs.declared.place.Place.{Place};
+    ghost use Rattle.mvo_range.specs.declared.sort_place.SortPlace.{SortPlace};
 
-    ghost Value = { List (Place × ℕ) };
+    ghost Value = { List (SortPlace × ℕ) };
 
     ghost view = { λ w. w.entries };
 }
@@ -21,7 +21,7 @@ impl<'a> Model for Walk<'a> {
 impl<'a> Walk<'a> {
     ghost use Rattle.std.specs.Prelude.{◌≡◌};
 
-    pub(crate) fn over(entries: btree_map::Range<'a, Place, u32>) -> Walk<'a>
+    pub(crate) fn over(entries: btree_map::Range<'a, SortPlace, u32>) -> Walk<'a>
         ensures { result ≡ entries.entry }
     {
         Walk { entries }
@@ -31,13 +31,13 @@ impl<'a> Walk<'a> {
 impl<'a> Iterator for Walk<'a> {
     ghost use Rattle.std.specs.Iterator.{YieldsFirst, item_count};
 
-    type Item = (Place, u32);
+    type Item = (SortPlace, u32);
 
     ghost next_gives = { YieldsFirst (λ w. w) };
 
     ghost remaining = { item_count (λ w. w) };
 
-    fn next(&mut self) -> Option<(Place, u32)> {
+    fn next(&mut self) -> Option<(SortPlace, u32)> {
         match self.entries.next() {
             Some((place, number)) => Some((*place, *number)),
             None => None,

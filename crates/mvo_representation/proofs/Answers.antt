@@ -27,7 +27,7 @@ use Rattle.mvo_representation.specs.Words.{Phases, ends_of, stamp_in, is_stamp, 
 use Rattle.mvo_visible.specs.Words.{names}
 use Rattle.mvo_representation.specs.Words.Touch.{OnlyPut, PutOrEnded}
 use Rattle.mvo_theory.proofs.Counts.{puts-append}
-use Rattle.mvo_representation.specs.Versions.{rows_by, Say, IsKnownStamp, IsKnown, IsClaimed, IsInside, AreDrawn, AreVersionsOf}
+use Rattle.mvo_representation.specs.Versions.{rows_by, Say, IsKnownStamp, IsKnown, EndIsClaimed, IsInside, AreDrawn, AreVersionsOf}
 use Rattle.mvo_representation.proofs.Kept.{IsSame, IsVersion, each_version, kept_alike}
 use Rattle.mvo_representation.proofs.Quiet.{known_next, same_self}
 
@@ -106,11 +106,11 @@ claims_of s t op a mine more r c only (inl e) P own other = subst P (sym (ap (λ
 claims_of s t op a mine more r c only (inr n) P own other = subst P (sym (ap (λ b. cond b (claims_with s r (ended_key op a)) r.claims) (ne_eqb r.id t n))) (other n)
 
 -- of one version: its End names who claims it
-pub claims_answered : (s : State) (t : ℕ) (op : Op) (a : AnswerData) (mine : ActiveTx) (more : List Claim) (k : RowKey) (o : ℕ) (w : Held) → ClaimsMore s t op a mine more → names t w ≡ has_claim (mine.claims ++ more) k o → AllByRecursion (λ r. (r.id ≡ t → ⊥) → IsClaimed k o (names r.id) r.claims w) s.active → AllByRecursion (λ r. IsClaimed k o (names r.id) r.claims w) (map (with_answer s t op a) s.active)
+pub claims_answered : (s : State) (t : ℕ) (op : Op) (a : AnswerData) (mine : ActiveTx) (more : List Claim) (k : RowKey) (o : ℕ) (w : Held) → ClaimsMore s t op a mine more → names t w ≡ has_claim (mine.claims ++ more) k o → AllByRecursion (λ r. (r.id ≡ t → ⊥) → EndIsClaimed k o (names r.id) r.claims w) s.active → AllByRecursion (λ r. EndIsClaimed k o (names r.id) r.claims w) (map (with_answer s t op a) s.active)
 claims_answered s t op a mine more k o w c own others =
-    each_map (with_answer s t op a) (λ r. (r.id ≡ t → r ≡ mine) × ((r.id ≡ t → ⊥) → IsClaimed k o (names r.id) r.claims w)) (λ r. IsClaimed k o (names r.id) r.claims w)
+    each_map (with_answer s t op a) (λ r. (r.id ≡ t → r ≡ mine) × ((r.id ≡ t → ⊥) → EndIsClaimed k o (names r.id) r.claims w)) (λ r. EndIsClaimed k o (names r.id) r.claims w)
     (λ r x. claims_of s t op a mine more r c x.0 (cases_eq r.id t) (λ cs. names r.id w ≡ has_claim cs k o) (λ e. ap (λ i. names i w) e ∙ own) x.1) s.active
-    (each_both (λ r. r.id ≡ t → r ≡ mine) (λ r. (r.id ≡ t → ⊥) → IsClaimed k o (names r.id) r.claims w) (λ r. (r.id ≡ t → r ≡ mine) × ((r.id ≡ t → ⊥) → IsClaimed k o (names r.id) r.claims w)) (λ r x y. (x, y)) s.active c.only others)
+    (each_both (λ r. r.id ≡ t → r ≡ mine) (λ r. (r.id ≡ t → ⊥) → EndIsClaimed k o (names r.id) r.claims w) (λ r. (r.id ≡ t → r ≡ mine) × ((r.id ≡ t → ⊥) → EndIsClaimed k o (names r.id) r.claims w)) (λ r x y. (x, y)) s.active c.only others)
 
 stamp_answered : (s : State) (t : ℕ) (op : Op) (a : AnswerData) (n : ℕ) → IsKnownStamp s n → IsKnownStamp (after_operation s t op a) n
 stamp_answered s t op a n g = record { drawn = g.drawn; apart = each_map (with_answer s t op a) (λ q. q.id ≢ n) (λ q. q.id ≢ n) (λ q i. i) s.active g.apart; settled = g.settled }
@@ -127,9 +127,9 @@ version_answered s table t op a mine more v c f free h = record {
   known = (known_answered s table t op a v.begin h.known.0, known_answered s table t op a v.end h.known.1);
   claims = λ o put stays. let g = h.claims o put stays in record {
     active = claims_answered s t op a mine more v.row.key o v.end c
-        (let w = active_holds (λ r. IsClaimed v.row.key o (names r.id) r.claims v.end) t s.active mine f g.active in
+        (let w = active_holds (λ r. EndIsClaimed v.row.key o (names r.id) r.claims v.end) t s.active mine f g.active in
         ap (λ i. names i v.end) (sym w.1) ∙ w.0 ∙ sym (or_false (has_claim mine.claims v.row.key o) (has_claim more v.row.key o) (free o put stays)) ∙ sym (list_any-append (λ d. eq_by_cmp key_cmp v.row.key d.key && (d.origin == o)) mine.claims more))
-        (each_weaker (λ r. IsClaimed v.row.key o (names r.id) r.claims v.end) (λ r. (r.id ≡ t → ⊥) → IsClaimed v.row.key o (names r.id) r.claims v.end) (λ r i _. i) s.active g.active);
+        (each_weaker (λ r. EndIsClaimed v.row.key o (names r.id) r.claims v.end) (λ r. (r.id ≡ t → ⊥) → EndIsClaimed v.row.key o (names r.id) r.claims v.end) (λ r i _. i) s.active g.active);
     stamped = g.stamped;
   };
   forward = h.forward;

@@ -13,13 +13,8 @@ use Rattle.mvo_chain.specs.declared.version.Version.{Version}
 use Rattle.mvo_representation.specs.Words.{Phases, ends_of, has_stamp, is_touched, last_passing, touch_below, stamp_above}
 use Rattle.mvo_representation.specs.Words.Touch.{PutOrEnded}
 use Rattle.mvo_representation.specs.Versions.{rows_at, AreVersionsOf}
-use Rattle.mvo_representation.proofs.LastChanges.{rows_at-none}
-
-none_end : (e : ℕ) → ◌≡◌ {A = Option ℕ} None (Some e) → ⊥
-none_end e q = cc
-
-some_end : (a b : ℕ) → ◌≡◌ {A = Option ℕ} (Some a) (Some b) → a ≡ b
-some_end a b q = cc
+use Rattle.mvo_representation.proofs.LastChanges.{rows_at-none, above_start}
+use Rattle.mvo_representation.proofs.Decided.{none_end, some_end, last_within}
 
 -- one that ends below e and has such a row
 abbrev touches_below : (Row → Bool) → ℕ → StampedTx → Bool
@@ -91,14 +86,6 @@ passing_first : (b : Bool) (e : ℕ) (w : Option ℕ) → cond b (Some e) w ≡ 
 passing_first true e w = refl
 passing_first false e w = refl
 
-above_start : (a b : ℕ) → a < b → (suc a ≡ b) ⊎ (suc a < b)
-above_start a b lt = go (cases_order (suc a) b)
-  where
-    go : (suc a ≡ b) ⊎ ((suc a < b) ⊎ (b < suc a)) → (suc a ≡ b) ⊎ (suc a < b)
-    go (inl e) = inl e
-    go (inr (inl l)) = inr l
-    go (inr (inr g)) = absurd (omega (arith, lt, g))
-
 last_passing_last : (f : ℕ → Bool) (p : Row → Bool) (xs : List StampedTx) (start e : ℕ) → ((m : ℕ) → start < m → f m ≡ list_any p (rows_at m xs)) → IsRising xs → AllByRecursion (λ u. start < u.end) xs → start < e → last_passing f e ≡ or_first (last_passing f (suc start)) (last_mark p e xs)
 last_passing_last f p xs start zero h r a lt = absurd (omega (arith, lt))
 last_passing_last f p xs start (suc e) h r a lt = go (above_start start (suc e) lt) (λ l. last_passing_last f p xs start e h r a l)
@@ -113,14 +100,6 @@ last_passing_last f p xs start (suc e) h r a lt = go (above_start start (suc e) 
         ∙ ap (λ w. or_first w (cond (list_any p (rows_at e xs)) (Some e) None)) (again (omega (arith, l)))
         ∙ sym (first_assoc (last_passing f (suc start)) (last_mark p e xs) (cond (list_any p (rows_at e xs)) (Some e) None))
         ∙ ap (or_first (last_passing f (suc start))) (sym (mark_step p e xs r))
-
-last_passing_within : (f : ℕ → Bool) (b n : ℕ) → last_passing f b ≡ Some n → n < b
-last_passing_within f zero n e = absurd (none_end n e)
-last_passing_within f (suc b) n e = go (f b) e (λ g. last_passing_within f b n g)
-  where
-    go : (c : Bool) → cond c (Some b) (last_passing f b) ≡ Some n → (last_passing f b ≡ Some n → n < b) → n < suc b
-    go true g again = let q = some_end b n g in omega (arith, q)
-    go false g again = let l = again g in omega (arith, l)
 
 -- those between, by those below the end
 last_between : (p : Row → Bool) (b e : ℕ) (xs : List StampedTx) → IsRising xs → last_end (λ u. (nat_lt b u.end && nat_lt u.end e) && list_any p u.footprint) xs ≡ stamp_above b (last_mark p e xs)
@@ -162,4 +141,4 @@ range_checked s table vs b e tab lo hi sd st h le lt =
     go : (c t : Option ℕ) → last_passing (λ m. is_touched PutOrEnded (has_stamp (ends_of table) m) (shows (Range tab lo hi)) vs) (suc s.start) ≡ t → stamp_above b (or_first t c) ≡ stamp_above b c
     go (Some n) t f = refl
     go None None f = refl
-    go None (Some n) f = let l : n < suc s.start = last_passing_within (λ m. is_touched PutOrEnded (has_stamp (ends_of table) m) (shows (Range tab lo hi)) vs) (suc s.start) n f in ap (λ c. cond c (Some n) None) (le-ltb b n (omega (arith, l, le)))
+    go None (Some n) f = let l : n < suc s.start = last_within (λ m. is_touched PutOrEnded (has_stamp (ends_of table) m) (shows (Range tab lo hi)) vs) (suc s.start) n f in ap (λ c. cond c (Some n) None) (le-ltb b n (omega (arith, l, le)))

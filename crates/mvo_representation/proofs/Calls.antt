@@ -38,9 +38,6 @@ use Rattle.mvo_representation.proofs.Writing.{EndsOther, ends_other, ends_own, c
 abbrev pub IsTable : Phases → State → Type 0
 IsTable table s = (u : ℕ) → table u ≡ phase_in s u
 
-none_stamped : (y : StampedTx) → ◌≡◌ {A = Option StampedTx} None (Some y) → ⊥
-none_stamped y e = cc
-
 -- ---- begin, precommit, validate, settle, rollback
 pub kept_by_begin : (opening : Map) (steps : List Step) (s : State) (table table' : Phases) (vs : List Version) → IsKept opening steps s → AreVersionsOf s table vs → IsTable table' (after_begin s (s.clock + 1)) → AreVersionsOf (after_begin s (s.clock + 1)) table' vs
 kept_by_begin opening steps s table table' vs k h ph = kept_after_begin s table table' vs (s.clock + 1) (omega arith) k.sound k.single k.started h ph

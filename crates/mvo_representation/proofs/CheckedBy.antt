@@ -10,10 +10,10 @@ use Rattle.mvo_theory.specs.Causes.{change_of}
 use Rattle.mvo_theory.specs.Sound.{IsSound, IsStarted}
 use Rattle.mvo_chain.specs.Slots.{Slots}
 use Rattle.mvo_hash.specs.Lists.{Lists}
-use Rattle.mvo_range.specs.Place.{Map as Places}
+use Rattle.mvo_range.specs.Place.{PlaceNumbers as Places}
 use Rattle.mvo_visible.specs.declared.change.Change.{Change}
 use Rattle.mvo_visible.specs.Words.{States}
-use Rattle.mvo_visible.specs.Versions.{Numbered, versions_at}
+use Rattle.mvo_visible.specs.Versions.{NumberedVersion, versions_at}
 use Rattle.mvo_visible.specs.Changes.{changes_of, greatest_below}
 use Rattle.mvo_types.specs.declared.entry.Entry.TheVariants.{Key}
 use Rattle.mvo_validate.specs.Between.{is_above, stamp_between}
@@ -71,7 +71,7 @@ between_is b e cs =
     ∙ ap (stamp_above b) (sym (greatest_is e cs))
 
 -- ---- a key
-all_pass : (vs : List Numbered) → filter (has_sort None) vs ≡ vs
+all_pass : (vs : List NumberedVersion) → filter (has_sort None) vs ≡ vs
 all_pass [] = refl
 all_pass (v ∷ vs) = ap (λ ws. v ∷ ws) (all_pass vs)
 

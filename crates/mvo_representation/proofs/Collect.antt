@@ -50,7 +50,7 @@ last_known f (suc b) p n t = go (cases_order p.0 b) (λ u. last_known f b p n u)
     go (inr (inr g)) again = absurd (let l = t.within in omega (arith, l, g))
 
 -- ---- effects apart
-nothing_rest : (d e : NetEffect) → with_effect d e ≡ Untouched → e ≡ Untouched
+pub nothing_rest : (d e : NetEffect) → with_effect d e ≡ Untouched → e ≡ Untouched
 nothing_rest Untouched e q = q
 nothing_rest Removed Untouched q = refl
 nothing_rest Removed Removed q = q
@@ -124,7 +124,7 @@ pub record PutAt (ends : Ends) (a : ℕ) (k : RowKey) (vs : List Version) : Type
   pub put : stamp_in ends version.begin ≡ Some a
   pub stays : is_stamp a (stamp_in ends version.end) ≡ false
 
-stamp_is : (o : Option ℕ) (m : ℕ) → is_stamp m o ≡ true → o ≡ Some m
+pub stamp_is : (o : Option ℕ) (m : ℕ) → is_stamp m o ≡ true → o ≡ Some m
 stamp_is None m g = absurd (false≢true g)
 stamp_is (Some n) m g = ap (λ x. Some x) (eqb-true n m g)
 

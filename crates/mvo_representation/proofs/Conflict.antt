@@ -24,22 +24,16 @@ use Rattle.mvo_chain.specs.declared.version.Version.{Version}
 use Rattle.mvo_representation.specs.Words.{Phases, Ends, end_in, ends_of, stamp_in, is_stamp, has_stamp, cause_of_phase, cause_at_end, NetEffect, with_effect, effect_by, as_net_effect, net_effect, IsShownAt}
 use Rattle.mvo_visible.specs.Words.{names}
 use Rattle.mvo_representation.specs.Words.NetEffect.{Untouched, Removed, Puts, Clash}
-use Rattle.mvo_representation.specs.Versions.{history_at, Say, IsKnown, IsClaimed, HasClaims, HasItsClaims, IsForward, AreVersionsOf}
+use Rattle.mvo_representation.specs.Versions.{history_at, Say, IsKnown, EndIsClaimed, EndHasClaims, HasItsClaims, IsForward, AreVersionsOf}
 use Rattle.mvo_representation.proofs.Effects.{net_effect-at}
 use Rattle.mvo_representation.proofs.Facts.{stamp_drawn}
 use Rattle.mvo_representation.proofs.Shown.{IsBegin, active_begins, behind_is}
 use Rattle.mvo_representation.proofs.Version.{last_change_is_one, IsShownRow, version_shown}
 use Rattle.mvo_theory.specs.State.Outcome.{Committed as WasCommitted, Aborted as WasAborted}
 
-none_end : (e : ℕ) → ◌≡◌ {A = Option ℕ} None (Some e) → ⊥
-none_end e q = cc
-
-some_end : (a b : ℕ) → ◌≡◌ {A = Option ℕ} (Some a) (Some b) → a ≡ b
-some_end a b q = cc
-
 -- ---- claims of those with an end
 abbrev EndsAt : RowKey → ℕ → Ends → Held → StampedTx → Type 0
-EndsAt k a ends w x = IsClaimed k a (has_stamp ends x.end) x.claims w
+EndsAt k a ends w x = EndIsClaimed k a (has_stamp ends x.end) x.claims w
 
 -- a word with no stamp: none of them claims
 stamped_nobody : (k : RowKey) (a : ℕ) (ends : Ends) (w : Held) (xs : List StampedTx) → stamp_in ends w ≡ None → AllByRecursion (EndsAt k a ends w) xs → stamped_claim k a xs ≡ None
@@ -66,7 +60,7 @@ stamped_one k a ends w (x ∷ xs) e q n h = go (cases_eq x.end e) (λ m. stamped
 
 -- ---- claims of the Active ones
 abbrev NamesIt : RowKey → ℕ → Held → ActiveTx → Type 0
-NamesIt k a w r = IsClaimed k a (names r.id) r.claims w
+NamesIt k a w r = EndIsClaimed k a (names r.id) r.claims w
 
 active_nobody : (t : ℕ) (k : RowKey) (a : ℕ) (w : Held) (rs : List ActiveTx) → AllByRecursion (λ r. names r.id w ≡ false) rs → AllByRecursion (NamesIt k a w) rs → active_claim t k a rs ≡ None
 active_nobody t k a w [] n h = refl
@@ -205,7 +199,7 @@ cause_right s table xs v ys t r a sd st h f unwritten is =
     row : IsShownRow s t v.row.key v a
     row = version_shown s table xs v ys t v.row.key a sd st h (active_begins s table (xs ++ v ∷ ys) t r sd h f) (behind_is s table (xs ++ v ∷ ys) t r h f) is
 
-    claims : HasClaims s (ends_of table) v a
+    claims : EndHasClaims s (ends_of table) v a
     claims = (each_back (HasItsClaims s (ends_of table)) xs (v ∷ ys) h.claims).0 a is.put is.stays
 
     named : (w : Held) → v.end ≡ w → AllByRecursion (NamesIt v.row.key a w) s.active

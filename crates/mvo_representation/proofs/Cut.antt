@@ -15,7 +15,7 @@ use Rattle.mvo_theory.proofs.Each.{each_weaker, each_both, each_filter, each_app
 use Rattle.mvo_theory.proofs.Trim.{IsTrim, is_after}
 use Rattle.mvo_chain.specs.declared.version.Version.{Version}
 use Rattle.mvo_representation.specs.Words.{Phases, ends_of, has_stamp, as_net_effect, standing_effect}
-use Rattle.mvo_representation.specs.Versions.{history_at, rows_at, rows_by, IsKnownStamp, IsKnown, IsClaimed, HasItsClaims, AreDrawn, AreVersionsOf}
+use Rattle.mvo_representation.specs.Versions.{history_at, rows_at, rows_by, IsKnownStamp, IsKnown, EndIsClaimed, HasItsClaims, AreDrawn, AreVersionsOf}
 use Rattle.mvo_representation.proofs.Quiet.{known_next}
 use Rattle.mvo_representation.proofs.TrimChanges.{opened_at_trim}
 use Rattle.mvo_types.specs.Write.Effect.{Put}
@@ -48,7 +48,7 @@ kept_after_trim s table vs m sd st tr h ph stood = record {
   opened = opened_at_trim s m sd st tr table vs h;
   stood = stood;
   known = each_weaker (λ v. IsKnown s table v.begin × IsKnown s table v.end) (λ v. IsKnown (after_trim s m) table v.begin × IsKnown (after_trim s m) table v.end) (λ v i. (known_next s (after_trim s m) table table stamp (λ u n. n) v.begin i.0, known_next s (after_trim s m) table table stamp (λ u n. n) v.end i.1)) vs h.known;
-  claims = each_weaker (HasItsClaims s (ends_of table)) (HasItsClaims (after_trim s m) (ends_of table)) (λ v g a put stays. let w = g a put stays in record { active = w.active; stamped = part (λ x. IsClaimed v.row.key a (has_stamp (ends_of table) x.end) x.claims v.end) w.stamped }) vs h.claims;
+  claims = each_weaker (HasItsClaims s (ends_of table)) (HasItsClaims (after_trim s m) (ends_of table)) (λ v g a put stays. let w = g a put stays in record { active = w.active; stamped = part (λ x. EndIsClaimed v.row.key a (has_stamp (ends_of table) x.end) x.claims v.end) w.stamped }) vs h.claims;
   forward = h.forward;
   inside = h.inside;
   begun = tr.active;

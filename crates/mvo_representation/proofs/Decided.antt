@@ -17,19 +17,20 @@ use Rattle.mvo_visible.specs.declared.seen.Seen.{Seen}
 use Rattle.mvo_visible.specs.declared.seen.Seen.TheVariants.{Nothing, Settled, Speculative}
 use Rattle.mvo_visible.specs.declared.change.Change.{Change}
 use Rattle.mvo_visible.specs.Words.{States, seen_of}
-use Rattle.mvo_visible.specs.Versions.{Numbered}
+use Rattle.mvo_visible.specs.Versions.{NumberedVersion}
 use Rattle.mvo_visible.specs.Changes.{is_at, put_of, removal_of, unless_removed, changes_by, changes_of, greater, greatest_below, first_with, version_with}
 use Rattle.mvo_visible.proofs.Decides.{first_with-append, option_or-none}
 use Rattle.mvo_representation.specs.Words.{ends_of, has_stamp, NetEffect, with_effect, effect_by, effect_of, net_effect, or_change_at, last_change, last_passing, change_below, content_put, is_clash}
 use Rattle.mvo_representation.specs.Words.NetEffect.{Untouched, Removed, Puts, Clash}
 use Rattle.mvo_representation.specs.Table.{phases_of}
 use Rattle.mvo_representation.proofs.Seen.{seen_at}
+use Rattle.mvo_theory.proofs.Numbers.{or_false}
 
 -- ---- the greatest number that passes
-some_end : (a b : ℕ) → ◌≡◌ {A = Option ℕ} (Some a) (Some b) → a ≡ b
+pub some_end : (a b : ℕ) → ◌≡◌ {A = Option ℕ} (Some a) (Some b) → a ≡ b
 some_end a b q = cc
 
-none_end : (e : ℕ) → ◌≡◌ {A = Option ℕ} None (Some e) → ⊥
+pub none_end : (e : ℕ) → ◌≡◌ {A = Option ℕ} None (Some e) → ⊥
 none_end e q = cc
 
 pub last_same : (f g : ℕ → Bool) (b : ℕ) → ((s : ℕ) → f s ≡ g s) → last_passing f b ≡ last_passing g b
@@ -99,12 +100,8 @@ greatest_is b (c ∷ cs) =
 
 -- ---- the changes of versions
 -- whether a version is put or ended with the stamp
-abbrev pub changes_at : States → ℕ → Numbered → Bool
+abbrev pub changes_at : States → ℕ → NumberedVersion → Bool
 changes_at states s e = has_stamp (ends_of (phases_of states)) s e.1.begin || has_stamp (ends_of (phases_of states)) s e.1.end
-
-or_false : (b : Bool) → (b || false) ≡ b
-or_false true = refl
-or_false false = refl
 
 any_put : (s : ℕ) (n : VersionNo) (w x : Seen) → is_stamped s (put_of n w x) ≡ is_at s w
 any_put s n Nothing x = refl
@@ -116,7 +113,7 @@ any_removal s Nothing = refl
 any_removal s (Settled e) = or_false (e.0 == s)
 any_removal s (Speculative e t) = or_false (e.0 == s)
 
-pub stamped_by : (states : States) (s : ℕ) (vs : List Numbered) → is_stamped s (changes_of states vs) ≡ list_any (changes_at states s) vs
+pub stamped_by : (states : States) (s : ℕ) (vs : List NumberedVersion) → is_stamped s (changes_of states vs) ≡ list_any (changes_at states s) vs
 stamped_by states s [] = refl
 stamped_by states s (e ∷ es) =
     list_any-append (λ c. c.stamp.0 == s) (changes_by states e) (changes_of states es)
@@ -126,15 +123,15 @@ stamped_by states s (e ∷ es) =
     ∙ ap (λ b. has_stamp (ends_of (phases_of states)) s e.1.begin || b) (any_removal s (seen_of states e.1.end) ∙ seen_at states s e.1.end))
     ∙ ap (λ b. changes_at states s e || b) (stamped_by states s es)
 
-pub greatest_change : (states : States) (b : ℕ) (vs : List Numbered) → greatest_below b (changes_of states vs) ≡ last_passing (λ s. list_any (changes_at states s) vs) b
+pub greatest_change : (states : States) (b : ℕ) (vs : List NumberedVersion) → greatest_below b (changes_of states vs) ≡ last_passing (λ s. list_any (changes_at states s) vs) b
 greatest_change states b vs = greatest_is b (changes_of states vs) ∙ last_same (λ s. is_stamped s (changes_of states vs)) (λ s. list_any (changes_at states s) vs) b (λ s. stamped_by states s vs)
 
 -- ---- the version that is put with a stamp
 -- the first version that is put by words that pass, and not ended by such
-abbrev pub is_put_by : (Held → Bool) → Numbered → Bool
+abbrev pub is_put_by : (Held → Bool) → NumberedVersion → Bool
 is_put_by n e = n e.1.begin && not (n e.1.end)
 
-abbrev pub first_put : (Held → Bool) → List Numbered → Option Numbered
+abbrev pub first_put : (Held → Bool) → List NumberedVersion → Option NumberedVersion
 first_put n [] = None
 first_put n (e ∷ es) = option_or (cond (is_put_by n e) (Some e) None) (first_put n es)
 
@@ -163,11 +160,11 @@ version_removed s Nothing = refl
 version_removed s (Settled e) = none_either (e.0 == s) None refl
 version_removed s (Speculative e t) = none_either (e.0 == s) None refl
 
-abbrev pub number_of : Option Numbered → Option VersionNo
+abbrev pub number_of : Option NumberedVersion → Option VersionNo
 number_of w = option_map (λ e. e.0) w
 
 -- the version with the stamp is the first that is put with it and stays
-pub version_first : (states : States) (s : ℕ) (vs : List Numbered) → version_with s (changes_of states vs) ≡ number_of (first_put (has_stamp (ends_of (phases_of states)) s) vs)
+pub version_first : (states : States) (s : ℕ) (vs : List NumberedVersion) → version_with s (changes_of states vs) ≡ number_of (first_put (has_stamp (ends_of (phases_of states)) s) vs)
 version_first states s [] = refl
 version_first states s (e ∷ es) =
     first_with-append (λ c. c.version) s (changes_by states e) (changes_of states es)
@@ -186,10 +183,10 @@ version_first states s (e ∷ es) =
     by false = refl
 
 -- ---- versions of one key
-abbrev pub AreOfKey : RowKey → List Numbered → Type 0
+abbrev pub AreOfKey : RowKey → List NumberedVersion → Type 0
 AreOfKey k vs = AllByRecursion (λ e. eq_by_cmp key_cmp k e.1.row.key ≡ true) vs
 
-abbrev pub unnumbered : List Numbered → List Version
+abbrev pub unnumbered : List NumberedVersion → List Version
 unnumbered vs = map (λ e. e.1) vs
 
 abbrev pub is_change : NetEffect → Bool
@@ -198,7 +195,7 @@ is_change Removed = true
 is_change (Puts h) = true
 is_change Clash = true
 
-abbrev pub content_of_first : Option Numbered → Option ContentData
+abbrev pub content_of_first : Option NumberedVersion → Option ContentData
 content_of_first w = option_map (λ e. content_of e.1.row) w
 
 -- the effect of a version of the key
@@ -206,7 +203,7 @@ effect_here : (n : Held → Bool) (k : RowKey) (v : Version) → eq_by_cmp key_c
 effect_here n k v e = ap (λ b. cond b (effect_by (n v.begin) (n v.end) (content_of v.row)) Untouched) e
 
 -- something was done where some word passes
-pub change_any : (n : Held → Bool) (k : RowKey) (vs : List Numbered) → AreOfKey k vs → is_change (net_effect n k (unnumbered vs)) ≡ list_any (λ e. n e.1.begin || n e.1.end) vs
+pub change_any : (n : Held → Bool) (k : RowKey) (vs : List NumberedVersion) → AreOfKey k vs → is_change (net_effect n k (unnumbered vs)) ≡ list_any (λ e. n e.1.begin || n e.1.end) vs
 change_any n k [] h = refl
 change_any n k (e ∷ es) h =
     ap (λ d. is_change (with_effect d (net_effect n k (unnumbered es)))) (effect_here n k e.1 h.0)
@@ -229,7 +226,7 @@ change_any n k (e ∷ es) h =
     go false false d = refl
 
 -- what is put is the content of the first version that is put and stays
-pub content_first : (n : Held → Bool) (k : RowKey) (vs : List Numbered) → AreOfKey k vs → is_clash (net_effect n k (unnumbered vs)) ≡ false → content_put (net_effect n k (unnumbered vs)) ≡ content_of_first (first_put n vs)
+pub content_first : (n : Held → Bool) (k : RowKey) (vs : List NumberedVersion) → AreOfKey k vs → is_clash (net_effect n k (unnumbered vs)) ≡ false → content_put (net_effect n k (unnumbered vs)) ≡ content_of_first (first_put n vs)
 content_first n k [] h c = refl
 content_first n k (e ∷ es) h c =
     ap (λ d. content_put (with_effect d (net_effect n k (unnumbered es)))) (effect_here n k e.1 h.0)
@@ -262,7 +259,7 @@ last_change_is f (suc b) = go (f b) refl (last_change_is f b)
     go Clash e r = ap (λ d. or_change_at b d (last_change f b)) e ∙ ap (λ d. Some (b, d)) (sym e) ∙ ap (λ d. option_map (λ s. (s, f s)) (cond (is_change d) (Some b) (last_passing (λ s. is_change (f s)) b))) (sym e)
 
 -- the deciding change of the versions of a key, by its stamp
-pub last_of_versions : (states : States) (b : ℕ) (k : RowKey) (vs : List Numbered) → AreOfKey k vs → change_below (ends_of (phases_of states)) b k (unnumbered vs) ≡ option_map (λ s. (s, net_effect (has_stamp (ends_of (phases_of states)) s) k (unnumbered vs))) (greatest_below b (changes_of states vs))
+pub last_of_versions : (states : States) (b : ℕ) (k : RowKey) (vs : List NumberedVersion) → AreOfKey k vs → change_below (ends_of (phases_of states)) b k (unnumbered vs) ≡ option_map (λ s. (s, net_effect (has_stamp (ends_of (phases_of states)) s) k (unnumbered vs))) (greatest_below b (changes_of states vs))
 last_of_versions states b k vs h =
     last_change_is (λ s. net_effect (has_stamp (ends_of (phases_of states)) s) k (unnumbered vs)) b
     ∙ ap (option_map (λ s. (s, net_effect (has_stamp (ends_of (phases_of states)) s) k (unnumbered vs))))

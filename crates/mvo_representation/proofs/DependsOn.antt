@@ -26,7 +26,7 @@ use Rattle.mvo_hash.specs.Lists.{Lists, number, numbers_of}
 use Rattle.mvo_visible.specs.declared.seen.Seen.{Seen}
 use Rattle.mvo_visible.specs.declared.seen.Seen.TheVariants.{Nothing, Settled, Speculative}
 use Rattle.mvo_visible.specs.Words.{States, seen_of, names}
-use Rattle.mvo_visible.specs.Versions.{Numbered, and_version, versions_by, versions_at, is_own, own_newest}
+use Rattle.mvo_visible.specs.Versions.{NumberedVersion, and_version, versions_by, versions_at, is_own, own_newest}
 use Rattle.mvo_visible.specs.Changes.{is_at, put_of, removal_of, changes_by, changes_of, first_with, owner_with, greatest_below, done_with, deciding}
 use Rattle.mvo_visible.specs.Shown.{shown_by, own_or, shown_to}
 use Rattle.mvo_visible.proofs.Decides.{first_with-append, option_or-none}
@@ -41,6 +41,7 @@ use Rattle.mvo_representation.proofs.Read.{written_depends, key_depends, read_de
 use Rattle.mvo_representation.proofs.Seen.{seen_at, owner_in, seen_owner}
 use Rattle.mvo_representation.proofs.Decided.{changes_at, unnumbered, is_change, change_any, greatest_change, last_of_versions, last_holds}
 use Rattle.mvo_representation.proofs.ShownTo.{of_key, keyed, below_keyed}
+use Rattle.mvo_representation.proofs.Slots.{none_version, some_version}
 
 -- ---- the owner of a change
 -- what the first of the words with the stamp tells of the owner is this, and nothing is told without one
@@ -75,21 +76,15 @@ owner_removed s (Speculative e t) = option_or-none (cond (e.0 == s) (Some t) Non
 none_stamp : (e : ℕ) → ◌≡◌ {A = Option ℕ} None (Some e) → ⊥
 none_stamp e q = cc
 
-none_version : (v : Version) → ◌≡◌ {A = Option Version} None (Some v) → ⊥
-none_version v q = cc
-
-some_version : (w v : Version) → ◌≡◌ {A = Option Version} (Some w) (Some v) → w ≡ v
-some_version w v q = cc
-
 some_change : (p : ℕ × NetEffect) → ◌≡◌ {A = Option (ℕ × NetEffect)} (Some p) None → ⊥
 some_change p q = cc
 
-stamp_some : (s : ℕ) (o : Option ℕ) → is_stamp s o ≡ true → o ≡ Some s
+pub stamp_some : (s : ℕ) (o : Option ℕ) → is_stamp s o ≡ true → o ≡ Some s
 stamp_some s None e = absurd (false≢true e)
 stamp_some s (Some n) e = ap Some (eqb-true n s e)
 
 module _ (s : State) (states : States) (vs : List Version) (h : AreVersionsOf s (phases_of states) vs) where
-  abbrev AreKnownWords : List Numbered → Type 0
+  abbrev AreKnownWords : List NumberedVersion → Type 0
   AreKnownWords es = AllByRecursion (λ e. IsKnown s (phases_of states) e.1.begin × IsKnown s (phases_of states) e.1.end) es
 
   -- whom the words with the stamp n name
@@ -109,7 +104,7 @@ module _ (s : State) (states : States) (vs : List Version) (h : AreVersionsOf s 
         without = λ _. ap (λ b. cond b (owner_in (seen_of states w)) None) q;
       }
 
-  tells_all : (n : ℕ) (es : List Numbered) → AreKnownWords es → Tells states (whom n) (list_any (changes_at states n) es) (owner_with n (changes_of states es))
+  tells_all : (n : ℕ) (es : List NumberedVersion) → AreKnownWords es → Tells states (whom n) (list_any (changes_at states n) es) (owner_with n (changes_of states es))
   tells_all n [] k = record { with' = λ e. absurd (false≢true e); without = λ _. refl }
   tells_all n (e ∷ es) k =
       subst (Tells states (whom n) (changes_at states n e || list_any (changes_at states n) es)) (sym (first_with-append (λ c. c.owner) n (changes_by states e) (changes_of states es)))
@@ -127,7 +122,7 @@ module _ (s : State) (states : States) (vs : List Version) (h : AreVersionsOf s 
     pub known : IsKnown s (phases_of states) word
     pub stamp : stamp_in (ends_of (phases_of states)) word ≡ Some n
 
-  word_at : (n : ℕ) (es : List Numbered) → AreKnownWords es → list_any (changes_at states n) es ≡ true → WordAt n
+  word_at : (n : ℕ) (es : List NumberedVersion) → AreKnownWords es → list_any (changes_at states n) es ≡ true → WordAt n
   word_at n [] k e = absurd (false≢true e)
   word_at n (v ∷ es) k e = go (has_stamp (ends_of (phases_of states)) n v.1.begin) refl (has_stamp (ends_of (phases_of states)) n v.1.end) refl e (λ r. word_at n es k.1 r)
     where

@@ -104,7 +104,7 @@ pub net_effect_without : (n : Held → Bool) (k : RowKey) (xs : List Version) (v
 net_effect_without n k xs v ys e = net_effect-at n k xs v ys ∙ ap (λ d. with_effect d (net_effect n k (xs ++ ys))) e
 
 -- ---- the rows that they mark
-or_comm : (a b c : Bool) → (a || (b || c)) ≡ (b || (a || c))
+pub or_comm : (a b c : Bool) → (a || (b || c)) ≡ (b || (a || c))
 or_comm true true c = refl
 or_comm true false c = refl
 or_comm false b c = refl

@@ -13,31 +13,24 @@ use Rattle.mvo_model.specs.Trace.Phase.{Absent, Active, Preparing, Committed, Ab
 use Rattle.mvo_theory.specs.Ranges.{Row}
 use Rattle.mvo_theory.specs.State.{State, StampedTx, ActiveTx, Claim, preparing_of, active_of}
 use Rattle.mvo_theory.specs.Claims.{has_claim}
-use Rattle.mvo_theory.specs.Changes.{after_prepare, to_stamped, without, after_abort_of_preparing, with_flag, active_with_flag, not_at}
+use Rattle.mvo_theory.specs.Changes.{after_prepare, to_stamped, without_id, after_abort_of_preparing, with_flag, active_with_flag, not_at}
 use Rattle.mvo_theory.specs.Phases.{phase_in}
-use Rattle.mvo_theory.specs.Sound.{IsSound, IsSingle, IsStarted, IsRising, IsPlaced}
+use Rattle.mvo_theory.specs.Sound.{IsSound, IsSingle, IsStarted, IsPlaced}
 use Rattle.mvo_theory.proofs.Each.{each_weaker, each_both, each_always, each_map, each_filter, each_append}
-use Rattle.mvo_theory.proofs.Phases.{Leads, leads_after_prepare, leads_after_abort_of_preparing}
-use Rattle.mvo_theory.proofs.Commits.{split_at}
-use Rattle.mvo_theory.proofs.Settle.{rising_before, rising_after}
+use Rattle.mvo_theory.proofs.Phases.{Leads, leads_after_prepare, leads_after_abort_of_preparing, alone_in}
 use Rattle.mvo_theory.proofs.Who.{active_holds}
 use Rattle.mvo_word.specs.declared.held.Held.{Held}
 use Rattle.mvo_word.specs.declared.held.Held.TheVariants.{At, By, Infinity}
 use Rattle.mvo_chain.specs.declared.version.Version.{Version}
 use Rattle.mvo_representation.specs.Words.{Phases, Ends, is_up_to, end_in, ends_of, stamp_in, is_stamp, has_stamp, net_effect, Touch, is_touched, as_net_effect, standing, standing_effect}
 use Rattle.mvo_visible.specs.Words.{names}
-use Rattle.mvo_representation.specs.Versions.{history_at, rows_at, rows_by, Say, IsKnownStamp, IsKnown, IsClaimed, HasClaims, HasItsClaims, IsForward, IsInside, AreDrawn, AreVersionsOf}
+use Rattle.mvo_representation.specs.Versions.{history_at, rows_at, rows_by, Say, IsKnownStamp, IsKnown, EndIsClaimed, EndHasClaims, HasItsClaims, IsForward, IsInside, AreDrawn, AreVersionsOf}
 use Rattle.mvo_representation.proofs.Effects.{net_effect_same, is_touched_same}
 use Rattle.mvo_representation.proofs.LastChanges.{last_change_same, history_at-none, rows_at-none}
 use Rattle.mvo_representation.proofs.Facts.{found_holds, preparing_is, phase_preparing, phase_active, end_drawn, stamp_drawn, say_nothing, is_at-none}
 use Rattle.mvo_representation.proofs.Kept.{IsVersion, each_version, standing_effect_same}
 use Rattle.mvo_representation.proofs.Quiet.{with_end, ends_turn, other_stays, own_led, still_there, known_next, stamp_other, history_at-map, rows_at-map}
-
-some_end : (a b : ℕ) → ◌≡◌ {A = Option ℕ} (Some a) (Some b) → a ≡ b
-some_end a b q = cc
-
-none_end : (e : ℕ) → ◌≡◌ {A = Option ℕ} None (Some e) → ⊥
-none_end e q = cc
+use Rattle.mvo_representation.proofs.Decided.{none_end, some_end}
 
 -- ---- another end: words at other stamps
 other_by : (b : Bool) (o e : Option ℕ) (s : ℕ) → is_stamp s e ≡ false → (b ≡ true → is_stamp s o ≡ false) → is_stamp s (cond b e o) ≡ is_stamp s o
@@ -121,7 +114,7 @@ kept_after_prepare s table table' vs r e lt sd sg st h f ph = record {
   known = each_weaker (λ v. IsKnown s table v.begin × IsKnown s table v.end) (λ v. IsKnown (after_prepare s r e) table' v.begin × IsKnown (after_prepare s r e) table' v.end) (λ v i. (known v.begin i.0, known v.end i.1)) vs h.known;
   claims = subst (λ (x : Ends). AllByRecursion (HasItsClaims (after_prepare s r e) x) vs) (sym path) (each_weaker (IsVersion s table) (HasItsClaims (after_prepare s r e) (with_end r.id (Some e) (ends_of table))) claims vs (each_version s table vs h));
   forward = subst (λ (x : Ends). AllByRecursion (IsForward x) vs) (sym path) (each_weaker (IsVersion s table) (IsForward (with_end r.id (Some e) (ends_of table))) forward vs (each_version s table vs h));
-  inside = each_weaker (λ v. AllByRecursion (IsInside v) s.active) (λ v. AllByRecursion (IsInside v) (without r.id s.active)) (λ v i. each_filter (λ q. not (q.id == r.id)) (IsInside v) (IsInside v) (λ q _ g. g) s.active i) vs h.inside;
+  inside = each_weaker (λ v. AllByRecursion (IsInside v) s.active) (λ v. AllByRecursion (IsInside v) (without_id r.id s.active)) (λ v i. each_filter (λ q. not (q.id == r.id)) (IsInside v) (IsInside v) (λ q _ g. g) s.active i) vs h.inside;
   begun = each_filter (λ q. not (q.id == r.id)) (λ q. s.start ≤ q.id) (λ q. s.start ≤ q.id) (λ q _ g. g) s.active h.begun;
   behind = each_filter (λ q. not (q.id == r.id)) (λ q. AllByRecursion (λ x. x.end < q.id) s.past) (λ q. AllByRecursion (λ x. x.end < q.id) s.past) (λ q _ g. g) s.active h.behind;
   begun_stamped = each_append (λ x. x.settled ≡ false → s.start ≤ x.id) s.stamped (to_stamped e r ∷ []) h.begun_stamped ((λ _. (active_holds (λ q. s.start ≤ q.id) r.id s.active r f h.begun).0), tt);
@@ -201,28 +194,28 @@ kept_after_prepare s table table' vs r e lt sd sg st h f ph = record {
     committed u m q (inr n) = stamp m (h.committed u m (sym (other_stays s (after_prepare s r e) (Prepares r.id e) table table' h.phases ph leads u n) ∙ q))
 
     -- its own version, not ended: nobody claims it
-    fresh_claims : (v : Version) → v.end ≡ Infinity → HasClaims (after_prepare s r e) (with_end r.id (Some e) (ends_of table)) v e
+    fresh_claims : (v : Version) → v.end ≡ Infinity → EndHasClaims (after_prepare s r e) (with_end r.id (Some e) (ends_of table)) v e
     fresh_claims v i = record {
-      active = each_filter (λ q. not (q.id == r.id)) (λ q. AreDrawn s.clock q.claims) (λ q. IsClaimed v.row.key e (names q.id) q.claims v.end) (λ q _ d. ap (names q.id) i ∙ sym (undrawn s.clock e v.row.key q.claims lt d)) s.active h.drawn;
-      stamped = each_append (λ x. IsClaimed v.row.key e (has_stamp (with_end r.id (Some e) (ends_of table)) x.end) x.claims v.end) s.stamped (to_stamped e r ∷ [])
-          (each_weaker (λ x. AreDrawn s.clock x.claims) (λ x. IsClaimed v.row.key e (has_stamp (with_end r.id (Some e) (ends_of table)) x.end) x.claims v.end) (λ x d. ap (has_stamp (with_end r.id (Some e) (ends_of table)) x.end) i ∙ sym (undrawn s.clock e v.row.key x.claims lt d)) s.stamped h.drawn_stamped)
+      active = each_filter (λ q. not (q.id == r.id)) (λ q. AreDrawn s.clock q.claims) (λ q. EndIsClaimed v.row.key e (names q.id) q.claims v.end) (λ q _ d. ap (names q.id) i ∙ sym (undrawn s.clock e v.row.key q.claims lt d)) s.active h.drawn;
+      stamped = each_append (λ x. EndIsClaimed v.row.key e (has_stamp (with_end r.id (Some e) (ends_of table)) x.end) x.claims v.end) s.stamped (to_stamped e r ∷ [])
+          (each_weaker (λ x. AreDrawn s.clock x.claims) (λ x. EndIsClaimed v.row.key e (has_stamp (with_end r.id (Some e) (ends_of table)) x.end) x.claims v.end) (λ x d. ap (has_stamp (with_end r.id (Some e) (ends_of table)) x.end) i ∙ sym (undrawn s.clock e v.row.key x.claims lt d)) s.stamped h.drawn_stamped)
           (ap (has_stamp (with_end r.id (Some e) (ends_of table)) e) i ∙ sym (undrawn s.clock e v.row.key r.claims lt mine_drawn), tt);
     }
 
     -- one that had its stamp
-    old_claims : (v : Version) (a : ℕ) → IsKnown s table v.end → HasClaims s (ends_of table) v a → HasClaims (after_prepare s r e) (with_end r.id (Some e) (ends_of table)) v a
+    old_claims : (v : Version) (a : ℕ) → IsKnown s table v.end → EndHasClaims s (ends_of table) v a → EndHasClaims (after_prepare s r e) (with_end r.id (Some e) (ends_of table)) v a
     old_claims v a k g = record {
-      active = each_filter (λ q. not (q.id == r.id)) (λ q. IsClaimed v.row.key a (names q.id) q.claims v.end) (λ q. IsClaimed v.row.key a (names q.id) q.claims v.end) (λ q _ i. i) s.active g.active;
-      stamped = each_append (λ x. IsClaimed v.row.key a (has_stamp (with_end r.id (Some e) (ends_of table)) x.end) x.claims v.end) s.stamped (to_stamped e r ∷ [])
-          (each_both (λ x. x.end ≢ e) (λ x. IsClaimed v.row.key a (has_stamp (ends_of table) x.end) x.claims v.end) (λ x. IsClaimed v.row.key a (has_stamp (with_end r.id (Some e) (ends_of table)) x.end) x.claims v.end) (λ x n i. other_word (ends_of table) r.id (Some e) x.end (ne_eqb e x.end (λ q. n (sym q))) (ap (is_stamp x.end) no_end) v.end ∙ i) s.stamped apart g.stamped)
-          (here v.end k ∙ (active_holds (λ q. IsClaimed v.row.key a (names q.id) q.claims v.end) r.id s.active r f g.active).0, tt);
+      active = each_filter (λ q. not (q.id == r.id)) (λ q. EndIsClaimed v.row.key a (names q.id) q.claims v.end) (λ q. EndIsClaimed v.row.key a (names q.id) q.claims v.end) (λ q _ i. i) s.active g.active;
+      stamped = each_append (λ x. EndIsClaimed v.row.key a (has_stamp (with_end r.id (Some e) (ends_of table)) x.end) x.claims v.end) s.stamped (to_stamped e r ∷ [])
+          (each_both (λ x. x.end ≢ e) (λ x. EndIsClaimed v.row.key a (has_stamp (ends_of table) x.end) x.claims v.end) (λ x. EndIsClaimed v.row.key a (has_stamp (with_end r.id (Some e) (ends_of table)) x.end) x.claims v.end) (λ x n i. other_word (ends_of table) r.id (Some e) x.end (ne_eqb e x.end (λ q. n (sym q))) (ap (is_stamp x.end) no_end) v.end ∙ i) s.stamped apart g.stamped)
+          (here v.end k ∙ (active_holds (λ q. EndIsClaimed v.row.key a (names q.id) q.claims v.end) r.id s.active r f g.active).0, tt);
     }
 
     claims : (v : Version) → IsVersion s table v → HasItsClaims (after_prepare s r e) (with_end r.id (Some e) (ends_of table)) v
     claims v i a put stays = go (names r.id v.begin) refl
       where
-        from_inside : names r.id v.begin ≡ true → (v.end ≡ Infinity) ⊎ (names r.id v.end ≡ true) → HasClaims (after_prepare s r e) (with_end r.id (Some e) (ends_of table)) v a
-        from_inside b (inl inf) = subst (λ (n : ℕ). HasClaims (after_prepare s r e) (with_end r.id (Some e) (ends_of table)) v n) (some_end e a (sym (own_word (ends_of table) r.id (Some e) v.begin b) ∙ put)) (fresh_claims v inf)
+        from_inside : names r.id v.begin ≡ true → (v.end ≡ Infinity) ⊎ (names r.id v.end ≡ true) → EndHasClaims (after_prepare s r e) (with_end r.id (Some e) (ends_of table)) v a
+        from_inside b (inl inf) = subst (λ (n : ℕ). EndHasClaims (after_prepare s r e) (with_end r.id (Some e) (ends_of table)) v n) (some_end e a (sym (own_word (ends_of table) r.id (Some e) v.begin b) ∙ put)) (fresh_claims v inf)
         from_inside b (inr own) =
             let at : e ≡ a = some_end e a (sym (own_word (ends_of table) r.id (Some e) v.begin b) ∙ put) in
             absurd (true≢false (sym (ap (is_stamp a) (own_word (ends_of table) r.id (Some e) v.end own) ∙ eq-eqb e a at) ∙ stays))
@@ -231,7 +224,7 @@ kept_after_prepare s table table' vs r e lt sd sg st h f ph = record {
         not_with true q = ap (is_stamp a) (named_end (ends_of table) r.id v.end q ∙ no_end)
         not_with false q = ap (is_stamp a) (sym (stamp_other (ends_of table) r.id (Some e) v.end q)) ∙ stays
 
-        go : (b : Bool) → names r.id v.begin ≡ b → HasClaims (after_prepare s r e) (with_end r.id (Some e) (ends_of table)) v a
+        go : (b : Bool) → names r.id v.begin ≡ b → EndHasClaims (after_prepare s r e) (with_end r.id (Some e) (ends_of table)) v a
         go true q = from_inside q ((active_holds (IsInside v) r.id s.active r f i.inside).0 q)
         go false q = old_claims v a i.known.1 (i.claims a (sym (stamp_other (ends_of table) r.id (Some e) v.begin q) ∙ put) (not_with (names r.id v.end) refl))
 
@@ -270,18 +263,6 @@ rows_at-filter e m (x ∷ xs) n = go (x.end == e) refl (rows_at-filter e m xs n)
 
 filtered_apart : (e : ℕ) (xs : List StampedTx) → AllByRecursion (λ x. x.end ≢ e) (filter (not_at e) xs)
 filtered_apart e xs = each_filter (not_at e) (λ _. ⊤) (λ x. x.end ≢ e) (λ x n _ q. false≢true (sym (ap not (eq-eqb x.end e q)) ∙ n)) xs (each_always (λ _. ⊤) (λ _. tt) xs)
-
--- no other has its end
-alone_at : (before after : List StampedTx) (x : StampedTx) → IsRising (before ++ x ∷ after) → AllByRecursion (λ y. y.end ≡ x.end → y.id ≡ x.id) (before ++ x ∷ after)
-alone_at before after x r = each_append (λ y. y.end ≡ x.end → y.id ≡ x.id) before (x ∷ after)
-    (each_weaker (λ y. y.end < x.end) (λ y. y.end ≡ x.end → y.id ≡ x.id) (λ y lt e. absurd (omega arith)) before (rising_before before after x r))
-    (λ _. refl, each_weaker (λ y. x.end < y.end) (λ y. y.end ≡ x.end → y.id ≡ x.id) (λ y lt e. absurd (omega arith)) after (rising_after before after x r))
-
-pub alone_in : (s : State) (t : ℕ) (x : StampedTx) → preparing_of t s.stamped ≡ Some x → IsSound s → AllByRecursion (λ y. y.end ≡ x.end → y.id ≡ t) s.stamped
-alone_in s t x f k =
-    let p = split_at t s.stamped x f in
-    subst (λ (n : ℕ). AllByRecursion (λ y. y.end ≡ x.end → y.id ≡ n) s.stamped) p.3
-    (subst (AllByRecursion (λ y. y.end ≡ x.end → y.id ≡ x.id)) (sym p.2) (alone_at p.0 p.1 x (subst IsRising p.2 k.rising)))
 
 -- rollback, and a refusal that aborts, of a Preparing one: its words fall silent
 pub kept_after_abort_of_preparing : (s : State) (table table' : Phases) (vs : List Version) (t : ℕ) (x : StampedTx) → IsSound s → IsSingle s → IsStarted s → AreVersionsOf s table vs → preparing_of t s.stamped ≡ Some x → ((u : ℕ) → table' u ≡ phase_in (after_abort_of_preparing s t x.end) u) → AreVersionsOf (after_abort_of_preparing s t x.end) table' vs
@@ -386,9 +367,9 @@ kept_after_abort_of_preparing s table table' vs t x sd sg st h f ph = record {
         let b = had v.begin a put in
         let g = i.claims a b.1 (not_with (names t v.end) refl) in
         record {
-          active = each_map (active_with_flag t x.end) (λ q. IsClaimed v.row.key a (names q.id) q.claims v.end) (λ q. IsClaimed v.row.key a (names q.id) q.claims v.end) (λ q j. j) s.active g.active;
-          stamped = each_map (with_flag t x.end) (λ y. IsClaimed v.row.key a (has_stamp (with_end t None (ends_of table)) y.end) y.claims v.end) (λ y. IsClaimed v.row.key a (has_stamp (with_end t None (ends_of table)) y.end) y.claims v.end) (λ y j. j) (filter (not_at x.end) s.stamped)
-              (each_filter (not_at x.end) (λ y. IsClaimed v.row.key a (has_stamp (ends_of table) y.end) y.claims v.end) (λ y. IsClaimed v.row.key a (has_stamp (with_end t None (ends_of table)) y.end) y.claims v.end)
+          active = each_map (active_with_flag t x.end) (λ q. EndIsClaimed v.row.key a (names q.id) q.claims v.end) (λ q. EndIsClaimed v.row.key a (names q.id) q.claims v.end) (λ q j. j) s.active g.active;
+          stamped = each_map (with_flag t x.end) (λ y. EndIsClaimed v.row.key a (has_stamp (with_end t None (ends_of table)) y.end) y.claims v.end) (λ y. EndIsClaimed v.row.key a (has_stamp (with_end t None (ends_of table)) y.end) y.claims v.end) (λ y j. j) (filter (not_at x.end) s.stamped)
+              (each_filter (not_at x.end) (λ y. EndIsClaimed v.row.key a (has_stamp (ends_of table) y.end) y.claims v.end) (λ y. EndIsClaimed v.row.key a (has_stamp (with_end t None (ends_of table)) y.end) y.claims v.end)
               (λ y n j. other_word (ends_of table) t None y.end refl (ap (is_stamp y.end) its_end ∙ ne_eqb x.end y.end (λ q. false≢true (sym (ap not (eq-eqb y.end x.end (sym q))) ∙ n))) v.end ∙ j) s.stamped g.stamped);
         }
       where

@@ -23,6 +23,7 @@ use Rattle.mvo_representation.specs.Words.Touch.{OnlyPut, PutOrEnded}
 use Rattle.mvo_representation.specs.Words.NetEffect.{Untouched}
 use Rattle.mvo_representation.specs.Versions.{rows_by, Say, IsKnown, AreVersionsOf}
 use Rattle.mvo_representation.proofs.Effects.{effect_of_nothing, part_none}
+use Rattle.mvo_representation.proofs.Decided.{none_end, some_end}
 use Rattle.mvo_theory.specs.State.Outcome.{Committed as WasCommitted, Aborted as WasAborted}
 
 -- ---- phases
@@ -57,12 +58,6 @@ found_holds P t xs x e h = let w = split_at t xs x e in ((each_back P w.0 (x ∷
 pub record IsDrawn (s : State) (e : ℕ) : Type 0 where
   pub drawn : e ≤ s.clock
   pub apart : AllByRecursion (λ r. r.id ≢ e) s.active
-
-none_end : (e : ℕ) → ◌≡◌ {A = Option ℕ} None (Some e) → ⊥
-none_end e q = cc
-
-some_end : (a b : ℕ) → ◌≡◌ {A = Option ℕ} (Some a) (Some b) → a ≡ b
-some_end a b q = cc
 
 each_active : (s : State) (x : StampedTx) → AllByRecursion (λ r. AllByRecursion (λ y. y.end ≢ r.id) s.stamped) s.active → preparing_of x.id s.stamped ≡ Some x → AllByRecursion (λ r. r.id ≢ x.end) s.active
 each_active s x h f = each_weaker (λ r. AllByRecursion (λ y. y.end ≢ r.id) s.stamped) (λ r. r.id ≢ x.end) (λ r g e. (found_holds (λ y. y.end ≢ r.id) x.id s.stamped x f g).0 (sym e)) s.active h

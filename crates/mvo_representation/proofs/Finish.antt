@@ -10,7 +10,7 @@ use Rattle.mvo_word.specs.declared.held.Held.TheVariants.{At, By, Infinity}
 use Rattle.mvo_chain.specs.declared.version.Version.{Version}
 use Rattle.mvo_representation.specs.Words.{Phases, ends_of, end_in, stamp_in, is_stamp, has_stamp}
 use Rattle.mvo_visible.specs.Words.{names}
-use Rattle.mvo_representation.specs.Versions.{Say, IsKnown, IsClaimed, HasClaims, IsInside, AreVersionsOf}
+use Rattle.mvo_representation.specs.Versions.{Say, IsKnown, EndIsClaimed, EndHasClaims, IsInside, AreVersionsOf}
 use Rattle.mvo_representation.proofs.Conflict.{not_active}
 use Rattle.mvo_representation.proofs.Kept.{IsVersion, each_version, kept_alike, beside, same_at, say_like, each_changed, each_at}
 
@@ -50,10 +50,10 @@ version_alike s table v w r o c inf kb ke h = record {
     turned q e (inl i) = inl (inf i)
     turned q e (inr i) = inr (sym e.1 ∙ i)
 
-    claims : (a : ℕ) → HasClaims s (ends_of table) v a → HasClaims s (ends_of table) w a
+    claims : (a : ℕ) → EndHasClaims s (ends_of table) v a → EndHasClaims s (ends_of table) w a
     claims a g = record {
-      active = each_both (λ q. names q.id v.end ≡ names q.id w.end) (λ q. IsClaimed v.row.key a (names q.id) q.claims v.end) (λ q. IsClaimed w.row.key a (names q.id) q.claims w.end) (λ q e i. sym e ∙ i ∙ ap (λ x. has_claim q.claims x.key a) r) s.active c.active g.active;
-      stamped = each_weaker (λ x. IsClaimed v.row.key a (has_stamp (ends_of table) x.end) x.claims v.end) (λ x. IsClaimed w.row.key a (has_stamp (ends_of table) x.end) x.claims w.end) (λ x i. ap (is_stamp x.end) (sym c.stamp) ∙ i ∙ ap (λ y. has_claim x.claims y.key a) r) s.stamped g.stamped;
+      active = each_both (λ q. names q.id v.end ≡ names q.id w.end) (λ q. EndIsClaimed v.row.key a (names q.id) q.claims v.end) (λ q. EndIsClaimed w.row.key a (names q.id) q.claims w.end) (λ q e i. sym e ∙ i ∙ ap (λ x. has_claim q.claims x.key a) r) s.active c.active g.active;
+      stamped = each_weaker (λ x. EndIsClaimed v.row.key a (has_stamp (ends_of table) x.end) x.claims v.end) (λ x. EndIsClaimed w.row.key a (has_stamp (ends_of table) x.end) x.claims w.end) (λ x i. ap (is_stamp x.end) (sym c.stamp) ∙ i ∙ ap (λ y. has_claim x.claims y.key a) r) s.stamped g.stamped;
     }
 
 -- finish one word: the state stays

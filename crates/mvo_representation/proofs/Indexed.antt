@@ -13,13 +13,14 @@ use Rattle.mvo_word.specs.declared.held.Held.{Held}
 use Rattle.mvo_chain.specs.declared.version.Version.{Version}
 use Rattle.mvo_chain.specs.Slots.{Slots}
 use Rattle.mvo_hash.specs.Lists.{Lists, numbers_of}
-use Rattle.mvo_range.specs.declared.place.Place.{Place}
-use Rattle.mvo_range.specs.Place.{Map as Places, place_cmp}
+use Rattle.mvo_range.specs.declared.sort_place.SortPlace.{SortPlace}
+use Rattle.mvo_range.specs.Place.{PlaceNumbers as Places, place_cmp}
 use Rattle.mvo_range.proofs.Places.{places_total, exact_places}
 use Rattle.mvo_representation.specs.Words.{NetEffect, with_effect, effect_by, effect_of, net_effect}
 use Rattle.mvo_representation.specs.Words.NetEffect.{Untouched}
-use Rattle.mvo_representation.specs.Indexes.{all_versions, and_found, versions_numbered, is_of_key, HasNumbers, place_of, is_at_place, HasPlaces}
-use Rattle.mvo_representation.proofs.Effects.{with_comm, with_assoc}
+use Rattle.mvo_representation.specs.Indexes.{all_versions, and_found, versions_numbered, is_of_key, HasNumbers, version_place, is_at_place, HasPlaces}
+use Rattle.mvo_representation.proofs.Effects.{with_comm, with_assoc, or_comm}
+use Rattle.mvo_deps.proofs.Lists.{one}
 
 -- ---- slots, one of which is emptied
 abbrev emptied : Slots → ℕ → Slots
@@ -64,9 +65,6 @@ versions_nothing n k (Some v ∷ xs) h =
     ap (λ b. with_effect (cond b (effect_by (n v.begin) (n v.end) (content_of v.row)) Untouched) (net_effect n k (all_versions xs))) (h zero)
     ∙ versions_nothing n k xs (λ m. h (suc m))
 
-abbrev one : Bool → ℕ
-one b = cond b 1 0
-
 found_same : (slots : Slots) (m : ℕ) (ns : List ℕ) → how_many (λ i. i == m) ns ≡ 0 → versions_numbered (emptied slots m) ns ≡ versions_numbered slots ns
 found_same slots m [] h = refl
 found_same slots m (i ∷ ns) h = go (cases_eq i m) (λ e. found_same slots m ns e)
@@ -108,12 +106,7 @@ pub index_net_effect : (n : Held → Bool) (k : RowKey) (slots : Slots) (lists :
 index_net_effect n k slots lists h = found_net_effect n k slots (numbers_of lists k) (h.at k)
 
 -- ---- places
-or_comm : (a b c : Bool) → (a || (b || c)) ≡ (b || (a || c))
-or_comm true true c = refl
-or_comm true false c = refl
-or_comm false b c = refl
-
-pub there-at : (p : Place) (xs : List Version) (v : Version) (ys : List Version) → list_any (is_at_place p) (xs ++ v ∷ ys) ≡ (is_at_place p v || list_any (is_at_place p) (xs ++ ys))
+pub there-at : (p : SortPlace) (xs : List Version) (v : Version) (ys : List Version) → list_any (is_at_place p) (xs ++ v ∷ ys) ≡ (is_at_place p v || list_any (is_at_place p) (xs ++ ys))
 there-at p [] v ys = refl
 there-at p (x ∷ xs) v ys = ap (λ b. is_at_place p x || b) (there-at p xs v ys) ∙ or_comm (is_at_place p x) (is_at_place p v) (list_any (is_at_place p) (xs ++ ys))
 
@@ -122,25 +115,25 @@ some_cond true n o = refl
 some_cond false n o = refl
 
 -- a version more, with any number at its place
-pub places_added : (xs : List Version) (v : Version) (ys : List Version) (places : Places) (n : ℕ) → HasPlaces (xs ++ ys) places → HasPlaces (xs ++ v ∷ ys) (fin.insert places (place_of v) n)
+pub places_added : (xs : List Version) (v : Version) (ys : List Version) (places : Places) (n : ℕ) → HasPlaces (xs ++ ys) places → HasPlaces (xs ++ v ∷ ys) (fin.insert places (version_place v) n)
 places_added xs v ys places n h = record {
-  at = λ p. ap is_some (fin.get-insert places_total places (place_of v) n p) ∙ some_cond (eq_by_cmp place_cmp p (place_of v)) n (fin.get places p) ∙ ap (λ b. is_at_place p v || b) (h.at p) ∙ sym (there-at p xs v ys);
+  at = λ p. ap is_some (fin.get-insert places_total places (version_place v) n p) ∙ some_cond (eq_by_cmp place_cmp p (version_place v)) n (fin.get places p) ∙ ap (λ b. is_at_place p v || b) (h.at p) ∙ sym (there-at p xs v ys);
 }
 
 -- a version less, while another stands at its place
-pub places_kept : (xs : List Version) (v : Version) (ys : List Version) (places : Places) → HasPlaces (xs ++ v ∷ ys) places → list_any (is_at_place (place_of v)) (xs ++ ys) ≡ true → HasPlaces (xs ++ ys) places
+pub places_kept : (xs : List Version) (v : Version) (ys : List Version) (places : Places) → HasPlaces (xs ++ v ∷ ys) places → list_any (is_at_place (version_place v)) (xs ++ ys) ≡ true → HasPlaces (xs ++ ys) places
 places_kept xs v ys places h e = record { at = λ p. h.at p ∙ there-at p xs v ys ∙ go p (is_at_place p v) refl }
   where
-    go : (p : Place) (b : Bool) → is_at_place p v ≡ b → (b || list_any (is_at_place p) (xs ++ ys)) ≡ list_any (is_at_place p) (xs ++ ys)
-    go p true q = sym (ap (λ x. list_any (is_at_place x) (xs ++ ys)) (tells_apart exact_places p (place_of v) q) ∙ e)
+    go : (p : SortPlace) (b : Bool) → is_at_place p v ≡ b → (b || list_any (is_at_place p) (xs ++ ys)) ≡ list_any (is_at_place p) (xs ++ ys)
+    go p true q = sym (ap (λ x. list_any (is_at_place x) (xs ++ ys)) (tells_apart exact_places p (version_place v) q) ∙ e)
     go p false q = refl
 
 -- the last version of its place goes
-pub places_gone : (xs : List Version) (v : Version) (ys : List Version) (places : Places) → HasPlaces (xs ++ v ∷ ys) places → list_any (is_at_place (place_of v)) (xs ++ ys) ≡ false → HasPlaces (xs ++ ys) (fin.remove places (place_of v))
-places_gone xs v ys places h e = record { at = λ p. ap is_some (fin.get-remove places_total places (place_of v) p) ∙ go p (is_at_place p v) refl }
+pub places_gone : (xs : List Version) (v : Version) (ys : List Version) (places : Places) → HasPlaces (xs ++ v ∷ ys) places → list_any (is_at_place (version_place v)) (xs ++ ys) ≡ false → HasPlaces (xs ++ ys) (fin.remove places (version_place v))
+places_gone xs v ys places h e = record { at = λ p. ap is_some (fin.get-remove places_total places (version_place v) p) ∙ go p (is_at_place p v) refl }
   where
-    go : (p : Place) (b : Bool) → is_at_place p v ≡ b → is_some (cond b None (fin.get places p)) ≡ list_any (is_at_place p) (xs ++ ys)
-    go p true q = sym (ap (λ x. list_any (is_at_place x) (xs ++ ys)) (tells_apart exact_places p (place_of v) q) ∙ e)
+    go : (p : SortPlace) (b : Bool) → is_at_place p v ≡ b → is_some (cond b None (fin.get places p)) ≡ list_any (is_at_place p) (xs ++ ys)
+    go p true q = sym (ap (λ x. list_any (is_at_place x) (xs ++ ys)) (tells_apart exact_places p (version_place v) q) ∙ e)
     go p false q = h.at p ∙ there-at p xs v ys ∙ ap (λ b. b || list_any (is_at_place p) (xs ++ ys)) q
 
 -- words that change leave the places

@@ -152,7 +152,7 @@ last_step k b (x ∷ xs) h = go (cases_order x.end b) (last_step k b xs h.1)
         ∙ ap (first_of (mark b (as_net_effect (net_write k (history_at b (x ∷ xs)))))) (sym (whole b ∙ ap (λ r. first_of r (own_change k b x)) (none_here (beyond gt)) ∙ own-above k b x (omega (arith, gt))))
 
 -- ---- the change below b: that of the last writer, or else of those up to the start
-above_start : (a b : ℕ) → a < b → (suc a ≡ b) ⊎ (suc a < b)
+pub above_start : (a b : ℕ) → a < b → (suc a ≡ b) ⊎ (suc a < b)
 above_start a b lt = go (cases_order (suc a) b)
   where
     go : (suc a ≡ b) ⊎ ((suc a < b) ⊎ (b < suc a)) → (suc a ≡ b) ⊎ (suc a < b)

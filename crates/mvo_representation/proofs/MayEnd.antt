@@ -3,7 +3,7 @@ use Rattle.std.proofs.Common.{◌≡◌, ℕ, Bool, true, false, cond, not, List
 use Rattle.std.specs.Prelude.{is_some}
 use Rattle.std.specs.List.{list_any}
 use Rattle.std.specs.Option.{option_map, option_or}
-use Rattle.std.proofs.lemmas.Bool.{eqb-true, true≢false, false≢true, and_parts, not-true}
+use Rattle.std.proofs.lemmas.Bool.{true≢false, and_parts, not-true}
 use Rattle.std.proofs.lemmas.Map.Views.{tells_apart}
 use Rattle.mvo_types.specs.declared.row.RowKey.{RowKey}
 use Rattle.mvo_types.specs.Keys.{Map}
@@ -24,10 +24,10 @@ use Rattle.mvo_chain.specs.Slots.{Slots, version_at}
 use Rattle.mvo_hash.specs.Lists.{Lists}
 use Rattle.mvo_visible.specs.Words.{States, names}
 use Rattle.mvo_visible.specs.Causes as rule
-use Rattle.mvo_visible.specs.Versions.{Numbered, versions_at, is_own, own_newest}
+use Rattle.mvo_visible.specs.Versions.{NumberedVersion, versions_at, is_own, own_newest}
 use Rattle.mvo_visible.specs.Changes.{changes_of, greatest_below, done_with, deciding}
 use Rattle.mvo_visible.specs.Shown.{shown_by, own_or, shown_to}
-use Rattle.mvo_representation.specs.Words.{ends_of, stamp_in, is_stamp, has_stamp, net_effect, as_net_effect, change_below, IsShownAt}
+use Rattle.mvo_representation.specs.Words.{ends_of, stamp_in, has_stamp, net_effect, as_net_effect, change_below, IsShownAt}
 use Rattle.mvo_representation.specs.Versions.{Say, AreVersionsOf}
 use Rattle.mvo_representation.specs.Indexes.{all_versions, HasNumbers}
 use Rattle.mvo_representation.specs.Steps.{MayEnd}
@@ -41,6 +41,7 @@ use Rattle.mvo_representation.proofs.Calls.{conflict_right}
 use Rattle.mvo_representation.proofs.Slots.{slot_emptied}
 use Rattle.mvo_representation.proofs.Decided.{is_put_by, first_put, number_of, version_first, AreOfKey, unnumbered, is_change, change_any, last_of_versions}
 use Rattle.mvo_representation.proofs.ShownTo.{AreThere, of_key, there, keyed, below_keyed, own_newest_first}
+use Rattle.mvo_representation.proofs.DependsOn.{stamp_some}
 
 -- ---- the first that is put
 -- the version with this number stands there, is of the key, and is put by words that pass
@@ -57,7 +58,7 @@ none_number n q = cc
 some_number : (m n : VersionNo) → ◌≡◌ {A = Option VersionNo} (Some m) (Some n) → m ≡ n
 some_number m n q = cc
 
-is_first : (slots : Slots) (k : RowKey) (n : Held → Bool) (number : VersionNo) (vs : List Numbered) → AreOfKey k vs → AreThere slots vs → number_of (first_put n vs) ≡ Some number → IsFirst slots k n number
+is_first : (slots : Slots) (k : RowKey) (n : Held → Bool) (number : VersionNo) (vs : List NumberedVersion) → AreOfKey k vs → AreThere slots vs → number_of (first_put n vs) ≡ Some number → IsFirst slots k n number
 is_first slots k n number [] of th e = absurd (none_number number e)
 is_first slots k n number (v ∷ vs) of th e = go (is_put_by n v) refl e (λ r. is_first slots k n number vs of.1 th.1 r)
   where
@@ -74,10 +75,6 @@ is_first slots k n number (v ∷ vs) of th e = go (is_put_by n v) refl e (λ r. 
     go false p q again = again q
 
 -- ---- the version that is shown
-stamp_some : (s : ℕ) (o : Option ℕ) → is_stamp s o ≡ true → o ≡ Some s
-stamp_some s None e = absurd (false≢true e)
-stamp_some s (Some n) e = ap Some (eqb-true n s e)
-
 some_write : (w : Option Effect) → is_change (as_net_effect w) ≡ is_some w
 some_write None = refl
 some_write (Some Gone) = refl

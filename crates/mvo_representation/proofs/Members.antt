@@ -10,7 +10,8 @@ use Rattle.mvo_theory.specs.Dependencies.{has_end, with_end}
 use Rattle.mvo_theory.proofs.Each.{each_both, each_map, each_always}
 use Rattle.mvo_representation.specs.Nodes.{Nodes, is_open_in, open_count, IsNode, AreDependents, HasNodes, HasDrawnDependents, active_with_dependency, after_dependency}
 use Rattle.mvo_representation.proofs.NodesAnswered.{unmapped}
-use Rattle.mvo_representation.proofs.Waited.{one, has_with}
+use Rattle.mvo_representation.proofs.Waited.{has_with}
+use Rattle.mvo_deps.proofs.Lists.{one}
 
 -- ---- several dependencies more
 -- with each of these ends, of which the first came last

@@ -10,7 +10,8 @@ use Rattle.mvo_theory.specs.Sound.{IsSound, IsActive, IsPreparing, IsPlaced}
 use Rattle.mvo_theory.proofs.Each.{each_weaker, each_both, each_filter, each_append}
 use Rattle.mvo_theory.proofs.Who.{active_holds}
 use Rattle.mvo_representation.specs.Nodes.{NodeData, Nodes, open_count, IsNode, AreDependents, HasNodes, HasDrawnDependents, no_node, nodes_after_begin}
-use Rattle.mvo_representation.proofs.Waited.{one, count_pushed}
+use Rattle.mvo_representation.proofs.Waited.{count_pushed}
+use Rattle.mvo_deps.proofs.Lists.{one}
 
 -- ---- who isn't among them
 not_among : (ds : List ℕ) (c u : ℕ) → AllByRecursion (λ d. d ≤ c) ds → c < u → has_end ds u ≡ false

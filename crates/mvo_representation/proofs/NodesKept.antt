@@ -9,7 +9,7 @@ use Rattle.mvo_theory.specs.Dependencies.{has_end}
 use Rattle.mvo_theory.proofs.Each.{each_append, each_weaker, each_both, each_filter, each_map}
 use Rattle.mvo_theory.proofs.Trim.{IsTrim}
 use Rattle.mvo_representation.specs.Nodes.{with_listed, NodeData, Nodes, is_open_in, open_count, IsNode, AreDependents, HasNodes, HasDrawnDependents, nodes_after_commit, nodes_after_abort, nodes_after_register, active_with_dependency, after_dependency}
-use Rattle.mvo_representation.proofs.Waited.{one}
+use Rattle.mvo_deps.proofs.Lists.{one}
 
 -- ---- what others keep doesn't matter
 -- the nodes of those that are Active or Preparing are the same

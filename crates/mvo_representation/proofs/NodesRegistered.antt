@@ -9,10 +9,10 @@ use Rattle.mvo_types.specs.declared.ids.TxId.{TxId}
 use Rattle.mvo_theory.specs.State.{State}
 use Rattle.mvo_theory.specs.Dependencies.{has_end}
 use Rattle.mvo_theory.specs.Sound.{IsRising}
-use Rattle.mvo_txn.specs.declared.seat.Seat.{Seat}
+use Rattle.mvo_txn.specs.declared.table_seat.TableSeat.{TableSeat}
 use Rattle.mvo_txn.specs.Txns.{Txns}
 use Rattle.mvo_deps.specs.declared.node.Node.{Node}
-use Rattle.mvo_deps.specs.Data.{is_among, with_dependency, with_dependent}
+use Rattle.mvo_deps.specs.Data.{is_id_among, with_dependency, with_dependent}
 use Rattle.mvo_deps.specs.Nodes.{data_in, data_of, after_change, changed_if, with_data, after_register as after_registration}
 use Rattle.mvo_deps.proofs.Changes.{get_changed}
 use Rattle.mvo_representation.specs.Nodes.{NodeData, node_as, nodes_of, with_listed, AreDependents, HasNodes, HasDrawnDependents, nodes_after_register, after_dependency}
@@ -30,12 +30,12 @@ module _ {P : Type 0} where
     pub apart : tx.0 ≢ on.0
     pub there : is_some (fin.get old.seats tx.0) ≡ true
     pub other : is_some (fin.get old.seats on.0) ≡ true
-    pub mutual' : is_among on (data_of old tx).on ≡ true → is_among tx (data_of old on).dependents ≡ true
+    pub mutual' : is_id_among on (data_of old tx).on ≡ true → is_id_among tx (data_of old on).dependents ≡ true
 
   registered_is : (old : Txns (Node P)) (tx on : TxId) → MayRegister old tx on → (u : ℕ) → nodes_of (after_registration old tx on) u ≡ nodes_after_register tx.0 on.0 (nodes_of old) u
-  registered_is old tx on m u = go (is_among on (data_of old tx).on) refl (is_among tx (data_of old on).dependents) refl
+  registered_is old tx on m u = go (is_id_among on (data_of old tx).on) refl (is_id_among tx (data_of old on).dependents) refl
     where
-      listed : (b : Bool) → is_among tx (data_of old on).dependents ≡ b → has_end (nodes_of old on.0).dependents tx.0 ≡ b
+      listed : (b : Bool) → is_id_among tx (data_of old on).dependents ≡ b → has_end (nodes_of old on.0).dependents tx.0 ≡ b
       listed b e = sym (among_is tx (data_of old on).dependents) ∙ e
 
       -- it stood there already
@@ -64,7 +64,7 @@ module _ {P : Type 0} where
       new_node : has_end (nodes_of old on.0).dependents tx.0 ≡ false → nodes_of (after_change (after_change old on.0 (with_dependent tx)) tx.0 (with_dependency on)) u ≡ nodes_after_register tx.0 on.0 (nodes_of old) u
       new_node h = ap (λ o. node_as (data_in (option_map (λ s. s.kept) o))) seat ∙ by (fin.get old.seats u) refl (u == tx.0) refl (u == on.0) refl
         where
-          by : (o : Option (Seat (Node P))) → fin.get old.seats u ≡ o → (b : Bool) → (u == tx.0) ≡ b → (c : Bool) → (u == on.0) ≡ c →
+          by : (o : Option (TableSeat (Node P))) → fin.get old.seats u ≡ o → (b : Bool) → (u == tx.0) ≡ b → (c : Bool) → (u == on.0) ≡ c →
               node_as (data_in (option_map (λ s. s.kept) (option_map (with_data (changed_if b (with_dependency on))) (option_map (with_data (changed_if c (with_dependent tx))) o))))
               ≡ record { waits = cond (b && not (has_end (nodes_of old on.0).dependents tx.0)) ((node_as (data_in (option_map (λ s. s.kept) o))).waits + 1) (node_as (data_in (option_map (λ s. s.kept) o))).waits; flag = (node_as (data_in (option_map (λ s. s.kept) o))).flag; dependents = cond c (with_listed (node_as (data_in (option_map (λ s. s.kept) o))).dependents tx.0) (node_as (data_in (option_map (λ s. s.kept) o))).dependents }
           by o e true i true j = absurd (m.apart (sym (eqb-true u tx.0 i) ∙ eqb-true u on.0 j))
@@ -79,7 +79,7 @@ module _ {P : Type 0} where
               ap (λ ns. record { waits = s.kept.dependencies.unsettled; flag = option_map (λ (t : TxId). t.0) s.kept.dependencies.aborted; dependents = ns })
               (ids_behind s.kept.dependencies.dependents tx ∙ ap (λ x. cond x (map (λ (t : TxId). t.0) s.kept.dependencies.dependents) (map (λ (t : TxId). t.0) s.kept.dependencies.dependents ++ tx.0 ∷ [])) (sym k))
 
-      go : (a : Bool) → is_among on (data_of old tx).on ≡ a → (b : Bool) → is_among tx (data_of old on).dependents ≡ b → nodes_of (cond a old (cond b old (after_change (after_change old on.0 (with_dependent tx)) tx.0 (with_dependency on)))) u ≡ nodes_after_register tx.0 on.0 (nodes_of old) u
+      go : (a : Bool) → is_id_among on (data_of old tx).on ≡ a → (b : Bool) → is_id_among tx (data_of old on).dependents ≡ b → nodes_of (cond a old (cond b old (after_change (after_change old on.0 (with_dependent tx)) tx.0 (with_dependency on)))) u ≡ nodes_after_register tx.0 on.0 (nodes_of old) u
       go true i b j = old_node (listed true (m.mutual' i))
       go false i true j = old_node (listed true j)
       go false i false j = new_node (listed false j)

@@ -27,20 +27,20 @@ use Rattle.mvo_word.specs.declared.held.Held.TheVariants.{At, By, Infinity}
 use Rattle.mvo_chain.specs.declared.version.VersionNo.{VersionNo}
 use Rattle.mvo_chain.specs.Slots.{Slots}
 use Rattle.mvo_hash.specs.Lists.{Lists}
-use Rattle.mvo_range.specs.Place.{Map as Places}
+use Rattle.mvo_range.specs.Place.{PlaceNumbers as Places}
 use Rattle.mvo_visible.specs.declared.seen.Seen.{Seen}
 use Rattle.mvo_visible.specs.declared.seen.Seen.TheVariants.{Nothing, Settled, Speculative}
 use Rattle.mvo_visible.specs.declared.change.Change.{Change}
 use Rattle.mvo_visible.specs.Words.{States, seen_in, seen_of}
-use Rattle.mvo_visible.specs.Versions.{Numbered, versions_at, is_own, own_newest}
+use Rattle.mvo_visible.specs.Versions.{NumberedVersion, versions_at, is_own, own_newest}
 use Rattle.mvo_visible.specs.Changes.{put_of, removal_of, changes_by, changes_of, greatest_below, owner_with, done_with}
 use Rattle.mvo_visible.specs.Shown.{own_or, shown_to}
-use Rattle.mvo_deps.specs.Data.{is_among}
+use Rattle.mvo_deps.specs.Data.{is_id_among}
 use Rattle.mvo_representation.specs.Words.{open_end_in, with_open}
 use Rattle.mvo_representation.specs.Indexes.{all_versions}
 use Rattle.mvo_representation.specs.Table.{phases_of, end_awaited}
-use Rattle.mvo_representation.specs.Laws.{StandsFor}
-use Rattle.mvo_representation.specs.Dependencies.{AreDependencies, tx_id, named, named_at, is_met_at, AreNamedByScan}
+use Rattle.mvo_representation.specs.Laws.{VersionsStandFor}
+use Rattle.mvo_representation.specs.Dependencies.{AreDependencies, tx_id, named_ids, named_at, is_met_at, AreNamedByScan}
 use Rattle.mvo_representation.proofs.DependsOn.{depends_is}
 use Rattle.mvo_representation.proofs.Facts.{preparing_is, found_holds}
 use Rattle.mvo_representation.proofs.Read.{written_depends, key_depends}
@@ -49,6 +49,8 @@ use Rattle.mvo_representation.proofs.Reported.{swap_eq}
 use Rattle.mvo_representation.proofs.TableTells.{phase_open}
 use Rattle.mvo_representation.proofs.Unsettled.{some_same, found_itself, alone}
 use Rattle.mvo_representation.proofs.Waited.{has_with}
+use Rattle.mvo_representation.proofs.RangeCheckedBy.{iff}
+use Rattle.mvo_representation.proofs.TableMarks.{or_second}
 
 -- ---- whom the rules name is Preparing
 abbrev IsOwner : States → Option TxId → Type 0
@@ -91,7 +93,7 @@ removal_names states Nothing h = tt
 removal_names states (Settled e) h = (tt, tt)
 removal_names states (Speculative e t) h = (h, tt)
 
-changes_name : (states : States) (vs : List Numbered) → AllByRecursion (λ c. IsOwner states c.owner) (changes_of states vs)
+changes_name : (states : States) (vs : List NumberedVersion) → AllByRecursion (λ c. IsOwner states c.owner) (changes_of states vs)
 changes_name states [] = tt
 changes_name states (v ∷ vs) = each_append (λ c. IsOwner states c.owner) (changes_by states v) (changes_of states vs)
     (each_append (λ c. IsOwner states c.owner) (put_of v.0 (seen_of states v.1.begin) (seen_of states v.1.end)) (removal_of (seen_of states v.1.end))
@@ -103,7 +105,7 @@ first_names : (states : States) (n : ℕ) (cs : List Change) → AllByRecursion 
 first_names states n [] h = tt
 first_names states n (c ∷ cs) h = owner_or states (cond (c.stamp.0 == n) c.owner None) (owner_with n cs) (owner_if states (c.stamp.0 == n) c.owner h.0) (first_names states n cs h.1)
 
-shown_names : (states : States) (b reader : ℕ) (vs : List Numbered) → IsOwner states (shown_to states b reader vs).depends_on
+shown_names : (states : States) (b reader : ℕ) (vs : List NumberedVersion) → IsOwner states (shown_to states b reader vs).depends_on
 shown_names states b reader vs = go (list_any (is_own reader) vs) (greatest_below b (changes_of states vs))
   where
     go : (c : Bool) (w : Option ℕ) → IsOwner states (own_or c (own_newest reader vs) (option_map (done_with (changes_of states vs)) w)).depends_on
@@ -112,11 +114,6 @@ shown_names states b reader vs = go (list_any (is_own reader) vs) (greatest_belo
     go false (Some n) = first_names states n (changes_of states vs) (changes_name states vs)
 
 -- ---- of one state
-iff : (a b : Bool) → (a ≡ true → b ≡ true) → (b ≡ true → a ≡ true) → a ≡ b
-iff true b f g = sym (f refl)
-iff false true f g = g refl
-iff false false f g = refl
-
 or_cases : (a b : Bool) → (a || b) ≡ true → (a ≡ true) ⊎ (b ≡ true)
 or_cases true b e = inl refl
 or_cases false b e = inr e
@@ -124,21 +121,17 @@ or_cases false b e = inr e
 or_first : (a b : Bool) → a ≡ true → (a || b) ≡ true
 or_first a b e = ap (λ c. c || b) e
 
-or_second : (a b : Bool) → b ≡ true → (a || b) ≡ true
-or_second true b e = refl
-or_second false b e = e
-
 or_turned : (a b : Bool) → (a || b) ≡ (b || (a || false))
 or_turned true true = refl
 or_turned true false = refl
 or_turned false true = refl
 or_turned false false = refl
 
-one_among : (P : TxId → Type 0) (t : TxId) (ids : List TxId) → is_among t ids ≡ true → AllByRecursion P ids → (id : TxId) × (id.0 ≡ t.0) × P id
+one_among : (P : TxId → Type 0) (t : TxId) (ids : List TxId) → is_id_among t ids ≡ true → AllByRecursion P ids → (id : TxId) × (id.0 ≡ t.0) × P id
 one_among P t [] e h = absurd (false≢true e)
 one_among P t (id ∷ ids) e h = go (eqb id.0 t.0) refl e (λ f. one_among P t ids f h.1)
   where
-    go : (b : Bool) → eqb id.0 t.0 ≡ b → (b || is_among t ids) ≡ true → (is_among t ids ≡ true → (u : TxId) × (u.0 ≡ t.0) × P u) → (u : TxId) × (u.0 ≡ t.0) × P u
+    go : (b : Bool) → eqb id.0 t.0 ≡ b → (b || is_id_among t ids) ≡ true → (is_id_among t ids ≡ true → (u : TxId) × (u.0 ≡ t.0) × P u) → (u : TxId) × (u.0 ≡ t.0) × P u
     go true q f again = (id, eqb-true id.0 t.0 q, h.0)
     go false q f again = again f
 
@@ -146,7 +139,7 @@ none_written : (w : Option Effect) → is_some w ≡ false → w ≡ None
 none_written None e = refl
 none_written (Some x) e = absurd (true≢false e)
 
-module _ (opening : Map) (steps : List Step) (s : State) (states : States) (slots : Slots) (lists : Lists) (places : Places) (w : StandsFor opening steps s states slots lists places) (r : ActiveTx) (f : active_of r.id s.active ≡ Some r) where
+module _ (opening : Map) (steps : List Step) (s : State) (states : States) (slots : Slots) (lists : Lists) (places : Places) (w : VersionsStandFor opening steps s states slots lists places) (r : ActiveTx) (f : active_of r.id s.active ≡ Some r) where
   -- one that the rules name at a key, as the state has it
   record IsNamed (id : TxId) : Type 0 where
     pub it : StampedTx
@@ -174,10 +167,10 @@ module _ (opening : Map) (steps : List Step) (s : State) (states : States) (slot
   by_rule op k en = depends_is opening steps s states slots lists op r k w.kept w.versions w.numbers f en
 
   -- ---- an operation on one key
-  key_by_id : (op : Op) (k : RowKey) → entry_of op ≡ Key k → AreDependencies s op r (named (named_at states slots lists r.id k))
+  key_by_id : (op : Op) (k : RowKey) → entry_of op ≡ Key k → AreDependencies s op r (named_ids (named_at states slots lists r.id k))
   key_by_id op k en = go (named_at states slots lists r.id k) refl (by_rule op k en)
     where
-      go : (o : Option TxId) → named_at states slots lists r.id k ≡ o → dependencies s op r ≡ with_open r.depends_on (end_awaited states o) → AreDependencies s op r (named o)
+      go : (o : Option TxId) → named_at states slots lists r.id k ≡ o → dependencies s op r ≡ with_open r.depends_on (end_awaited states o) → AreDependencies s op r (named_ids o)
       go None e d = record {
         preparing = tt;
         just = each_both (λ y. y.settled ≡ false → preparing_of y.id s.stamped ≡ Some y) (λ y. y.settled ≡ false → preparing_of y.id s.stamped ≡ Some y) (λ y. y.settled ≡ false → has_end (dependencies s op r) y.end ≡ (has_end r.depends_on y.end || false)) (λ y m n o. ap (λ ds. has_end ds y.end) d ∙ none (has_end r.depends_on y.end)) s.stamped (found_itself s w.kept.single) (found_itself s w.kept.single);
@@ -201,7 +194,7 @@ module _ (opening : Map) (steps : List Step) (s : State) (states : States) (slot
   -- ---- a scan
   module _ (table lo hi : ℕ) (ids : List TxId) (h : AreNamedByScan s states slots lists r.id table lo hi ids) where
     -- a dependency that is new is among these
-    among_these : (y : StampedTx) → y.settled ≡ false → preparing_of y.id s.stamped ≡ Some y → IsMetOpen s (phases_of states) (all_versions slots) table lo hi r y.end → (has_end r.depends_on y.end || is_among (tx_id y.id) ids) ≡ true
+    among_these : (y : StampedTx) → y.settled ≡ false → preparing_of y.id s.stamped ≡ Some y → IsMetOpen s (phases_of states) (all_versions slots) table lo hi r y.end → (has_end r.depends_on y.end || is_id_among (tx_id y.id) ids) ≡ true
     among_these y o m v = go (named_at states slots lists r.id v.key) refl (by_rule (Read v.key) v.key refl)
       where
         known : has_end (dependencies s (Read v.key) r) y.end ≡ true
@@ -210,24 +203,24 @@ module _ (opening : Map) (steps : List Step) (s : State) (states : States) (slot
             ∙ has_with r.depends_on v.writer.end y.end
             ∙ or_first (v.writer.end == y.end) (has_end r.depends_on y.end) (eq-eqb v.writer.end y.end v.ends)
 
-        go : (p : Option TxId) → named_at states slots lists r.id v.key ≡ p → dependencies s (Read v.key) r ≡ with_open r.depends_on (end_awaited states p) → (has_end r.depends_on y.end || is_among (tx_id y.id) ids) ≡ true
-        go None e d = or_first (has_end r.depends_on y.end) (is_among (tx_id y.id) ids) (sym (ap (λ ds. has_end ds y.end) d) ∙ known)
+        go : (p : Option TxId) → named_at states slots lists r.id v.key ≡ p → dependencies s (Read v.key) r ≡ with_open r.depends_on (end_awaited states p) → (has_end r.depends_on y.end || is_id_among (tx_id y.id) ids) ≡ true
+        go None e d = or_first (has_end r.depends_on y.end) (is_id_among (tx_id y.id) ids) (sym (ap (λ ds. has_end ds y.end) d) ∙ known)
         go (Some id) e d =
             let n = named_by v.key id e in
             let c = or_cases (n.it.end == y.end) (has_end r.depends_on y.end) (sym (ap (λ ds. has_end ds y.end) (d ∙ ap (with_open r.depends_on) n.awaited) ∙ has_with r.depends_on n.it.end y.end) ∙ known) in
             elim c [
-              | inl q ↦ or_second (has_end r.depends_on y.end) (is_among (tx_id y.id) ids) (
+              | inl q ↦ or_second (has_end r.depends_on y.end) (is_id_among (tx_id y.id) ids) (
                   let a = (found_holds (λ z. z.settled ≡ false → (z.id == id.0) ≡ (z.end == n.it.end)) y.id s.stamped y m (alone s w.kept.single w.kept.sound.rising id.0 n.it n.found)).0 o in
                   let is : y.id ≡ id.0 = eqb-true y.id id.0 (a ∙ eq-eqb y.end n.it.end (sym (eqb-true n.it.end y.end q))) in
-                  subst (λ (u : ℕ). is_among (tx_id u) ids ≡ true) (sym is) (h.each v.key id v.met e))
-              | inr q ↦ or_first (has_end r.depends_on y.end) (is_among (tx_id y.id) ids) q
+                  subst (λ (u : ℕ). is_id_among (tx_id u) ids ≡ true) (sym is) (h.each v.key id v.met e))
+              | inr q ↦ or_first (has_end r.depends_on y.end) (is_id_among (tx_id y.id) ids) q
             ]
 
     more : (d : ℕ) → has_end r.depends_on d ≡ true → has_end (dependencies s (Scan table lo hi) r) d ≡ true
     more d e = depends_more r.depends_on (unwritten r.history (keys_for (entry_of (Scan table lo hi)) r.id s.base s.stamped)) r.id s.stamped d e
 
     -- one of these is a dependency
-    from_these : (y : StampedTx) → preparing_of y.id s.stamped ≡ Some y → is_among (tx_id y.id) ids ≡ true → has_end (dependencies s (Scan table lo hi) r) y.end ≡ true
+    from_these : (y : StampedTx) → preparing_of y.id s.stamped ≡ Some y → is_id_among (tx_id y.id) ids ≡ true → has_end (dependencies s (Scan table lo hi) r) y.end ≡ true
     from_these y m e =
         let u = one_among (λ id. (q : RowKey) × (is_met_at states s slots r.id table lo hi q ≡ true) × (named_at states slots lists r.id q ≡ Some id)) (tx_id y.id) ids e h.only in
         let q = u.2.0 in
@@ -254,13 +247,13 @@ module _ (opening : Map) (steps : List Step) (s : State) (states : States) (slot
                   | inr j ↦ more y.end j
                 ]
 
-    just_these : (y : StampedTx) → y.settled ≡ false → preparing_of y.id s.stamped ≡ Some y → has_end (dependencies s (Scan table lo hi) r) y.end ≡ (has_end r.depends_on y.end || is_among (tx_id y.id) ids)
-    just_these y o m = iff (has_end (dependencies s (Scan table lo hi) r) y.end) (has_end r.depends_on y.end || is_among (tx_id y.id) ids)
+    just_these : (y : StampedTx) → y.settled ≡ false → preparing_of y.id s.stamped ≡ Some y → has_end (dependencies s (Scan table lo hi) r) y.end ≡ (has_end r.depends_on y.end || is_id_among (tx_id y.id) ids)
+    just_these y o m = iff (has_end (dependencies s (Scan table lo hi) r) y.end) (has_end r.depends_on y.end || is_id_among (tx_id y.id) ids)
         (λ e. elim (scan_depends_only s (phases_of states) (all_versions slots) table lo hi r y.end w.kept.sound w.kept.started w.versions f e) [
-          | inl q ↦ or_first (has_end r.depends_on y.end) (is_among (tx_id y.id) ids) q
+          | inl q ↦ or_first (has_end r.depends_on y.end) (is_id_among (tx_id y.id) ids) q
           | inr v ↦ among_these y o m v
         ])
-        (λ e. elim (or_cases (has_end r.depends_on y.end) (is_among (tx_id y.id) ids) e) [
+        (λ e. elim (or_cases (has_end r.depends_on y.end) (is_id_among (tx_id y.id) ids) e) [
           | inl q ↦ more y.end q
           | inr q ↦ from_these y m q
         ])
@@ -269,18 +262,18 @@ module _ (opening : Map) (steps : List Step) (s : State) (states : States) (slot
     scan_by_id = record {
       preparing = each_weaker (λ id. (q : RowKey) × (is_met_at states s slots r.id table lo hi q ≡ true) × (named_at states slots lists r.id q ≡ Some id)) (λ id. IsSome (preparing_of id.0 s.stamped))
           (λ id n. subst IsSome (sym (named_by n.0 id n.2).found) refl) ids h.only;
-      just = each_weaker (λ y. y.settled ≡ false → preparing_of y.id s.stamped ≡ Some y) (λ y. y.settled ≡ false → has_end (dependencies s (Scan table lo hi) r) y.end ≡ (has_end r.depends_on y.end || is_among (tx_id y.id) ids))
+      just = each_weaker (λ y. y.settled ≡ false → preparing_of y.id s.stamped ≡ Some y) (λ y. y.settled ≡ false → has_end (dependencies s (Scan table lo hi) r) y.end ≡ (has_end r.depends_on y.end || is_id_among (tx_id y.id) ids))
           (λ y m o. just_these y o (m o)) s.stamped (found_itself s w.kept.single);
     }
 
 -- ---- the same, of the transaction t
-pub key_named : (opening : Map) (steps : List Step) (s : State) (states : States) (slots : Slots) (lists : Lists) (places : Places) (t : ℕ) (op : Op) (r : ActiveTx) (k : RowKey) → StandsFor opening steps s states slots lists places → active_of t s.active ≡ Some r → entry_of op ≡ Key k → AreDependencies s op r (named (named_at states slots lists t k))
+pub key_named : (opening : Map) (steps : List Step) (s : State) (states : States) (slots : Slots) (lists : Lists) (places : Places) (t : ℕ) (op : Op) (r : ActiveTx) (k : RowKey) → VersionsStandFor opening steps s states slots lists places → active_of t s.active ≡ Some r → entry_of op ≡ Key k → AreDependencies s op r (named_ids (named_at states slots lists t k))
 key_named opening steps s states slots lists places t op r k w f en =
     let is : r.id ≡ t = id_of t s.active r f in
-    subst (λ (u : ℕ). AreDependencies s op r (named (named_at states slots lists u k))) is
+    subst (λ (u : ℕ). AreDependencies s op r (named_ids (named_at states slots lists u k))) is
     (key_by_id opening steps s states slots lists places w r (subst (λ (u : ℕ). active_of u s.active ≡ Some r) (sym is) f) op k en)
 
-pub scan_named : (opening : Map) (steps : List Step) (s : State) (states : States) (slots : Slots) (lists : Lists) (places : Places) (t : ℕ) (r : ActiveTx) (table lo hi : ℕ) (ids : List TxId) → StandsFor opening steps s states slots lists places → active_of t s.active ≡ Some r → AreNamedByScan s states slots lists t table lo hi ids → AreDependencies s (Scan table lo hi) r ids
+pub scan_named : (opening : Map) (steps : List Step) (s : State) (states : States) (slots : Slots) (lists : Lists) (places : Places) (t : ℕ) (r : ActiveTx) (table lo hi : ℕ) (ids : List TxId) → VersionsStandFor opening steps s states slots lists places → active_of t s.active ≡ Some r → AreNamedByScan s states slots lists t table lo hi ids → AreDependencies s (Scan table lo hi) r ids
 scan_named opening steps s states slots lists places t r table lo hi ids w f h =
     let is : r.id ≡ t = id_of t s.active r f in
     scan_by_id opening steps s states slots lists places w r (subst (λ (u : ℕ). active_of u s.active ≡ Some r) (sym is) f) table lo hi ids

@@ -22,16 +22,11 @@ use Rattle.mvo_representation.specs.Versions.{IsKnown, AreVersionsOf}
 use Rattle.mvo_representation.proofs.LastChanges.{change_by, first_of, last_holds}
 use Rattle.mvo_representation.proofs.Facts.{preparing_is, found_holds}
 use Rattle.mvo_representation.proofs.Shown.{IsBegin, deciding}
+use Rattle.mvo_representation.proofs.Decided.{none_end, some_end}
 
 -- whether an unsettled one ends at e
 abbrev pub is_open : ℕ → List StampedTx → Bool
 is_open e xs = list_any (λ x. not x.settled && (x.end == e)) xs
-
-none_end : (e : ℕ) → ◌≡◌ {A = Option ℕ} None (Some e) → ⊥
-none_end e q = cc
-
-some_end : (a b : ℕ) → ◌≡◌ {A = Option ℕ} (Some a) (Some b) → a ≡ b
-some_end a b q = cc
 
 or_first : (b c : Bool) → b ≡ true → (b || c) ≡ true
 or_first b c e = ap (λ x. x || c) e

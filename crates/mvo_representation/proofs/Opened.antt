@@ -3,14 +3,13 @@ use Rattle.std.proofs.Common.{◌≡◌, ℕ, ◌<◌, suc, zero, Bool, true, fa
 use Rattle.std.specs.Prelude.{◌&&◌}
 use Rattle.std.specs.List.{AllByRecursion}
 use Rattle.std.specs.Option.{option_map}
-use Rattle.std.specs.Ordering.{eq_by_cmp, is_lt, is_eq}
-use Rattle.std.specs.declared.cmp.Ordering.{Ordering}
-use Rattle.std.specs.declared.cmp.Ordering.TheVariants.{Less, Equal, Greater}
+use Rattle.std.specs.Ordering.{eq_by_cmp}
 use Rattle.std.specs.FinMap as fin
 use Rattle.std.specs.FinMap.Entries.{below_all}
 use Rattle.std.proofs.lemmas.Bool.{eq-eqb, ne_eqb, lt-ltb}
 use Rattle.std.proofs.lemmas.Map.Views.{tells_apart}
 use Rattle.mvo_types.proofs.Maps.{exact_keys}
+use Rattle.mvo_types.proofs.Ranges.{first, second}
 use Rattle.mvo_types.specs.declared.row.RowKey.{RowKey}
 use Rattle.mvo_types.specs.RowData.{ContentData, content_of, row_with}
 use Rattle.mvo_types.specs.Keys.{Map, key_cmp}
@@ -18,6 +17,7 @@ use Rattle.mvo_model.specs.Trace.Phase.{Absent, Committed}
 use Rattle.mvo_theory.specs.Ranges.{Row}
 use Rattle.mvo_theory.specs.State.{State, opened}
 use Rattle.mvo_theory.proofs.Each.{each_weaker, each_always}
+use Rattle.mvo_theory.proofs.Scans.{find_below}
 use Rattle.mvo_word.specs.declared.held.Held.{Held}
 use Rattle.mvo_word.specs.declared.held.Held.TheVariants.{At, Infinity}
 use Rattle.mvo_chain.specs.declared.version.Version.{Version}
@@ -43,23 +43,6 @@ at_mark mark v = (v.begin ≡ At (record { 0 = mark })) × (v.end ≡ Infinity)
 each_loaded : (mark : ℕ) (es : List Row) → AllByRecursion (at_mark mark) (loaded_from mark es)
 each_loaded mark [] = tt
 each_loaded mark (e ∷ es) = ((refl, refl), each_loaded mark es)
-
-first : (a b : Bool) → T (a && b) → T a
-first true b p = tt
-first false b p = p
-
-second : (a b : Bool) → T (a && b) → T b
-second true b p = p
-second false b p = absurd p
-
-lt_not_eq : (o : Ordering) → T (is_lt o) → is_eq o ≡ false
-lt_not_eq Less p = refl
-lt_not_eq Equal p = absurd p
-lt_not_eq Greater p = absurd p
-
-find_below : (q : RowKey) (es : List Row) → T (below_all key_cmp q es) → fin.find key_cmp q es ≡ None
-find_below q [] h = refl
-find_below q (e ∷ es) h = ap (λ b. cond b (Some e.1) (fin.find key_cmp q es)) (lt_not_eq (key_cmp q e.0) (first _ _ h)) ∙ find_below q es (second _ _ h)
 
 -- sums in which each row counts alone
 abbrev sum_of : (Version → NetEffect) → List Version → NetEffect

@@ -27,17 +27,12 @@ use Rattle.mvo_representation.specs.Order.HasSameWords.{Same, Unnamed}
 use Rattle.mvo_representation.specs.OrderLaws.{AbortBringsOrder, BeginKeepsOrder, CommitStaysInOrder, LeavingKeepsOrder, SameStayInOrder}
 use Rattle.mvo_representation.specs.WrittenLaws.{AbsentIsUnnamed}
 use Rattle.mvo_representation.proofs.Facts.{preparing_is, found_holds}
-use Rattle.mvo_representation.proofs.OrderPairs.{is_the_stamp, unstamped_pair}
+use Rattle.mvo_representation.proofs.OrderPairs.{is_the_stamp, unstamped_pair, none_stamp, some_stamp}
 use Rattle.mvo_representation.proofs.OrderLists.{keyed, with_keyed, fronts_keyed}
 use Rattle.mvo_representation.proofs.OrderSteps.{order_to, order_from, live, alike_stay_in_order}
 use Rattle.mvo_representation.proofs.OrderFronts.{StandsLater, fronts_in_order, written_numbers}
-use Rattle.mvo_representation.proofs.OrderEnds.{other_stamp, own_stamp, one_name, IsLive, live_at}
-
-none_stamp : (s : ℕ) → ◌≡◌ {A = Option ℕ} None (Some s) → ⊥
-none_stamp s q = cc
-
-some_stamp : (a b : ℕ) → ◌≡◌ {A = Option ℕ} (Some a) (Some b) → a ≡ b
-some_stamp a b q = cc
+use Rattle.mvo_representation.proofs.OrderEnds.{other_stamp, own_stamp, IsLive, live_at}
+use Rattle.mvo_representation.proofs.WordPlaces.{one_name}
 
 -- ---- nobody else has the end of a Preparing one
 pub known_apart : (s : State) (t e : ℕ) → (x : StampedTx) × (preparing_of t s.stamped ≡ Some x) × (x.end ≡ e) → IsKnownStamp s e → ⊥

@@ -3,14 +3,10 @@ use Rattle.std.proofs.Common.{◌≡◌, ◌≢◌, ℕ, ◌<◌, ◌≤◌, suc
 use Rattle.std.specs.Prelude.{is_some, nat_lt, ◌==◌, ◌&&◌}
 use Rattle.std.specs.List.{AllByRecursion}
 use Rattle.std.specs.Option.{option_map}
-use Rattle.std.specs.Ordering.{eq_by_cmp}
-use Rattle.std.specs.Cmp.{eq_by_cmp_equiv}
 use Rattle.std.specs.FinMap as fin
 use Rattle.std.proofs.lemmas.Bool.{eq-eqb, eqb-true, ne_eqb, false≢true, true≢false, cases_lt, lt-ltb, le-ltb, and_from}
-use Rattle.mvo_types.proofs.Maps.{keys_total}
 use Rattle.mvo_types.specs.declared.row.RowKey.{RowKey}
 use Rattle.mvo_types.specs.RowData.{ContentData, content_of}
-use Rattle.mvo_types.specs.Keys.{key_cmp}
 use Rattle.mvo_types.specs.Write.{Effect}
 use Rattle.mvo_types.specs.Write.Effect.{Put, Delete as Gone}
 use Rattle.mvo_model.specs.History.{net_write}
@@ -35,7 +31,7 @@ use Rattle.mvo_representation.proofs.Kept.{standing_effect-at}
 use Rattle.mvo_representation.proofs.Open.{stamp_of}
 use Rattle.mvo_representation.proofs.Version.{IsLastChange, last_change_is_one, no_change}
 use Rattle.mvo_representation.proofs.OrderPairs.{has_the_stamp, put_has_effect}
-use Rattle.mvo_representation.proofs.OrderSteps.{stays_put}
+use Rattle.mvo_representation.proofs.OrderSteps.{stays_put, same_key}
 use Rattle.mvo_representation.proofs.OrderClaims.{IsBase}
 
 -- ---- who has an end that says something of the key
@@ -68,9 +64,6 @@ put_in (Some Gone) e = absurd (false≢true e)
 put_in (Some (Put h)) e = (h, refl)
 
 -- ---- what stands at the start
-same_key : (k : RowKey) (v : Version) → v.row.key ≡ k → eq_by_cmp key_cmp k v.row.key ≡ true
-same_key k v e = subst (λ (j : RowKey). eq_by_cmp key_cmp j v.row.key ≡ true) e ((eq_by_cmp_equiv keys_total).refl v.row.key)
-
 pub leaves_none : (a b : NetEffect) → leaves_row (with_effect a b) ≡ false → (leaves_row a ≡ false) × (leaves_row b ≡ false)
 leaves_none Untouched b e = (refl, e)
 leaves_none Removed Untouched e = (refl, refl)

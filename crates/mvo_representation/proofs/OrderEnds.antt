@@ -22,19 +22,14 @@ use Rattle.mvo_representation.specs.Words.{Phases, Ends, end_in, ends_of, stamp_
 use Rattle.mvo_representation.specs.Versions.{IsKnown, IsInside, AreVersionsOf}
 use Rattle.mvo_representation.specs.Indexes.{all_versions}
 use Rattle.mvo_representation.specs.Table.{phase_as, phases_of}
-use Rattle.mvo_representation.specs.Order.{IsUpTo, first_stamp, is_written_by, MayPrecede, StandInOrder, comes_forward, HasEndedItsOwn, is_nothing}
+use Rattle.mvo_representation.specs.Order.{IsUpTo, first_change_stamp, is_written_by, MayPrecede, StandInOrder, comes_forward, HasEndedItsOwn, is_nothing}
 use Rattle.mvo_representation.specs.OrderLaws.{DrawKeepsOrder, ForwardIsSame, UnstampedIsUnseen}
 use Rattle.mvo_representation.proofs.Facts.{stamp_drawn}
-use Rattle.mvo_representation.proofs.OrderPairs.{is_the_stamp, has_the_stamp, active_is, inside_is}
+use Rattle.mvo_representation.proofs.OrderPairs.{is_the_stamp, has_the_stamp, active_is, inside_is, none_stamp, some_stamp}
 use Rattle.mvo_representation.proofs.OrderLists.{keyed, with_keyed, fronts_keyed}
 use Rattle.mvo_representation.proofs.OrderSteps.{order_to, order_from, live}
 use Rattle.mvo_representation.proofs.OrderFronts.{fronts_in_order, written_numbers, written_order}
-
-none_stamp : (s : ℕ) → ◌≡◌ {A = Option ℕ} None (Some s) → ⊥
-none_stamp s q = cc
-
-some_stamp : (a b : ℕ) → ◌≡◌ {A = Option ℕ} (Some a) (Some b) → a ≡ b
-some_stamp a b q = cc
+use Rattle.mvo_representation.proofs.WordPlaces.{one_name}
 
 -- ---- words where one transaction stands otherwise
 pub other_stamp : (t : ℕ) (states states' : States) → DifferAt t states states' → (w : Held) → names t w ≡ false → stamp_in (ends_of (phases_of states')) w ≡ stamp_in (ends_of (phases_of states)) w
@@ -46,11 +41,6 @@ pub own_stamp : (t : ℕ) (states : States) (w : Held) → names t w ≡ true �
 own_stamp t states (At s) n = absurd (false≢true n)
 own_stamp t states (By u) n = ap (λ (i : ℕ). end_in (phase_as (states i))) (eqb-true u.0 t n)
 own_stamp t states Infinity n = absurd (false≢true n)
-
-pub one_name : (t u : ℕ) (w : Held) → names t w ≡ true → names u w ≡ true → t ≡ u
-one_name t u (At s) p q = absurd (false≢true p)
-one_name t u (By x) p q = sym (eqb-true x.0 t p) ∙ eqb-true x.0 u q
-one_name t u Infinity p q = absurd (false≢true p)
 
 upto_or : (s : ℕ) (a b : Option ℕ) → ((x : ℕ) → a ≡ Some x → x ≤ s) → ((x : ℕ) → b ≡ Some x → x ≤ s) → IsUpTo s (option_or a b)
 upto_or s (Some x) b f g = f x refl
@@ -125,7 +115,7 @@ module _ (s : State) (states states' : States) (vs : List Version) (t e : ℕ) (
   -- one that comes to the front
   drawn_front : (w v : Version) → IsLive s (phases_of states) w → IsLive s (phases_of states) v → comes_forward (ends_of (phases_of states)) t w ≡ true → HasEndedItsOwn (names t) w v → MayPrecede s.start (phases_of states') w v
   drawn_front w v lw lv test own = record {
-    puts = λ x q. let m = put_is x q in subst (λ (n : ℕ). IsUpTo n (first_stamp (ends_of (phases_of states')) v)) (sym m.1) (upto_or e (stamp_in (ends_of (phases_of states')) v.begin) (stamp_in (ends_of (phases_of states')) v.end) (up_to_end v.begin lv.known.0) (up_to_end v.end lv.known.1));
+    puts = λ x q. let m = put_is x q in subst (λ (n : ℕ). IsUpTo n (first_change_stamp (ends_of (phases_of states')) v)) (sym m.1) (upto_or e (stamp_in (ends_of (phases_of states')) v.begin) (stamp_in (ends_of (phases_of states')) v.end) (up_to_end v.begin lv.known.0) (up_to_end v.end lv.known.1));
     removals = λ x y q r le. let same = (put_is x q).1 in omega (arith, same, le, started, drawn);
     stamped = λ x p q.
         let m = put_is x (is_the_stamp x (stamp_in (ends_of (phases_of states')) w.begin) p) in
@@ -187,7 +177,7 @@ module _ (s : State) (states states' : States) (vs : List Version) (t e : ℕ) (
       put_same : stamp_in (ends_of (phases_of states')) w.begin ≡ stamp_in (ends_of (phases_of states)) w.begin
       put_same = other_stamp t states states' d w.begin (unput w fw)
 
-      first_same : (o : Option ℕ) → stamp_in (ends_of (phases_of states)) v.begin ≡ o → first_stamp (ends_of (phases_of states')) v ≡ first_stamp (ends_of (phases_of states)) v
+      first_same : (o : Option ℕ) → stamp_in (ends_of (phases_of states)) v.begin ≡ o → first_change_stamp (ends_of (phases_of states')) v ≡ first_change_stamp (ends_of (phases_of states)) v
       first_same (Some x) q = ap (λ o. option_or o (stamp_in (ends_of (phases_of states')) v.end)) (other_stamp t states states' d v.begin (unput v fv) ∙ q) ∙ sym (ap (λ o. option_or o (stamp_in (ends_of (phases_of states)) v.end)) q)
       first_same None q =
           ap (λ o. option_or o (stamp_in (ends_of (phases_of states')) v.end)) (other_stamp t states states' d v.begin (unput v fv))

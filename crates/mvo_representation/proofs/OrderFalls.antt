@@ -25,29 +25,24 @@ use Rattle.mvo_txn.specs.declared.state.TxState.{TxState}
 use Rattle.mvo_txn.specs.declared.state.TxState.TheVariants as state
 use Rattle.mvo_visible.specs.declared.seen.Seen.TheVariants.{Nothing, Settled, Speculative}
 use Rattle.mvo_visible.specs.Words.{States, seen_in, seen_of}
-use Rattle.mvo_visible.specs.Versions.{Numbered}
+use Rattle.mvo_visible.specs.Versions.{NumberedVersion}
 use Rattle.mvo_visible.proofs.Behind.{Behind, IsUnder, to_falling, to_front}
+use Rattle.mvo_visible.proofs.Moves.{versions}
 use Rattle.mvo_representation.specs.Words.{Phases, end_in, ends_of, stamp_in, is_stamp, is_up_to, has_stamp, net_effect}
 use Rattle.mvo_representation.specs.Words.NetEffect.{Untouched}
-use Rattle.mvo_representation.specs.Versions.{IsClaimed, IsKnown, IsKnownStamp, HasItsClaims, AreVersionsOf}
+use Rattle.mvo_representation.specs.Versions.{EndIsClaimed, IsKnown, IsKnownStamp, HasItsClaims, AreVersionsOf}
 use Rattle.mvo_representation.specs.Indexes.{all_versions}
 use Rattle.mvo_representation.specs.Table.{phase_as, phases_of}
 use Rattle.mvo_representation.specs.Order.{EachPair, IsUpTo, is_written_by, MayPrecede}
 use Rattle.mvo_representation.specs.OrderLaws.{OrderFalls, OrderHasOwnInFront, TrimKeepsOrder}
 use Rattle.mvo_representation.proofs.Conflict.{end_has_effect}
 use Rattle.mvo_representation.proofs.Facts.{preparing_is, found_holds}
-use Rattle.mvo_representation.proofs.OrderLists.{On, OnOne, versions, pairs_weaker, pairs_from}
-use Rattle.mvo_representation.proofs.OrderPairs.{is_the_stamp, has_the_stamp, put_has_effect}
+use Rattle.mvo_representation.proofs.OrderLists.{On, OnOne, pairs_weaker, pairs_from}
+use Rattle.mvo_representation.proofs.OrderPairs.{is_the_stamp, has_the_stamp, put_has_effect, none_stamp, some_stamp}
 use Rattle.mvo_representation.proofs.OrderSteps.{order_to, order_from, always, more_at, live, at_key}
 use Rattle.mvo_representation.proofs.OrderAborts.{known_apart}
 use Rattle.mvo_representation.proofs.OrderClaims.{IsBase, none_later}
 use Rattle.mvo_representation.proofs.OrderBases.{writer_at, StandsAtStart, stands_at_start, base_at_start, base_of_settled}
-
-none_stamp : (s : ℕ) → ◌≡◌ {A = Option ℕ} None (Some s) → ⊥
-none_stamp s q = cc
-
-some_stamp : (a b : ℕ) → ◌≡◌ {A = Option ℕ} (Some a) (Some b) → a ≡ b
-some_stamp a b q = cc
 
 -- ---- a removal of a version that stands behind a settled put
 module _ (opening : Map) (steps : List Step) (s : State) (table : Phases) (vs : List Version) (h : IsKept opening steps s) (versions' : AreVersionsOf s table vs) (k : RowKey) (w v : Version) (wb : List Version) (wa : List Version) (w_in : wb ++ w ∷ wa ≡ vs) (vb : List Version) (va : List Version) (v_in : vb ++ v ∷ va ≡ vs) (kw : w.row.key ≡ k) (kv : v.row.key ≡ k)
@@ -75,7 +70,7 @@ module _ (opening : Map) (steps : List Step) (s : State) (table : Phases) (vs : 
     claimed : (y : StampedTx) → IsIn y s.stamped → y.end ≡ x → has_claim y.claims k a ≡ true
     claimed y m e =
         let its : HasItsClaims s (ends_of table) v = (each_back (HasItsClaims s (ends_of table)) vb (v ∷ va) (subst (AllByRecursion (HasItsClaims s (ends_of table))) (sym v_in) versions'.claims)).0 in
-        let same = m (λ u. IsClaimed v.row.key a (has_stamp (ends_of table) u.end) u.claims v.end) (its a begun stays).stamped in
+        let same = m (λ u. EndIsClaimed v.row.key a (has_stamp (ends_of table) u.end) u.claims v.end) (its a begun stays).stamped in
         sym (ap (λ (j : RowKey). has_claim y.claims j a) kv) ∙ sym same ∙ has_the_stamp y.end (stamp_in (ends_of table) v.end) (removed ∙ ap (λ (n : ℕ). Some n) (sym e))
 
     at_start : a ≤ s.start → StandsAtStart s table vs k a
@@ -199,7 +194,7 @@ under s states vs r (By t) h k f = go (states t.0) refl (λ x e. f x e)
 abbrev IsSettledBehindPut : States → Version → Version → Type 0
 IsSettledBehindPut states w v = (r : Stamp) → seen_of states w.begin ≡ Settled r → IsUnder r.0 (seen_of states v.begin) × IsUnder r.0 (seen_of states v.end)
 
-behind_by : (states : States) (Q : ℕ → Version → Type 0) (vs : List Numbered) → EachPair (λ (w v : Numbered). (r : Stamp) → seen_of states w.1.begin ≡ Settled r → Q r.0 v.1) vs → Behind states (λ r e. Q r e.1) vs
+behind_by : (states : States) (Q : ℕ → Version → Type 0) (vs : List NumberedVersion) → EachPair (λ (w v : NumberedVersion). (r : Stamp) → seen_of states w.1.begin ≡ Settled r → Q r.0 v.1) vs → Behind states (λ r e. Q r e.1) vs
 behind_by states Q [] h = tt
 behind_by states Q (e ∷ es) h = ((λ r is. each_weaker (λ v. (r : Stamp) → seen_of states e.1.begin ≡ Settled r → Q r.0 v.1) (λ v. Q r.0 v.1) (λ v f. f r is) es h.0), behind_by states Q es h.1)
 

@@ -14,9 +14,10 @@ use Rattle.mvo_chain.specs.Slots.{Slots, version_at}
 use Rattle.mvo_hash.specs.Lists.{Lists, number, numbers_of, is_among}
 use Rattle.mvo_visible.specs.Words.{names}
 use Rattle.mvo_representation.specs.Indexes.{HasNumbers}
-use Rattle.mvo_representation.specs.Order.{EachPair, HasEndedItsOwn, is_written_by, IsEndedBefore, IsWritten}
-use Rattle.mvo_representation.proofs.OrderLists.{On, OnOne, EachLater, pairs_fronted, of_key, and_key, keyed, with_keyed, numbers_fronted, some_version, pairs_weaker}
+use Rattle.mvo_representation.specs.Order.{EachPair, HasEndedItsOwn, is_written_by, IsEndedBefore, AreWrittenBy}
+use Rattle.mvo_representation.proofs.OrderLists.{On, OnOne, EachLater, pairs_fronted, of_key, and_key, keyed, with_keyed, numbers_fronted, pairs_weaker}
 use Rattle.mvo_representation.proofs.OrderSteps.{at_key, none_of, IsOther}
+use Rattle.mvo_representation.proofs.Slots.{some_version}
 
 abbrev pub IsNumberOf : Slots → (Version → Bool) → RowKey × ℕ → Type 0
 IsNumberOf slots test p = (v : Version) → version_at slots (number p.1) ≡ Some v → (v.row.key ≡ p.0) × (test v ≡ true)
@@ -139,12 +140,12 @@ among_keyed test slots n v at on (m ∷ ns) e = go (eqb n m) refl e (among_keyed
         ∙ or_left (eqb n m) (is_among n (map (λ p. p.1) (keyed test slots ns))) f
     go false f g r = more (version_at slots (number m)) (r g)
 
-pub written_numbers : (t : ℕ) (slots : Slots) (test : Version → Bool) (ns : List ℕ) → ((v : Version) → test v ≡ true → is_written_by t v ≡ true) → IsWritten t slots ns → AreNumbersOf slots test (keyed test slots ns)
+pub written_numbers : (t : ℕ) (slots : Slots) (test : Version → Bool) (ns : List ℕ) → ((v : Version) → test v ≡ true → is_written_by t v ≡ true) → AreWrittenBy t slots ns → AreNumbersOf slots test (keyed test slots ns)
 written_numbers t slots test ns f h = record {
   all = λ n v at on. among_keyed test slots n v at on ns (h.all n v at (f v on));
   only = each_keyed test slots (IsNumberOf slots test) ns (always_of (λ n. (v : Version) → version_at slots (number n) ≡ Some v → test v ≡ true → IsNumberOf slots test (v.row.key, n)) (λ n v at on w at'. let same = some_version v w (sym at ∙ at') in (sym (ap (λ (x : Version). x.row.key) same), sym (ap test same) ∙ on)) ns);
 }
 
-pub written_order : (t : ℕ) (slots : Slots) (test : Version → Bool) (ns : List ℕ) → IsWritten t slots ns → EachPair (StandsLater slots (HasEndedItsOwn (names t))) (keyed test slots ns)
+pub written_order : (t : ℕ) (slots : Slots) (test : Version → Bool) (ns : List ℕ) → AreWrittenBy t slots ns → EachPair (StandsLater slots (HasEndedItsOwn (names t))) (keyed test slots ns)
 written_order t slots test ns h = pairs_keyed test slots (StandsLater slots (HasEndedItsOwn (names t))) ns
     (pairs_weaker (λ n. Unit {0}) (IsEndedBefore t slots) _ (λ m n _ _ f v w at at' x y p q e d. f x y p q (sym (ap (λ (z : Version). z.row.key) (some_version v x (sym at ∙ p))) ∙ e ∙ ap (λ (z : Version). z.row.key) (some_version w y (sym at' ∙ q))) d) ns (always_of (λ n. Unit {0}) (λ n. tt) ns) h.order)

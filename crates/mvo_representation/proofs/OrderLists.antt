@@ -1,5 +1,5 @@
 -- Pairs of a list, and lists of numbers of which some come to the front.
-use Rattle.std.proofs.Common.{◌≡◌, ℕ, ◌||◌, Bool, true, false, cond, not, eqb, List, [], ◌∷◌, map, Option, None, Some, refl, sym, ap, ◌∙◌, subst}
+use Rattle.std.proofs.Common.{◌≡◌, ℕ, ◌||◌, Bool, true, false, cond, not, eqb, List, [], ◌∷◌, Option, None, Some, refl, sym, ap, ◌∙◌, subst}
 use Rattle.std.specs.Prelude.{⊤}
 use Rattle.std.specs.List.{AllByRecursion}
 use Rattle.std.specs.Ordering.{eq_by_cmp}
@@ -8,13 +8,15 @@ use Rattle.mvo_types.specs.declared.row.RowKey.{RowKey}
 use Rattle.mvo_types.specs.Keys.{key_cmp}
 use Rattle.mvo_chain.specs.declared.version.Version.{Version}
 use Rattle.mvo_chain.specs.Slots.{Slots, version_at}
-use Rattle.mvo_hash.specs.Lists.{Lists, number, numbers_of, is_among, without}
+use Rattle.mvo_hash.specs.Lists.{Lists, number, numbers_of, is_among, without_number}
 use Rattle.mvo_hash.proofs.Views.{numbers_put}
-use Rattle.mvo_visible.specs.Versions.{Numbered, and_version, versions_by}
+use Rattle.mvo_visible.specs.Versions.{and_version}
 use Rattle.mvo_visible.specs.Fronts.{with_front}
+use Rattle.mvo_visible.proofs.Moves.{versions}
 use Rattle.mvo_theory.proofs.Footprints.{key_same}
 use Rattle.mvo_theory.proofs.Each.{each_weaker, each_both}
 use Rattle.mvo_representation.specs.Order.{EachPair, with_front_if, with_fronts}
+use Rattle.mvo_representation.proofs.Slots.{some_version}
 
 -- ---- pairs
 pub pairs_weaker : {X : Type 0} (P : X → Type 0) (R Q : X → X → Type 0) → ((w v : X) → P w → P v → R w v → Q w v) → (xs : List X) → AllByRecursion P xs → EachPair R xs → EachPair Q xs
@@ -25,18 +27,12 @@ pairs_weaker P R Q f (x ∷ xs) a h = (each_both P (R x) (Q x) (λ y p r. f x y 
 pub no_version : (v : Version) → ◌≡◌ {A = Option Version} None (Some v) → ⊥
 no_version v q = cc
 
-pub some_version : (w v : Version) → ◌≡◌ {A = Option Version} (Some w) (Some v) → w ≡ v
-some_version w v q = cc
-
 -- what holds of the versions with these numbers
 abbrev pub On : Slots → (Version → Version → Type 0) → ℕ → ℕ → Type 0
 On slots R a b = (w v : Version) → version_at slots (number a) ≡ Some w → version_at slots (number b) ≡ Some v → R w v
 
 abbrev pub OnOne : Slots → (Version → Type 0) → ℕ → Type 0
 OnOne slots P a = (v : Version) → version_at slots (number a) ≡ Some v → P v
-
-abbrev pub versions : Slots → List ℕ → List Numbered
-versions slots ns = versions_by slots (map number ns)
 
 pub all_to : (slots : Slots) (P : Version → Type 0) (ns : List ℕ) → AllByRecursion (λ e. P e.1) (versions slots ns) → AllByRecursion (OnOne slots P) ns
 all_to slots P [] h = tt
@@ -77,26 +73,26 @@ pairs_from slots R (n ∷ ns) h = go (version_at slots (number n)) refl (pairs_f
 -- ---- numbers that come to the front
 abbrev pub fronted : List ℕ → List ℕ → List ℕ
 fronted [] ns = ns
-fronted (m ∷ ms) ns = fronted ms (m ∷ without m ns)
+fronted (m ∷ ms) ns = fronted ms (m ∷ without_number m ns)
 
 -- each that isn't brought again later stands behind those that come after it
 abbrev pub EachLater : (ℕ → ℕ → Type 0) → List ℕ → Type 0
 EachLater R [] = ⊤
 EachLater R (m ∷ ms) = (is_among m ms ≡ false → AllByRecursion (λ a. R a m) ms) × EachLater R ms
 
-pub all_without : (m : ℕ) (P : ℕ → Type 0) (ns : List ℕ) → AllByRecursion (λ a. eqb m a ≡ false → P a) ns → AllByRecursion P (without m ns)
+pub all_without : (m : ℕ) (P : ℕ → Type 0) (ns : List ℕ) → AllByRecursion (λ a. eqb m a ≡ false → P a) ns → AllByRecursion P (without_number m ns)
 all_without m P [] h = tt
 all_without m P (n ∷ ns) h = go (eqb m n) refl (all_without m P ns h.1)
   where
-    go : (c : Bool) → eqb m n ≡ c → AllByRecursion P (without m ns) → AllByRecursion P (cond (not c) (n ∷ without m ns) (without m ns))
+    go : (c : Bool) → eqb m n ≡ c → AllByRecursion P (without_number m ns) → AllByRecursion P (cond (not c) (n ∷ without_number m ns) (without_number m ns))
     go true e r = r
     go false e r = (h.0 e, r)
 
-pub pairs_without : (m : ℕ) (R : ℕ → ℕ → Type 0) (ns : List ℕ) → EachPair (λ a b. eqb m a ≡ false → eqb m b ≡ false → R a b) ns → EachPair R (without m ns)
+pub pairs_without : (m : ℕ) (R : ℕ → ℕ → Type 0) (ns : List ℕ) → EachPair (λ a b. eqb m a ≡ false → eqb m b ≡ false → R a b) ns → EachPair R (without_number m ns)
 pairs_without m R [] h = tt
 pairs_without m R (n ∷ ns) h = go (eqb m n) refl (pairs_without m R ns h.1)
   where
-    go : (c : Bool) → eqb m n ≡ c → EachPair R (without m ns) → EachPair R (cond (not c) (n ∷ without m ns) (without m ns))
+    go : (c : Bool) → eqb m n ≡ c → EachPair R (without_number m ns) → EachPair R (cond (not c) (n ∷ without_number m ns) (without_number m ns))
     go true e r = r
     go false e r = (all_without m (R n) ns (each_weaker (λ b. eqb m n ≡ false → eqb m b ≡ false → R n b) (λ b. eqb m b ≡ false → R n b) (λ b f. f e) ns h.0), r)
 
@@ -114,7 +110,7 @@ pairs_fronted R [] ns h k l = pairs_weaker (λ n. ⊤) (λ a b. is_among a [] �
     always : (xs : List ℕ) → AllByRecursion (λ n. ⊤) xs
     always [] = tt
     always (x ∷ xs) = (tt, always xs)
-pairs_fronted R (m ∷ ms) ns h k l = pairs_fronted R ms (m ∷ without m ns) (
+pairs_fronted R (m ∷ ms) ns h k l = pairs_fronted R ms (m ∷ without_number m ns) (
   all_without m (λ b. is_among m ms ≡ false → is_among b ms ≡ false → R m b) ns (each_weaker (λ b. is_among b (m ∷ ms) ≡ false → AllByRecursion (λ a. R a b) (m ∷ ms)) (λ b. eqb m b ≡ false → is_among m ms ≡ false → is_among b ms ≡ false → R m b) (λ b f e p q. (f (none_among b m ms e q)).0) ns k),
   pairs_without m (λ a b. is_among a ms ≡ false → is_among b ms ≡ false → R a b) ns (pairs_weaker (λ n. ⊤) (λ a b. is_among a (m ∷ ms) ≡ false → is_among b (m ∷ ms) ≡ false → R a b) (λ a b. eqb m a ≡ false → eqb m b ≡ false → is_among a ms ≡ false → is_among b ms ≡ false → R a b) (λ a b p q f d e u v. f (none_among a m ms d u) (none_among b m ms e v)) ns (always ns) h),
 )
@@ -137,11 +133,11 @@ of_key q (p ∷ ps) = cond (eq_by_cmp key_cmp q p.0) (p.1 ∷ of_key q ps) (of_k
 pub numbers_fronted : (lists : Lists) (ps : List (RowKey × ℕ)) (q : RowKey) → numbers_of (with_keyed lists ps) q ≡ fronted (of_key q ps) (numbers_of lists q)
 numbers_fronted lists [] q = refl
 numbers_fronted lists (p ∷ ps) q =
-    numbers_fronted (with_front lists p.0 p.1) ps q ∙ ap (fronted (of_key q ps)) (numbers_put lists p.0 (p.1 ∷ without p.1 (numbers_of lists p.0)) q)
+    numbers_fronted (with_front lists p.0 p.1) ps q ∙ ap (fronted (of_key q ps)) (numbers_put lists p.0 (p.1 ∷ without_number p.1 (numbers_of lists p.0)) q)
     ∙ go (eq_by_cmp key_cmp q p.0) refl
   where
-    go : (c : Bool) → eq_by_cmp key_cmp q p.0 ≡ c → fronted (of_key q ps) (cond c (p.1 ∷ without p.1 (numbers_of lists p.0)) (numbers_of lists q)) ≡ fronted (cond c (p.1 ∷ of_key q ps) (of_key q ps)) (numbers_of lists q)
-    go true e = ap (λ (k : RowKey). fronted (of_key q ps) (p.1 ∷ without p.1 (numbers_of lists k))) (key_same q p.0 e)
+    go : (c : Bool) → eq_by_cmp key_cmp q p.0 ≡ c → fronted (of_key q ps) (cond c (p.1 ∷ without_number p.1 (numbers_of lists p.0)) (numbers_of lists q)) ≡ fronted (cond c (p.1 ∷ of_key q ps) (of_key q ps)) (numbers_of lists q)
+    go true e = ap (λ (k : RowKey). fronted (of_key q ps) (p.1 ∷ without_number p.1 (numbers_of lists k))) (key_same q p.0 e)
     go false e = refl
 
 -- the numbers whose versions pass, each with its key

@@ -34,9 +34,10 @@ use Rattle.mvo_representation.specs.OrderLaws.{HaveNow, InsertKeepsOrder, Delete
 use Rattle.mvo_representation.proofs.Collect.{leaves_row, leaves_put}
 use Rattle.mvo_representation.proofs.Facts.{phase_active}
 use Rattle.mvo_representation.proofs.Own.{own_id, not_clash}
-use Rattle.mvo_representation.proofs.OrderLists.{On, OnOne, some_version, pairs_weaker}
+use Rattle.mvo_representation.proofs.OrderLists.{On, OnOne, pairs_weaker}
 use Rattle.mvo_representation.proofs.OrderPairs.{ended_pair, loose_end, none_before_shown, put_has_effect}
 use Rattle.mvo_representation.proofs.OrderSteps.{order_to, order_from, new_in_order, stays_put, more_at, live, at_key, ended_where_none, is_false}
+use Rattle.mvo_representation.proofs.Slots.{some_version}
 
 -- ---- an Active transaction
 pub state_active : (s : State) (states : States) (vs : List Version) (r : ActiveTx) → AreVersionsOf s (phases_of states) vs → active_of r.id s.active ≡ Some r → states r.id ≡ Some state.Active

@@ -20,7 +20,7 @@ use Rattle.mvo_word.specs.declared.held.Held.{Held}
 use Rattle.mvo_word.specs.declared.held.Held.TheVariants.{At, Infinity}
 use Rattle.mvo_chain.specs.declared.version.Version.{Version}
 use Rattle.mvo_chain.specs.Slots.{Slots, version_at}
-use Rattle.mvo_hash.specs.Lists.{Lists, is_among, number, numbers_of, without}
+use Rattle.mvo_hash.specs.Lists.{Lists, is_among, number, numbers_of, without_number}
 use Rattle.mvo_visible.specs.Words.{States, names}
 use Rattle.mvo_visible.specs.Fronts.{with_front}
 use Rattle.mvo_representation.specs.Words.{Ends, ends_of, stamp_in, NetEffect, with_effect, is_clash, as_net_effect, is_up_to, is_standing, standing_effect}
@@ -32,15 +32,15 @@ use Rattle.mvo_representation.specs.Order.HasSameWords.{Same}
 use Rattle.mvo_representation.specs.OrderLaws.{OpeningStandsInOrder, FinishStaysInOrder, FrontsKeepNumbers, NumbersAreAmong, HolesAreFresh}
 use Rattle.mvo_representation.proofs.Kept.{standing_effect-at}
 use Rattle.mvo_representation.proofs.Numbers.{without_same, without_other}
-use Rattle.mvo_representation.proofs.OrderLists.{On, OnOne, some_version, pairs_weaker}
+use Rattle.mvo_representation.proofs.OrderLists.{On, OnOne, pairs_weaker}
 use Rattle.mvo_representation.proofs.OrderSteps.{at_each, order_from, live, more_at, at_key, alike_stay_in_order}
-use Rattle.mvo_representation.proofs.OrderEnds.{own_stamp, one_name}
+use Rattle.mvo_representation.proofs.OrderEnds.{own_stamp}
 use Rattle.mvo_representation.proofs.OrderBases.{stands_here}
+use Rattle.mvo_representation.proofs.Slots.{some_version}
+use Rattle.mvo_representation.proofs.WordPlaces.{one_name}
+use Rattle.mvo_deps.proofs.Lists.{one}
 
 -- ---- numbers
-abbrev one : Bool → ℕ
-one b = cond b 1 0
-
 among_counts : (n : ℕ) (ns : List ℕ) → is_among n ns ≡ true → 1 ≤ how_many (λ m. m == n) ns
 among_counts n [] e = absurd (false≢true e)
 among_counts n (m ∷ ns) e = go (eqb n m) refl e (among_counts n ns)
@@ -70,11 +70,11 @@ holes_are_fresh slots lists n h e = record { at = λ k. go k (is_among n (number
     go k false f = f
     go k true f = absurd (let l = among_counts n (numbers_of lists k) f in let q = h.at k n in let w : one (is_of_key k (slice_index_or slots n None)) ≡ 0 = ap (λ o. one (is_of_key k o)) e in omega (arith, l, q, w))
 
-front_counts : (n j : ℕ) (ns : List ℕ) → is_among n ns ≡ true → how_many (λ i. i == n) ns ≤ 1 → how_many (λ i. i == j) (n ∷ without n ns) ≡ how_many (λ i. i == j) ns
+front_counts : (n j : ℕ) (ns : List ℕ) → is_among n ns ≡ true → how_many (λ i. i == n) ns ≤ 1 → how_many (λ i. i == j) (n ∷ without_number n ns) ≡ how_many (λ i. i == j) ns
 front_counts n j ns e le = elim (cases_eq j n) [
   | inl same ↦
       let c : one (n == j) ≡ 1 = ap one (eq-eqb n j (sym same)) in
-      let z : how_many (λ i. i == j) (without n ns) ≡ 0 = ap (λ m. how_many (λ i. i == m) (without n ns)) same ∙ without_same n ns in
+      let z : how_many (λ i. i == j) (without_number n ns) ≡ 0 = ap (λ m. how_many (λ i. i == m) (without_number n ns)) same ∙ without_same n ns in
       let l = among_counts n ns e in
       let q : how_many (λ i. i == j) ns ≡ how_many (λ i. i == n) ns = ap (λ m. how_many (λ i. i == m) ns) same in
       omega (arith, c, z, l, q, le)
@@ -83,7 +83,7 @@ front_counts n j ns e le = elim (cases_eq j n) [
 
 pub front_keeps_numbers : (slots : Slots) (lists : Lists) (n : ℕ) (v : Version) → version_at slots (number n) ≡ Some v → HasNumbers slots lists → HasNumbers slots (with_front lists v.row.key n)
 front_keeps_numbers slots lists n v e h = record {
-  at = λ k j. at_each (λ ns. how_many (λ m. m == j) ns ≡ one (is_of_key k (slice_index_or slots j None))) lists v.row.key (n ∷ without n (numbers_of lists v.row.key)) k
+  at = λ k j. at_each (λ ns. how_many (λ m. m == j) ns ≡ one (is_of_key k (slice_index_or slots j None))) lists v.row.key (n ∷ without_number n (numbers_of lists v.row.key)) k
       (λ same. front_counts n j (numbers_of lists v.row.key) (numbers_are_among slots lists n v h e) (at_most n) ∙ h.at v.row.key j ∙ ap (λ (q : RowKey). one (is_of_key q (slice_index_or slots j None))) same) (h.at k j);
 }
   where

@@ -52,10 +52,10 @@ alike_pair start states states' w v w' v' a b h = record {
 }
 
 -- ---- a new version in front
-none_stamp : (s : ℕ) → ◌≡◌ {A = Option ℕ} None (Some s) → ⊥
+pub none_stamp : (s : ℕ) → ◌≡◌ {A = Option ℕ} None (Some s) → ⊥
 none_stamp s q = cc
 
-some_stamp : (a b : ℕ) → ◌≡◌ {A = Option ℕ} (Some a) (Some b) → a ≡ b
+pub some_stamp : (a b : ℕ) → ◌≡◌ {A = Option ℕ} (Some a) (Some b) → a ≡ b
 some_stamp a b q = cc
 
 pub is_the_stamp : (e : ℕ) (o : Option ℕ) → is_stamp e o ≡ true → o ≡ Some e

@@ -14,12 +14,13 @@ use Rattle.mvo_theory.proofs.Footprints.{key_same}
 use Rattle.mvo_word.specs.declared.held.Held.{Held}
 use Rattle.mvo_chain.specs.declared.version.Version.{Version}
 use Rattle.mvo_chain.specs.Slots.{Slots, version_at}
-use Rattle.mvo_hash.specs.Lists.{Lists, IsFresh, number, numbers_of, is_among, with_numbers, without}
+use Rattle.mvo_hash.specs.Lists.{Lists, IsNewNumber, number, numbers_of, is_among, with_numbers, without_number}
 use Rattle.mvo_hash.proofs.Views.{numbers_put}
 use Rattle.mvo_txn.specs.declared.state.TxState.TheVariants as state
 use Rattle.mvo_visible.specs.Words.{States, names}
 use Rattle.mvo_visible.specs.Fronts.{with_new}
 use Rattle.mvo_visible.specs.Laws.{SlotsDifferAt}
+use Rattle.mvo_visible.proofs.Moves.{versions}
 use Rattle.mvo_representation.specs.Words.{Phases, with_effect, effect_by, net_effect}
 use Rattle.mvo_representation.specs.Words.NetEffect.{Untouched, Puts}
 use Rattle.mvo_representation.specs.Indexes.{all_versions, HasNumbers}
@@ -28,10 +29,10 @@ use Rattle.mvo_representation.specs.Table.{phase_as, phases_of}
 use Rattle.mvo_representation.specs.Order.{MayPrecede, StandInOrder, AllStandInOrder, EachPair}
 use Rattle.mvo_representation.specs.OrderLaws.{HaveNow, AlikeStayInOrder, RemovalKeepsOrder, UnheldStaysInOrder, SingleStandInOrder}
 use Rattle.mvo_representation.proofs.Effects.{net_effect-at}
-use Rattle.mvo_representation.proofs.Slots.{slot_emptied}
+use Rattle.mvo_representation.proofs.Slots.{slot_emptied, some_version}
 use Rattle.mvo_representation.proofs.Collect.{leaves_row, leaves_put}
 use Rattle.mvo_representation.proofs.ShownTo.{of_key}
-use Rattle.mvo_representation.proofs.OrderLists.{On, OnOne, versions, some_version, all_to, pairs_weaker, pairs_to, pairs_from, pairs_without}
+use Rattle.mvo_representation.proofs.OrderLists.{On, OnOne, all_to, pairs_weaker, pairs_to, pairs_from, pairs_without}
 use Rattle.mvo_representation.proofs.OrderPairs.{alike_pair, fresh_pair}
 
 -- ---- numbers of a key in order
@@ -66,8 +67,8 @@ alike_stay_in_order start states states' slots slots' lists alike h key =
 
 pub removal_keeps_order : RemovalKeepsOrder
 removal_keeps_order start states slots lists key n h q =
-    at_each (λ ns. StandInOrder start (phases_of states) (versions slots ns)) lists key (without n (numbers_of lists key)) q
-    (λ _. order_from start (phases_of states) slots (without n (numbers_of lists key))
+    at_each (λ ns. StandInOrder start (phases_of states) (versions slots ns)) lists key (without_number n (numbers_of lists key)) q
+    (λ _. order_from start (phases_of states) slots (without_number n (numbers_of lists key))
     (pairs_without n (On slots (MayPrecede start (phases_of states))) (numbers_of lists key) (pairs_weaker (λ m. ⊤) (On slots (MayPrecede start (phases_of states))) _ (λ a b _ _ f _ _. f) (numbers_of lists key) (always (numbers_of lists key)) (order_to start (phases_of states) slots (numbers_of lists key) (h key)))))
     (h q)
 
@@ -96,7 +97,7 @@ single_stand_in_order start states slots lists short key = order_from start (pha
     one (n ∷ m ∷ ns) le = absurd (omega arith)
 
 -- ---- a new version in front
-pub new_in_order : (start : ℕ) (states : States) (slots slots' : Slots) (lists : Lists) (t : ℕ) (row : RowData) (n : ℕ) → states t ≡ Some state.Active → IsFresh lists n → HaveNow slots slots' n (fresh t row) → AllByRecursion (OnOne slots (λ v. names t v.begin ≡ true → names t v.end ≡ true)) (numbers_of lists row.key) → AllStandInOrder start states slots lists →
+pub new_in_order : (start : ℕ) (states : States) (slots slots' : Slots) (lists : Lists) (t : ℕ) (row : RowData) (n : ℕ) → states t ≡ Some state.Active → IsNewNumber lists n → HaveNow slots slots' n (fresh t row) → AllByRecursion (OnOne slots (λ v. names t v.begin ≡ true → names t v.end ≡ true)) (numbers_of lists row.key) → AllStandInOrder start states slots lists →
     AllStandInOrder start states slots' (with_new lists row.key n)
 new_in_order start states slots slots' lists t row n act free now own h q =
     at_each (λ ns. StandInOrder start (phases_of states) (versions slots' ns)) lists row.key (n ∷ numbers_of lists row.key) q

@@ -21,14 +21,15 @@ use Rattle.mvo_representation.specs.Words.{net_effect}
 use Rattle.mvo_representation.specs.Indexes.{all_versions}
 use Rattle.mvo_representation.specs.Steps.{fresh, ended_by}
 use Rattle.mvo_representation.specs.Table.{phases_of}
-use Rattle.mvo_representation.specs.Order.{EachPair, is_written_by, IsEndedBefore, IsWritten, own_words}
+use Rattle.mvo_representation.specs.Order.{EachPair, is_written_by, IsEndedBefore, AreWrittenBy, own_words}
 use Rattle.mvo_representation.specs.OrderLaws.{HaveNow}
 use Rattle.mvo_representation.specs.WrittenLaws.{NothingIsWritten, InsertIsWritten, DeleteIsWritten, UpdateIsWritten, OthersKeepWritten}
 use Rattle.mvo_representation.proofs.Collect.{leaves_row, leaves_put}
 use Rattle.mvo_representation.proofs.Own.{own_id}
-use Rattle.mvo_representation.proofs.OrderLists.{no_version, some_version, pairs_weaker}
+use Rattle.mvo_representation.proofs.OrderLists.{no_version, pairs_weaker}
 use Rattle.mvo_representation.proofs.OrderSteps.{stays_put, more_at, live, is_false}
 use Rattle.mvo_representation.proofs.OrderOperations.{own_words as says, unput, was_before, other_ended}
+use Rattle.mvo_representation.proofs.Slots.{some_version}
 
 pub nothing_is_written : NothingIsWritten
 nothing_is_written t slots h = record {
@@ -52,7 +53,7 @@ abbrev IsThere : ℕ → Slots → ℕ → Type 0
 IsThere t slots n = (v : Version) × (version_at slots (number n) ≡ Some v) × (is_written_by t v ≡ true)
 
 -- a put, where all that t put of the key is ended
-put_is_written : (t : ℕ) (row : RowData) (slots slots' : Slots) (n : ℕ) (ns : List ℕ) → version_at slots (number n) ≡ None → HaveNow slots slots' n (fresh t row) → ((m : ℕ) (v : Version) → version_at slots (number m) ≡ Some v → v.row.key ≡ row.key → names t v.begin ≡ true → names t v.end ≡ true) → IsWritten t slots ns → IsWritten t slots' (ns ++ n ∷ [])
+put_is_written : (t : ℕ) (row : RowData) (slots slots' : Slots) (n : ℕ) (ns : List ℕ) → version_at slots (number n) ≡ None → HaveNow slots slots' n (fresh t row) → ((m : ℕ) (v : Version) → version_at slots (number m) ≡ Some v → v.row.key ≡ row.key → names t v.begin ≡ true → names t v.end ≡ true) → AreWrittenBy t slots ns → AreWrittenBy t slots' (ns ++ n ∷ [])
 put_is_written t row slots slots' n ns hole now own h = record {
   all = λ m v e w. elim (cases_eq m n) [
     | inl same ↦ among_last m n ns same

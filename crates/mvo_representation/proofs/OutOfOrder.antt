@@ -14,7 +14,7 @@ use Rattle.mvo_word.specs.declared.held.Held.TheVariants.{By}
 use Rattle.mvo_txn.specs.declared.state.TxState.TheVariants as state
 use Rattle.mvo_chain.specs.Slots.{added}
 use Rattle.mvo_visible.specs.Words.{States}
-use Rattle.mvo_visible.specs.Versions.{Numbered}
+use Rattle.mvo_visible.specs.Versions.{NumberedVersion}
 use Rattle.mvo_visible.specs.Shown.{HasFallingStamps, shown_to}
 
 abbrev row : RowData
@@ -55,7 +55,7 @@ two = refl
 abbrev states : States
 states t = cond (t == 1) (Some (state.Preparing (record { 0 = 4 }))) (cond (t == 2) (Some (state.Committed (record { 0 = 3 }))) None)
 
-abbrev newest_first : List Numbered
+abbrev newest_first : List NumberedVersion
 newest_first = (record { 0 = 1 }, added row (By (record { 0 = 2 }))) ∷ (record { 0 = 0 }, added row (By (record { 0 = 1 }))) ∷ []
 
 -- the settled put of the second stands in front of a greater stamp

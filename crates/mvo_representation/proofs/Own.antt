@@ -20,6 +20,7 @@ use Rattle.mvo_theory.specs.Ranges.{Row, put_by}
 use Rattle.mvo_theory.specs.State.{State}
 use Rattle.mvo_theory.specs.Changes.{after_operation}
 use Rattle.mvo_theory.proofs.Each.{each_always}
+use Rattle.mvo_theory.proofs.Numbers.{or_false}
 use Rattle.mvo_word.specs.declared.held.Held.{Held}
 use Rattle.mvo_word.specs.declared.held.Held.TheVariants.{By}
 use Rattle.mvo_chain.specs.declared.version.Version.{Version}
@@ -32,6 +33,7 @@ use Rattle.mvo_representation.specs.Versions.{IsInside}
 use Rattle.mvo_representation.proofs.Effects.{with_nothing, with_comm, net_effect-append, net_effect-at, net_effect_without, effect_of_nothing, is_touched-at, part_none}
 use Rattle.mvo_representation.proofs.Kept.{IsSame, IsVersion, same_at, net_effect_like, is_touched_like}
 use Rattle.mvo_representation.proofs.Answers.{rows_more, Wrote, IsApartFrom}
+use Rattle.mvo_representation.proofs.Decided.{none_end}
 use Rattle.mvo_types.specs.Write.Effect.{Put, Delete as Gone}
 
 -- nothing of t's own stands at the key
@@ -74,10 +76,6 @@ wrote_fresh t r vs free = record {
     one OnlyPut p = refl
     one PutOrEnded p = refl
 
-or_false : (b : Bool) → (b || false) ≡ b
-or_false true = refl
-or_false false = refl
-
 -- a version of which no word passes
 pub unmarked_last : (g : Touch) (n : Held → Bool) (p : Row → Bool) (vs : List Version) (v : Version) → n v.begin ≡ false → n v.end ≡ false → is_touched g n p (vs ++ v ∷ []) ≡ is_touched g n p vs
 unmarked_last g n p vs v o c =
@@ -110,9 +108,6 @@ apart_fresh t u r vs n = record {
   net_effect = λ k. unsaid_last (names u) k vs (fresh t r) (ne_eqb t u (λ e. n (sym e))) refl;
   touches = λ g p. unmarked_last g (names u) p vs (fresh t r) (ne_eqb t u (λ e. n (sym e))) refl;
 }
-
-none_end : (e : ℕ) → ◌≡◌ {A = Option ℕ} None (Some e) → ⊥
-none_end e q = cc
 
 pub not_absent : (table : Phases) (t : ℕ) → table t ≡ Active → table t ≡ Absent → ⊥
 not_absent table t e q = differ (sym e ∙ q)

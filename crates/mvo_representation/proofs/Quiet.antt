@@ -8,7 +8,7 @@ use Rattle.mvo_model.specs.Trace.Step.{Begins, Commits, Aborts, Terminates}
 use Rattle.mvo_model.specs.Trace.Phase.{Absent, Active, Committed, Aborted}
 use Rattle.mvo_theory.specs.State.{EndedTx, State, StampedTx, ActiveTx, Claim, preparing_of, active_of}
 use Rattle.mvo_theory.specs.Claims.{has_claim}
-use Rattle.mvo_theory.specs.Changes.{after_termination, without_ended, after_begin, new_active, after_commit, committed_tx, with_settled, after_check, with_check, after_abort_of_active, aborted_tx, without}
+use Rattle.mvo_theory.specs.Changes.{after_termination, without_ended, after_begin, new_active, after_commit, committed_tx, with_settled, after_check, with_check, after_abort_of_active, aborted_tx, without_id}
 use Rattle.mvo_theory.proofs.Cases.{is_ended_in}
 use Rattle.mvo_theory.specs.Phases.{phase_in}
 use Rattle.mvo_theory.specs.Sound.{IsSound, IsSingle, IsStarted, IsPast}
@@ -22,7 +22,7 @@ use Rattle.mvo_chain.specs.declared.version.Version.{Version}
 use Rattle.mvo_representation.specs.Words.{Phases, Ends, is_up_to, end_in, ends_of, stamp_in, is_stamp, has_stamp}
 use Rattle.mvo_visible.specs.Words.{names}
 use Rattle.mvo_representation.specs.Steps.{IsUnnamed}
-use Rattle.mvo_representation.specs.Versions.{history_at, rows_at, Say, IsKnownStamp, IsKnown, IsClaimed, HasClaims, HasItsClaims, IsForward, IsInside, AreDrawn, AreVersionsOf}
+use Rattle.mvo_representation.specs.Versions.{history_at, rows_at, Say, IsKnownStamp, IsKnown, EndIsClaimed, EndHasClaims, HasItsClaims, IsForward, IsInside, AreDrawn, AreVersionsOf}
 use Rattle.mvo_representation.proofs.Facts.{IsDrawn, phase_preparing, phase_active, phase_absent, end_drawn, say_nothing}
 use Rattle.mvo_representation.proofs.Kept.{IsSame, IsVersion, each_version, kept_alike, standing_effect_same}
 use Rattle.mvo_theory.specs.Words.{words_now}
@@ -79,7 +79,7 @@ known_next s s' table table' f g (By t) k = g t.0 k
 known_next s s' table table' f g Infinity k = tt
 
 -- a version after a step with the same ends
-pub version_next : (s s' : State) (table table' : Phases) (v : Version) → ends_of table' ≡ ends_of table → ((e : ℕ) → IsKnownStamp s e → IsKnownStamp s' e) → ((u : ℕ) → (table u ≡ Absent → ⊥) → table' u ≡ Absent → ⊥) → ((a : ℕ) → HasClaims s (ends_of table) v a → HasClaims s' (ends_of table) v a) → AllByRecursion (IsInside v) s'.active → IsVersion s table v → IsVersion s' table' v
+pub version_next : (s s' : State) (table table' : Phases) (v : Version) → ends_of table' ≡ ends_of table → ((e : ℕ) → IsKnownStamp s e → IsKnownStamp s' e) → ((u : ℕ) → (table u ≡ Absent → ⊥) → table' u ≡ Absent → ⊥) → ((a : ℕ) → EndHasClaims s (ends_of table) v a → EndHasClaims s' (ends_of table) v a) → AllByRecursion (IsInside v) s'.active → IsVersion s table v → IsVersion s' table' v
 version_next s s' table table' v same f g claims inside h = record {
   known = (known_next s s' table table' f g v.begin h.known.0, known_next s s' table table' f g v.end h.known.1);
   claims = subst (λ (x : Ends). HasItsClaims s' x v) (sym same) (λ a put stays. claims a (h.claims a put stays));
@@ -103,7 +103,7 @@ rows_at-map f e h (x ∷ xs) =
     ∙ ap (cond (x.end == e) x.footprint) (rows_at-map f e h xs)
 
 -- ---- a commit
-or_no : (a b : Bool) → (a || b) ≡ false → (a ≡ false) × (b ≡ false)
+pub or_no : (a b : Bool) → (a || b) ≡ false → (a ≡ false) × (b ≡ false)
 or_no true b h = absurd (true≢false h)
 or_no false b h = (refl, h)
 
@@ -121,10 +121,10 @@ stamp_own s t e le n = record {
   settled = each_map (with_settled e) (λ x. ⊤) (λ x. x.settled ≡ false → x.end ≢ e) (λ x _ f q. true≢false (sym (eq-eqb x.end e q) ∙ (or_no x.settled (x.end == e) f).1)) s.stamped (each_always (λ x. ⊤) (λ x. tt) s.stamped);
 }
 
-claims_map : (s : State) (ends : Ends) (f : StampedTx → StampedTx) (us : List EndedTx) (v : Version) (a : ℕ) → ((x : StampedTx) → ((f x).end ≡ x.end) × ((f x).claims ≡ x.claims)) → HasClaims s ends v a → HasClaims (record s { stamped = map f s.stamped; ended = us }) ends v a
+claims_map : (s : State) (ends : Ends) (f : StampedTx → StampedTx) (us : List EndedTx) (v : Version) (a : ℕ) → ((x : StampedTx) → ((f x).end ≡ x.end) × ((f x).claims ≡ x.claims)) → EndHasClaims s ends v a → EndHasClaims (record s { stamped = map f s.stamped; ended = us }) ends v a
 claims_map s ends f us v a like h = record {
   active = h.active;
-  stamped = each_map f (λ x. IsClaimed v.row.key a (has_stamp ends x.end) x.claims v.end) (λ x. IsClaimed v.row.key a (has_stamp ends x.end) x.claims v.end)
+  stamped = each_map f (λ x. EndIsClaimed v.row.key a (has_stamp ends x.end) x.claims v.end) (λ x. EndIsClaimed v.row.key a (has_stamp ends x.end) x.claims v.end)
       (λ x g. ap (λ n. has_stamp ends n v.end) (like x).0 ∙ g ∙ ap (λ cs. has_claim cs v.row.key a) (sym (like x).1)) s.stamped h.stamped;
 }
 
@@ -201,7 +201,7 @@ stamp_aborted s t n h = record {
 -- rollback, and a refusal that aborts, of an Active one: its words fall silent
 pub kept_after_abort_of_active : (s : State) (table table' : Phases) (vs : List Version) (t : ℕ) (r : ActiveTx) → IsSingle s → AreVersionsOf s table vs → active_of t s.active ≡ Some r → ((u : ℕ) → table' u ≡ phase_in (after_abort_of_active s t) u) → AreVersionsOf (after_abort_of_active s t) table' vs
 kept_after_abort_of_active s table table' vs t r sg h f ph =
-    kept_alike s s.clock (without t s.active) s.stamped (s.ended ++ aborted_tx t (words_now s t) ∷ []) table table' vs vs h ph
+    kept_alike s s.clock (without_id t s.active) s.stamped (s.ended ++ aborted_tx t (words_now s t) ∷ []) table table' vs vs h ph
     (same_ends s.start (ends_of table) (ends_of table') vs path)
     (λ e. refl) (λ e. refl)
     (each_filter (λ q. not (q.id == t)) (λ q. Say (names q.id) q.history q.footprint vs) (λ q. Say (names q.id) q.history q.footprint vs) (λ q _ g. g) s.active h.active)
@@ -227,8 +227,8 @@ kept_after_abort_of_active s table table' vs t r sg h f ph =
     path : ends_of table' ≡ ends_of table
     path = ends_stay s (after_abort_of_active s t) (Aborts t) table table' h.phases ph leads (sym (ap end_in (h.phases t ∙ phase_active s t r f)))
 
-    claims : (v : Version) (a : ℕ) → HasClaims s (ends_of table) v a → HasClaims (after_abort_of_active s t) (ends_of table) v a
-    claims v a g = record { active = each_filter (λ q. not (q.id == t)) (λ q. IsClaimed v.row.key a (names q.id) q.claims v.end) (λ q. IsClaimed v.row.key a (names q.id) q.claims v.end) (λ q _ i. i) s.active g.active; stamped = g.stamped }
+    claims : (v : Version) (a : ℕ) → EndHasClaims s (ends_of table) v a → EndHasClaims (after_abort_of_active s t) (ends_of table) v a
+    claims v a g = record { active = each_filter (λ q. not (q.id == t)) (λ q. EndIsClaimed v.row.key a (names q.id) q.claims v.end) (λ q. EndIsClaimed v.row.key a (names q.id) q.claims v.end) (λ q _ i. i) s.active g.active; stamped = g.stamped }
 
     by : (u e : ℕ) → table' u ≡ Committed e → (t ≡ u) ⊎ (t ≡ u → ⊥) → IsKnownStamp (after_abort_of_active s t) e
     by u e q (inl i) = absurd (other e (sym (own_led s (after_abort_of_active s t) (Aborts t) table table' h.phases ph leads) ∙ ap table' i ∙ q))
@@ -289,8 +289,8 @@ kept_after_begin s table table' vs t lt sd sg st h ph =
     path : ends_of table' ≡ ends_of table
     path = ends_stay s (after_begin s t) (Begins t) table table' h.phases ph leads (sym (ap end_in absent))
 
-    claims : (v : Version) → names t v.end ≡ false → (a : ℕ) → HasClaims s (ends_of table) v a → HasClaims (after_begin s t) (ends_of table) v a
-    claims v n a g = record { active = each_append (λ q. IsClaimed v.row.key a (names q.id) q.claims v.end) s.active (new_active t ∷ []) g.active (n, tt); stamped = g.stamped }
+    claims : (v : Version) → names t v.end ≡ false → (a : ℕ) → EndHasClaims s (ends_of table) v a → EndHasClaims (after_begin s t) (ends_of table) v a
+    claims v n a g = record { active = each_append (λ q. EndIsClaimed v.row.key a (names q.id) q.claims v.end) s.active (new_active t ∷ []) g.active (n, tt); stamped = g.stamped }
 
     by : (u e : ℕ) → table' u ≡ Committed e → (t ≡ u) ⊎ (t ≡ u → ⊥) → IsKnownStamp (after_begin s t) e
     by u e q (inl i) = absurd (other e (sym (own_led s (after_begin s t) (Begins t) table table' h.phases ph leads) ∙ ap table' i ∙ q))
@@ -306,7 +306,7 @@ stamp_other ends t o Infinity q = refl
 pub claims_turned : (s : State) (ends ends' : Ends) (v : Version) → stamp_in ends' v.begin ≡ stamp_in ends v.begin → stamp_in ends' v.end ≡ stamp_in ends v.end → HasItsClaims s ends v → HasItsClaims s ends' v
 claims_turned s ends ends' v o c h a put stays =
     let g = h a (sym o ∙ put) (ap (is_stamp a) (sym c) ∙ stays) in
-    record { active = g.active; stamped = each_weaker (λ x. IsClaimed v.row.key a (has_stamp ends x.end) x.claims v.end) (λ x. IsClaimed v.row.key a (has_stamp ends' x.end) x.claims v.end) (λ x i. ap (is_stamp x.end) c ∙ i) s.stamped g.stamped }
+    record { active = g.active; stamped = each_weaker (λ x. EndIsClaimed v.row.key a (has_stamp ends x.end) x.claims v.end) (λ x. EndIsClaimed v.row.key a (has_stamp ends' x.end) x.claims v.end) (λ x i. ap (is_stamp x.end) c ∙ i) s.stamped g.stamped }
 
 pub forward_turned : (ends ends' : Ends) (v : Version) → stamp_in ends' v.begin ≡ stamp_in ends v.begin → stamp_in ends' v.end ≡ stamp_in ends v.end → IsForward ends v → IsForward ends' v
 forward_turned ends ends' v o c h a e put is = h a e (sym o ∙ put) (sym c ∙ is)

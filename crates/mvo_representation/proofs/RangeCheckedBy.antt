@@ -15,15 +15,16 @@ use Rattle.mvo_theory.specs.Ranges.{shows}
 use Rattle.mvo_theory.specs.State.{State}
 use Rattle.mvo_theory.specs.Causes.{change_of}
 use Rattle.mvo_theory.proofs.Each.{each_always, each_both}
+use Rattle.mvo_theory.proofs.Footprints.{or_left}
 use Rattle.mvo_theory.specs.Sound.{IsSound, IsStarted, how_many}
 use Rattle.mvo_chain.specs.declared.version.Version.{Version}
 use Rattle.mvo_chain.specs.Slots.{Slots, version_at}
 use Rattle.mvo_hash.specs.Lists.{Lists, number, numbers_of}
-use Rattle.mvo_range.specs.declared.place.Place.{Place}
-use Rattle.mvo_range.specs.Place.{Map as Places, place_cmp, is_between}
+use Rattle.mvo_range.specs.declared.sort_place.SortPlace.{SortPlace}
+use Rattle.mvo_range.specs.Place.{PlaceNumbers as Places, place_cmp, is_between}
 use Rattle.mvo_range.proofs.Places.{exact_places, places_total}
 use Rattle.mvo_visible.specs.Words.{States}
-use Rattle.mvo_visible.specs.Versions.{Numbered, and_version, versions_by, versions_at}
+use Rattle.mvo_visible.specs.Versions.{NumberedVersion, and_version, versions_by, versions_at}
 use Rattle.mvo_visible.specs.Changes.{changes_of}
 use Rattle.mvo_types.specs.declared.entry.Entry.{Entry}
 use Rattle.mvo_types.specs.declared.entry.Entry.TheVariants.{Key, Range}
@@ -32,12 +33,13 @@ use Rattle.mvo_validate.specs.Entries.{has_sort, key_at, versions_of_place, vers
 use Rattle.mvo_representation.specs.Words.{ends_of, has_stamp, stamp_above, is_touched, touches}
 use Rattle.mvo_representation.specs.Words.Touch.{PutOrEnded}
 use Rattle.mvo_representation.specs.Versions.{AreVersionsOf}
-use Rattle.mvo_representation.specs.Indexes.{all_versions, is_of_key, HasNumbers, place_of, is_at_place, HasPlaces}
+use Rattle.mvo_representation.specs.Indexes.{all_versions, is_of_key, HasNumbers, version_place, is_at_place, HasPlaces}
 use Rattle.mvo_representation.specs.Table.{phases_of}
 use Rattle.mvo_representation.proofs.Between.{range_checked}
 use Rattle.mvo_representation.proofs.Decided.{last_same, changes_at, greatest_change}
 use Rattle.mvo_representation.proofs.ShownTo.{of_key, there}
 use Rattle.mvo_representation.proofs.CheckedBy.{between_is, key_check_is}
+use Rattle.mvo_representation.proofs.Slots.{none_version, some_version}
 
 -- ---- lists and tests
 any_filter : {X : Type 0} (f p : X → Bool) (xs : List X) → list_any f (filter p xs) ≡ list_any (λ x. p x && f x) xs
@@ -75,21 +77,11 @@ or_true : (a : Bool) → (a || true) ≡ true
 or_true true = refl
 or_true false = refl
 
-or_left : (a b : Bool) → a ≡ true → (a || b) ≡ true
-or_left true b e = refl
-or_left false b e = absurd (false≢true e)
-
 or_right : (a b : Bool) → b ≡ true → (a || b) ≡ true
 or_right a true e = or_true a
 or_right a false e = absurd (false≢true e)
 
 -- ---- versions by number
-none_version : (v : Version) → ◌≡◌ {A = Option Version} None (Some v) → ⊥
-none_version v q = cc
-
-some_version : (w v : Version) → ◌≡◌ {A = Option Version} (Some w) (Some v) → w ≡ v
-some_version w v q = cc
-
 pub any_slot : (f : Version → Bool) (slots : Slots) (n : ℕ) (v : Version) → slice_index_or slots n None ≡ Some v → f v ≡ true → list_any f (all_versions slots) ≡ true
 any_slot f [] zero v e q = absurd (none_version v e)
 any_slot f [] (suc n) v e q = absurd (none_version v e)
@@ -98,13 +90,13 @@ any_slot f (Some w ∷ ss) zero v e q = or_left (f w) (list_any f (all_versions 
 any_slot f (None ∷ ss) (suc n) v e q = any_slot f ss n v e q
 any_slot f (Some w ∷ ss) (suc n) v e q = or_right (f w) (list_any f (all_versions ss)) (any_slot f ss n v e q)
 
-record InSlot (slots : Slots) (f : Version → Bool) : Type 0 where
+pub record InSlot (slots : Slots) (f : Version → Bool) : Type 0 where
   pub number : ℕ
   pub version : Version
   pub at : slice_index_or slots number None ≡ Some version
   pub passes : f version ≡ true
 
-in_slot : (f : Version → Bool) (slots : Slots) → list_any f (all_versions slots) ≡ true → InSlot slots f
+pub in_slot : (f : Version → Bool) (slots : Slots) → list_any f (all_versions slots) ≡ true → InSlot slots f
 in_slot f [] e = absurd (false≢true e)
 in_slot f (None ∷ ss) e = let w = in_slot f ss e in record { number = suc w.number; version = w.version; at = w.at; passes = w.passes }
 in_slot f (Some v ∷ ss) e = go (f v) refl e (λ r. in_slot f ss r)
@@ -113,7 +105,7 @@ in_slot f (Some v ∷ ss) e = go (f v) refl e (λ r. in_slot f ss r)
     go true q r again = record { number = zero; version = v; at = refl; passes = q }
     go false q r again = let w = again r in record { number = suc w.number; version = w.version; at = w.at; passes = w.passes }
 
-any_numbered : (f : Numbered → Bool) (slots : Slots) (n : ℕ) (v : Version) (ns : List ℕ) → slice_index_or slots n None ≡ Some v → f (number n, v) ≡ true → 1 ≤ how_many (λ i. i == n) ns → list_any f (versions_by slots (map number ns)) ≡ true
+any_numbered : (f : NumberedVersion → Bool) (slots : Slots) (n : ℕ) (v : Version) (ns : List ℕ) → slice_index_or slots n None ≡ Some v → f (number n, v) ≡ true → 1 ≤ how_many (λ i. i == n) ns → list_any f (versions_by slots (map number ns)) ≡ true
 any_numbered f slots n v [] e q le = absurd (omega (arith, le))
 any_numbered f slots n v (m ∷ ns) e q le = go (m == n) refl le (λ l. any_numbered f slots n v ns e q l)
   where
@@ -130,34 +122,34 @@ any_numbered f slots n v (m ∷ ns) e q le = go (m == n) refl le (λ l. any_numb
     go false i l again = more (slice_index_or slots m None) (again (omega (arith, l)))
 
 -- ---- the versions at the places of a range
-some_there : (o : Option ℕ) → is_some o ≡ true → (n : ℕ) × (o ≡ Some n)
+pub some_there : (o : Option ℕ) → is_some o ≡ true → (n : ℕ) × (o ≡ Some n)
 some_there None e = absurd (false≢true e)
 some_there (Some n) e = (n, refl)
 
-none_number : (n : ℕ) → ◌≡◌ {A = Option ℕ} None (Some n) → ⊥
+pub none_number : (n : ℕ) → ◌≡◌ {A = Option ℕ} None (Some n) → ⊥
 none_number n q = cc
 
 some_number : (m n : ℕ) → ◌≡◌ {A = Option ℕ} (Some m) (Some n) → m ≡ n
 some_number m n q = cc
 
-any_entry : (f : Place × ℕ → Bool) (p : Place) (n : ℕ) (es : List (Place × ℕ)) → fin.find place_cmp p es ≡ Some n → f (p, n) ≡ true → list_any f es ≡ true
+any_entry : (f : SortPlace × ℕ → Bool) (p : SortPlace) (n : ℕ) (es : List (SortPlace × ℕ)) → fin.find place_cmp p es ≡ Some n → f (p, n) ≡ true → list_any f es ≡ true
 any_entry f p n [] e q = absurd (none_number n e)
 any_entry f p n (x ∷ xs) e q = go (eq_by_cmp place_cmp p x.0) refl e (λ r. any_entry f p n xs r q)
   where
     go : (b : Bool) → eq_by_cmp place_cmp p x.0 ≡ b → cond b (Some x.1) (fin.find place_cmp p xs) ≡ Some n → (fin.find place_cmp p xs ≡ Some n → list_any f xs ≡ true) → (f x || list_any f xs) ≡ true
     go true i r again =
         or_left (f x) (list_any f xs)
-        (ap (λ (y : Place). f (y, x.1)) (sym (tells_apart exact_places p x.0 i)) ∙ ap (λ (m : ℕ). f (p, m)) (some_number x.1 n r) ∙ q)
+        (ap (λ (y : SortPlace). f (y, x.1)) (sym (tells_apart exact_places p x.0 i)) ∙ ap (λ (m : ℕ). f (p, m)) (some_number x.1 n r) ∙ q)
     go false i r again = or_right (f x) (list_any f xs) (again r)
 
 module _ (states : States) (slots : Slots) (lists : Lists) (places : Places) (ns : HasNumbers slots lists) (ps : HasPlaces (all_versions slots) places) (tab lo hi m : ℕ) where
   abbrev in_range : Version → Bool
   in_range v = touches PutOrEnded (has_stamp (ends_of (phases_of states)) m) (shows (Range tab lo hi)) v
 
-  abbrev at_place : Place × ℕ → Numbered → Bool
+  abbrev at_place : SortPlace × ℕ → NumberedVersion → Bool
   at_place p e = has_sort (Some p.0.sort) e && changes_at states m e
 
-  abbrev passes_at : Place × ℕ → Bool
+  abbrev passes_at : SortPlace × ℕ → Bool
   passes_at p = is_between tab lo hi p && list_any (at_place p) (versions_at slots lists (key_at p.0))
 
   -- the test over the versions that the entry looks at
@@ -167,7 +159,7 @@ module _ (states : States) (slots : Slots) (lists : Lists) (places : Places) (ns
       ∙ any_filter (λ p. list_any (changes_at states m) (versions_of_place slots lists p)) (is_between tab lo hi) (fin.entries places)
       ∙ any_same (fin.entries places)
     where
-      any_same : (es : List (Place × ℕ)) → list_any (λ p. is_between tab lo hi p && list_any (changes_at states m) (versions_of_place slots lists p)) es ≡ list_any passes_at es
+      any_same : (es : List (SortPlace × ℕ)) → list_any (λ p. is_between tab lo hi p && list_any (changes_at states m) (versions_of_place slots lists p)) es ≡ list_any passes_at es
       any_same [] = refl
       any_same (p ∷ es) =
           ap (λ c. (is_between tab lo hi p && c) || list_any (λ q. is_between tab lo hi q && list_any (changes_at states m) (versions_of_place slots lists q)) es) (any_filter (changes_at states m) (has_sort (Some p.0.sort)) (versions_at slots lists (key_at p.0)))
@@ -195,11 +187,11 @@ module _ (states : States) (slots : Slots) (lists : Lists) (places : Places) (ns
       let w = in_slot in_range slots e in
       let v = w.version in
       let a = and_parts (changes_at states m (number w.number, v)) ((v.row.key.table == tab) && (nat_le lo v.row.sort && nat_le v.row.sort hi)) w.passes in
-      let p = some_there (fin.get places (place_of v)) (ps.at (place_of v) ∙ any_slot (is_at_place (place_of v)) slots w.number v w.at ((eq_by_cmp_equiv places_total).refl (place_of v))) in
+      let p = some_there (fin.get places (version_place v)) (ps.at (version_place v) ∙ any_slot (is_at_place (version_place v)) slots w.number v w.at ((eq_by_cmp_equiv places_total).refl (version_place v))) in
       let one : how_many (λ i. i == w.number) (numbers_of lists v.row.key) ≡ 1 = ns.at v.row.key w.number ∙ ap (λ o. cond (is_of_key v.row.key o) 1 0) w.at ∙ ap (λ b. cond b 1 0) ((eq_by_cmp_equiv keys_total).refl v.row.key) in
-      any_entry passes_at (place_of v) p.0 (fin.entries places) (sym (fin.get-entries places (place_of v)) ∙ p.1)
-      (and_from (is_between tab lo hi (place_of v, p.0)) (list_any (at_place (place_of v, p.0)) (versions_at slots lists v.row.key)) a.1
-      (any_numbered (at_place (place_of v, p.0)) slots w.number v (numbers_of lists v.row.key) w.at (and_from (v.row.sort == v.row.sort) (changes_at states m (number w.number, v)) (eq-eqb v.row.sort v.row.sort refl) a.0) (omega (arith, one))))
+      any_entry passes_at (version_place v) p.0 (fin.entries places) (sym (fin.get-entries places (version_place v)) ∙ p.1)
+      (and_from (is_between tab lo hi (version_place v, p.0)) (list_any (at_place (version_place v, p.0)) (versions_at slots lists v.row.key)) a.1
+      (any_numbered (at_place (version_place v, p.0)) slots w.number v (numbers_of lists v.row.key) w.at (and_from (v.row.sort == v.row.sort) (changes_at states m (number w.number, v)) (eq-eqb v.row.sort v.row.sort refl) a.0) (omega (arith, one))))
 
   pub looked_at : list_any (changes_at states m) (versions_in slots lists places (Range tab lo hi)) ≡ is_touched PutOrEnded (has_stamp (ends_of (phases_of states)) m) (shows (Range tab lo hi)) (all_versions slots)
   looked_at = by_places ∙ iff (list_any passes_at (fin.entries places)) (list_any in_range (all_versions slots)) forth back

@@ -2,7 +2,7 @@
 use Rattle.std.proofs.Common.{◌≡◌, ◌≢◌, ℕ, ◌+◌, ◌-◌, Bool, true, false, cond, not, ◌||◌, eqb, List, map, Option, None, Some, refl, sym, ap, ◌∙◌, subst, arith, ◌⊎◌, inl, inr}
 use Rattle.std.specs.Prelude.{◌==◌, ◌&&◌}
 use Rattle.std.specs.List.{AllByRecursion, filter}
-use Rattle.std.proofs.lemmas.Bool.{eq-eqb, eqb-true, ne_eqb, true≢false, cases_eq}
+use Rattle.std.proofs.lemmas.Bool.{eq-eqb, eqb-true, ne_eqb, cases_eq}
 use Rattle.mvo_theory.specs.State.{State, StampedTx, ActiveTx, preparing_of}
 use Rattle.mvo_theory.specs.Dependencies.{has_end, with_end}
 use Rattle.mvo_theory.specs.Changes.{with_settled, after_commit, after_abort_of_preparing, with_flag, active_with_flag, not_at, aborted_dependency_after}
@@ -11,11 +11,9 @@ use Rattle.mvo_theory.proofs.Each.{each_both, each_map, each_filter}
 use Rattle.mvo_representation.specs.Nodes.{with_listed, NodeData, Nodes, open_count, IsNode, AreDependents, HasNodes, nodes_after_commit, or_flag, nodes_after_abort, nodes_after_register, active_with_dependency, after_dependency}
 use Rattle.mvo_representation.proofs.Facts.{found_holds}
 use Rattle.mvo_representation.proofs.Open.{is_open, open_each}
-use Rattle.mvo_representation.proofs.Waited.{has_listed, one, count_settled, count_gone, count_added, has_with}
-
-or_no : (a b : Bool) → (a || b) ≡ false → (a ≡ false) × (b ≡ false)
-or_no true b h = absurd (true≢false h)
-or_no false b h = (refl, h)
+use Rattle.mvo_representation.proofs.Waited.{has_listed, count_settled, count_gone, count_added, has_with}
+use Rattle.mvo_representation.proofs.Quiet.{or_no}
+use Rattle.mvo_deps.proofs.Lists.{one}
 
 pub its_dependents : (s : State) (nodes : Nodes) (t : ℕ) (x : StampedTx) → HasNodes s nodes → preparing_of t s.stamped ≡ Some x → AreDependents s (nodes t).dependents x.end
 its_dependents s nodes t x h f =

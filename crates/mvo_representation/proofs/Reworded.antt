@@ -1,14 +1,14 @@
 -- Other words left to the ended ones, and another closed mark: the versions stay those of the state.
-use Rattle.std.proofs.Common.{◌≡◌, ℕ, Bool, true, false, cond, List, [], ◌∷◌, Option, None, Some, map, refl, sym, ◌∙◌}
-use Rattle.std.specs.Prelude.{◌==◌}
+use Rattle.std.proofs.Common.{◌≡◌, ℕ, List, Option, None, Some, sym, ◌∙◌}
 use Rattle.mvo_types.specs.declared.op.Op.{Op}
 use Rattle.mvo_types.specs.AnswerData.{AnswerData}
-use Rattle.mvo_theory.specs.State.{State, ActiveTx, StampedTx, EndedTx, Word, Claim, active_of, preparing_of, ended_of}
+use Rattle.mvo_theory.specs.State.{State, EndedTx, Word, Claim, active_of, preparing_of}
 use Rattle.mvo_theory.specs.Changes.{with_words, taken_over, after_answer, after_operation, after_close}
 use Rattle.mvo_theory.specs.Claims.{new_claim}
 use Rattle.mvo_theory.specs.Words.{words_without}
-use Rattle.mvo_theory.specs.Phases.{phase_by, phase_in}
+use Rattle.mvo_theory.specs.Phases.{phase_in}
 use Rattle.mvo_theory.proofs.Each.{each_weaker}
+use Rattle.mvo_theory.proofs.Finishing.{phase_worded}
 use Rattle.mvo_word.specs.declared.held.Held.{Held}
 use Rattle.mvo_word.specs.declared.held.Held.TheVariants.{At, By, Infinity}
 use Rattle.mvo_chain.specs.declared.version.Version.{Version}
@@ -16,24 +16,8 @@ use Rattle.mvo_representation.specs.Words.{Phases, ends_of}
 use Rattle.mvo_representation.specs.Versions.{IsKnownStamp, IsKnown, HasItsClaims, AreVersionsOf}
 
 -- ---- where each stands
-abbrev worded : (EndedTx → List Word) → EndedTx → EndedTx
-worded f u = record u { words = f u }
-
-same_ended : (f : EndedTx → List Word) (a : Option ActiveTx) (b : Option StampedTx) (u : EndedTx) → phase_by a b (Some (worded f u)) ≡ phase_by a b (Some u)
-same_ended f (Some r) b u = refl
-same_ended f None (Some x) u = refl
-same_ended f None None u = refl
-
-phase_reworded : (f : EndedTx → List Word) (t : ℕ) (a : Option ActiveTx) (b : Option StampedTx) (us : List EndedTx) → phase_by a b (ended_of t (map (worded f) us)) ≡ phase_by a b (ended_of t us)
-phase_reworded f t a b [] = refl
-phase_reworded f t a b (u ∷ us) = go (u.id == t) (phase_reworded f t a b us)
-  where
-    go : (c : Bool) → phase_by a b (ended_of t (map (worded f) us)) ≡ phase_by a b (ended_of t us) → phase_by a b (cond c (Some (worded f u)) (ended_of t (map (worded f) us))) ≡ phase_by a b (cond c (Some u) (ended_of t us))
-    go true e = same_ended f a b u
-    go false e = e
-
 pub phase_with_words : (f : EndedTx → List Word) (s : State) (t : ℕ) → phase_in (with_words f s) t ≡ phase_in s t
-phase_with_words f s t = phase_reworded f t (active_of t s.active) (preparing_of t s.stamped) s.ended
+phase_with_words f s t = phase_worded f t (active_of t s.active) (preparing_of t s.stamped) s.ended
 
 -- ---- a state with the same clock, transactions, base and opening mark
 record IsAsBefore (s s' : State) : Type 0 where

@@ -15,21 +15,21 @@ use Rattle.mvo_chain.specs.declared.version.Version.{Version}
 use Rattle.mvo_chain.specs.declared.version.VersionNo.{VersionNo}
 use Rattle.mvo_chain.specs.Slots.{Slots}
 use Rattle.mvo_hash.specs.Lists.{Lists}
-use Rattle.mvo_range.specs.Place.{Map as Places}
+use Rattle.mvo_range.specs.Place.{PlaceNumbers as Places}
 use Rattle.mvo_range.proofs.Places.{places_total}
 use Rattle.mvo_visible.specs.Words.{States}
 use Rattle.mvo_visible.specs.Versions.{versions_at}
 use Rattle.mvo_visible.specs.Shown.{shown_to}
 use Rattle.mvo_representation.specs.Words.{ends_of, is_met}
 use Rattle.mvo_representation.specs.Versions.{AreVersionsOf}
-use Rattle.mvo_representation.specs.Indexes.{all_versions, HasNumbers, place_of, is_at_place, HasPlaces}
+use Rattle.mvo_representation.specs.Indexes.{all_versions, HasNumbers, version_place, is_at_place, HasPlaces}
 use Rattle.mvo_representation.specs.Table.{phases_of, content_shown, place_with}
 use Rattle.mvo_representation.proofs.ShownTo.{shown_is}
 use Rattle.mvo_representation.proofs.MayEnd.{shown_as}
 use Rattle.mvo_representation.proofs.RangeCheckedBy.{any_slot, iff}
 use Rattle.mvo_representation.proofs.Scanned.{met_counts, counts_met}
 
-none_content : (h : ContentData) → ◌≡◌ {A = Option ContentData} None (Some h) → ⊥
+pub none_content : (h : ContentData) → ◌≡◌ {A = Option ContentData} None (Some h) → ⊥
 none_content h q = cc
 
 some_content : (g h : ContentData) → ◌≡◌ {A = Option ContentData} (Some g) (Some h) → g ≡ h
@@ -48,8 +48,8 @@ row_placed s states slots lists places r k h sd st vs ns ps f e = go (shown_to s
         let content : content_of w.version.row ≡ h = some_content (content_of w.version.row) h (sym (ap (option_map (λ (v : Version). content_of v.row)) w.at) ∙ sym (ap (content_shown slots) q) ∙ shown) in
         ap (λ (j : RowKey). is_some (fin.get places (place_with j h))) (sym w.key)
         ∙ ap (λ (g : ContentData). is_some (fin.get places (place_with w.version.row.key g))) (sym content)
-        ∙ ps.at (place_of w.version)
-        ∙ any_slot (is_at_place (place_of w.version)) slots n.0 w.version w.at ((eq_by_cmp_equiv places_total).refl (place_of w.version))
+        ∙ ps.at (version_place w.version)
+        ∙ any_slot (is_at_place (version_place w.version)) slots n.0 w.version w.at ((eq_by_cmp_equiv places_total).refl (version_place w.version))
 
 pub met_is : (s : State) (states : States) (slots : Slots) (r : ActiveTx) (tab lo hi : ℕ) (q : RowKey) → IsSound s → IsStarted s → AreVersionsOf s (phases_of states) (all_versions slots) → active_of r.id s.active ≡ Some r → is_met (ends_of (phases_of states)) s.start r.id (is_row_of (shows (Range tab lo hi)) q) (all_versions slots) ≡ counts_for (Range tab lo hi) q r.id s.base s.stamped
 met_is s states slots r tab lo hi q sd st vs f =

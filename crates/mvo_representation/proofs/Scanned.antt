@@ -23,7 +23,8 @@ use Rattle.mvo_theory.specs.Sound.{IsSound, IsStarted, IsRising}
 use Rattle.mvo_theory.proofs.Each.{each_both}
 use Rattle.mvo_theory.proofs.Who.{active_holds}
 use Rattle.mvo_theory.proofs.Counts.{seen_counts}
-use Rattle.mvo_theory.proofs.Exact.{depends_only, depends_all}
+use Rattle.mvo_theory.proofs.Exact.{depends_only, depends_all, or_cases}
+use Rattle.mvo_theory.proofs.Footprints.{or_right}
 use Rattle.mvo_chain.specs.declared.version.Version.{Version}
 use Rattle.mvo_representation.specs.Words.{Phases, Ends, ends_of, stamp_in, is_stamp, has_stamp, NetEffect, with_effect, as_net_effect, touches, is_up_to, is_standing, standing_effect_of, standing_effect, is_below, meets, is_met, content_put, is_clash}
 use Rattle.mvo_representation.specs.Words.NetEffect.{Untouched, Removed, Puts, Clash}
@@ -82,7 +83,7 @@ stands_base s table xs v ys q h e =
 stands_with : Ends → ℕ → RowKey → Version → Bool
 stands_with ends start q v = eq_by_cmp key_cmp q v.row.key && is_standing ends start v
 
-none_held : (h : ContentData) → ◌≡◌ {A = Option ContentData} None (Some h) → ⊥
+pub none_held : (h : ContentData) → ◌≡◌ {A = Option ContentData} None (Some h) → ⊥
 none_held h e = cc
 
 abbrev test_of : Ends → ℕ → RowKey → ContentData → Version → Bool
@@ -121,7 +122,7 @@ puts_or (Puts g) Clash h q = absurd (differ q)
     differ q = cc
 puts_or Clash e h q = inl q
 
-some_held : (g h : ContentData) → ◌≡◌ {A = Option ContentData} (Some g) (Some h) → g ≡ h
+pub some_held : (g h : ContentData) → ◌≡◌ {A = Option ContentData} (Some g) (Some h) → g ≡ h
 some_held g h q = cc
 
 nothing_puts : (h : ContentData) → Untouched ≡ Puts h → ⊥
@@ -177,14 +178,6 @@ putter p b (x ∷ xs) P h e = go (nat_lt x.end b && list_any p (puts x.history))
 -- ---- the keys that are met count, and those that count are met
 or_left : (a b : Bool) → a ≡ true → (a || b) ≡ true
 or_left a b e = ap (λ c. c || b) e
-
-or_right : (a b : Bool) → b ≡ true → (a || b) ≡ true
-or_right true b e = refl
-or_right false b e = e
-
-or_cases : (a b : Bool) → (a || b) ≡ true → (a ≡ true) ⊎ (b ≡ true)
-or_cases true b h = inl refl
-or_cases false b h = inr h
 
 flip : (b : Bool) → cond b false true ≡ true → b ≡ false
 flip true e = absurd (false≢true e)

@@ -18,7 +18,7 @@ use Rattle.mvo_chain.specs.declared.version.VersionNo.{VersionNo}
 use Rattle.mvo_chain.specs.Slots.{Slots, version_at}
 use Rattle.mvo_hash.specs.Lists.{Lists, number, numbers_of}
 use Rattle.mvo_visible.specs.Words.{States, names}
-use Rattle.mvo_visible.specs.Versions.{Numbered, and_version, versions_by, versions_at, is_own, own_newest}
+use Rattle.mvo_visible.specs.Versions.{NumberedVersion, and_version, versions_by, versions_at, is_own, own_newest}
 use Rattle.mvo_visible.specs.Changes.{changes_of, greatest_below, done_with, deciding}
 use Rattle.mvo_visible.specs.Shown.{shown_by, own_or, shown_to}
 use Rattle.mvo_representation.specs.Words.{ends_of, has_stamp, NetEffect, net_effect, change_below, standing, row_in, shown_over, shown_row, content_put, is_clash}
@@ -32,6 +32,7 @@ use Rattle.mvo_representation.proofs.Version.{clash_in, no_clash}
 use Rattle.mvo_representation.proofs.Own.{not_clash}
 use Rattle.mvo_representation.proofs.Indexed.{index_net_effect}
 use Rattle.mvo_representation.proofs.Decided.{is_put_by, first_put, number_of, version_first, AreOfKey, unnumbered, is_change, content_of_first, change_any, content_first, last_of_versions}
+use Rattle.mvo_deps.proofs.Lists.{one}
 
 -- ---- the versions of a key
 pub versions_in_by : (slots : Slots) (ns : List ℕ) → unnumbered (versions_by slots (map number ns)) ≡ versions_numbered slots ns
@@ -46,9 +47,6 @@ versions_in_by slots (n ∷ ns) = go (slice_index_or slots n None) ∙ ap (and_f
 abbrev IsListed : Slots → RowKey → List ℕ → Type 0
 IsListed slots k ns = AllByRecursion (λ n. is_of_key k (slice_index_or slots n None) ≡ true) ns
 
-abbrev one : Bool → ℕ
-one b = cond b 1 0
-
 listed : (slots : Slots) (k : RowKey) (ns : List ℕ) → ((m : ℕ) → 1 ≤ how_many (λ i. i == m) ns → is_of_key k (slice_index_or slots m None) ≡ true) → IsListed slots k ns
 listed slots k [] h = tt
 listed slots k (n ∷ ns) h = (
@@ -56,7 +54,7 @@ listed slots k (n ∷ ns) h = (
   listed slots k ns (λ m le. h m (omega (arith, le))),
 )
 
-one_is : (b : Bool) → 1 ≤ cond b 1 0 → b ≡ true
+pub one_is : (b : Bool) → 1 ≤ cond b 1 0 → b ≡ true
 one_is true l = refl
 one_is false l = absurd (omega (arith, l))
 
@@ -75,7 +73,7 @@ pub of_key : (slots : Slots) (lists : Lists) (k : RowKey) → HasNumbers slots l
 of_key slots lists k h = of_key_by slots k (numbers_of lists k) (listed_at slots lists k h)
 
 -- each stands at its number
-abbrev pub AreThere : Slots → List Numbered → Type 0
+abbrev pub AreThere : Slots → List NumberedVersion → Type 0
 AreThere slots vs = AllByRecursion (λ e. version_at slots e.0 ≡ Some e.1) vs
 
 there_by : (slots : Slots) (ns : List VersionNo) → AreThere slots (versions_by slots ns)
@@ -89,7 +87,7 @@ there_by slots (n ∷ ns) = go (version_at slots n) refl (there_by slots ns)
 pub there : (slots : Slots) (lists : Lists) (k : RowKey) → AreThere slots (versions_at slots lists k)
 there slots lists k = there_by slots (map number (numbers_of lists k))
 
-content_found : (slots : Slots) (n : Held → Bool) (vs : List Numbered) → AreThere slots vs → content_shown slots (number_of (first_put n vs)) ≡ content_of_first (first_put n vs)
+content_found : (slots : Slots) (n : Held → Bool) (vs : List NumberedVersion) → AreThere slots vs → content_shown slots (number_of (first_put n vs)) ≡ content_of_first (first_put n vs)
 content_found slots n [] h = refl
 content_found slots n (e ∷ es) h = go (is_put_by n e) (content_found slots n es h.1)
   where
@@ -98,7 +96,7 @@ content_found slots n (e ∷ es) h = go (is_put_by n e) (content_found slots n e
     go false r = r
 
 -- ---- the rule
-pub own_newest_first : (t : ℕ) (vs : List Numbered) → own_newest t vs ≡ number_of (first_put (names t) vs)
+pub own_newest_first : (t : ℕ) (vs : List NumberedVersion) → own_newest t vs ≡ number_of (first_put (names t) vs)
 own_newest_first t [] = refl
 own_newest_first t (e ∷ es) = ap (option_or (cond (is_put_by (names t) e) (Some e.0) None)) (own_newest_first t es) ∙ by (is_put_by (names t) e)
   where
@@ -117,7 +115,7 @@ pub record IsClear (states : States) (t : ℕ) (k : RowKey) (vs : List Version) 
   pub own : is_clash (net_effect (names t) k vs) ≡ false
   pub others : (p : ℕ × NetEffect) → change_below (ends_of (phases_of states)) t k vs ≡ Some p → is_clash p.1 ≡ false
 
-others_row : (states : States) (slots : Slots) (t : ℕ) (k : RowKey) (vs : List Numbered) → AreOfKey k vs → AreThere slots vs → IsClear states t k (unnumbered vs) → content_shown slots (shown_by (deciding t (changes_of states vs))).version ≡ row_in (change_below (ends_of (phases_of states)) t k (unnumbered vs))
+others_row : (states : States) (slots : Slots) (t : ℕ) (k : RowKey) (vs : List NumberedVersion) → AreOfKey k vs → AreThere slots vs → IsClear states t k (unnumbered vs) → content_shown slots (shown_by (deciding t (changes_of states vs))).version ≡ row_in (change_below (ends_of (phases_of states)) t k (unnumbered vs))
 others_row states slots t k vs of th clear = go (greatest_below t (changes_of states vs)) refl
   where
     effect_with : ℕ → NetEffect
@@ -137,7 +135,7 @@ others_row states slots t k vs of th clear = go (greatest_below t (changes_of st
         ∙ sym (content_first (has_stamp (ends_of (phases_of states)) s) k vs of (clear.others (s, effect_with s) (last (Some s) e)))
         ∙ sym (ap row_in (last (Some s) e) ∙ row_put s (effect_with s))
 
-pub rule_is : (states : States) (slots : Slots) (t : ℕ) (k : RowKey) (vs : List Numbered) → AreOfKey k vs → AreThere slots vs → IsClear states t k (unnumbered vs) → content_shown slots (shown_to states t t vs).version ≡ shown_row (ends_of (phases_of states)) t k (unnumbered vs)
+pub rule_is : (states : States) (slots : Slots) (t : ℕ) (k : RowKey) (vs : List NumberedVersion) → AreOfKey k vs → AreThere slots vs → IsClear states t k (unnumbered vs) → content_shown slots (shown_to states t t vs).version ≡ shown_row (ends_of (phases_of states)) t k (unnumbered vs)
 rule_is states slots t k vs of th clear = go (net_effect (names t) k (unnumbered vs)) refl
   where
     own : (d : NetEffect) → net_effect (names t) k (unnumbered vs) ≡ d → list_any (is_own t) vs ≡ is_change d

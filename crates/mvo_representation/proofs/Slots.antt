@@ -6,10 +6,10 @@ use Rattle.mvo_chain.specs.Slots.{Slots}
 use Rattle.mvo_representation.specs.Indexes.{all_versions}
 use Rattle.mvo_representation.specs.Steps.{IsOneMore, IsOneChanged}
 
-none_version : (v : Version) → ◌≡◌ {A = Option Version} None (Some v) → ⊥
+pub none_version : (v : Version) → ◌≡◌ {A = Option Version} None (Some v) → ⊥
 none_version v q = cc
 
-some_version : (w v : Version) → ◌≡◌ {A = Option Version} (Some w) (Some v) → w ≡ v
+pub some_version : (w v : Version) → ◌≡◌ {A = Option Version} (Some w) (Some v) → w ≡ v
 some_version w v q = cc
 
 -- one that is full has no version less

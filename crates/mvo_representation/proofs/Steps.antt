@@ -29,7 +29,7 @@ use Rattle.mvo_theory.proofs.Who.{active_done, unended_done, unended_after_prepa
 use Rattle.mvo_chain.specs.declared.version.Version.{Version}
 use Rattle.mvo_representation.specs.Words.{Phases}
 use Rattle.mvo_representation.specs.Versions.{AreVersionsOf}
-use Rattle.mvo_representation.specs.Steps.{IsOneMore, fresh, ended_by, IsUnnamed, MayEnd, IsFreeToEnd, IsReplaced, IsRemoved, IsAfterAnswer, IsAfterCall}
+use Rattle.mvo_representation.specs.Steps.{IsOneMore, fresh, ended_by, IsUnnamed, MayEnd, IsFreeToEnd, IsVersionReplaced, IsVersionRemoved, IsAfterAnswer, IsAfterCall}
 use Rattle.mvo_representation.specs.Steps.MayEnd.{Own, Other}
 use Rattle.mvo_representation.proofs.TrimRows.{trim_holds_rows}
 use Rattle.mvo_representation.proofs.Opened.{kept_moved}
@@ -56,7 +56,7 @@ module _ (opening : Map) (steps : List Step) (s : State) (table : Phases) (t : �
   inserted vs vs' r h true e a = subst (AreVersionsOf (after_answer s t (Insert r) (answer_in s t (Insert r))) table) (sym a) (kept_by_insert_exists opening steps s table vs t mine r k h f e)
   inserted vs vs' r h false e a = placed (after_answer s t (Insert r) (answer_in s t (Insert r))) table (fresh t r) vs vs' a (kept_by_insert opening steps s table vs t mine r k h f e)
 
-  replaced : (vs vs' : List Version) (r : RowData) → AreVersionsOf s table vs → IsReplaced s table t r vs vs' → AreVersionsOf (after_answer s t (Update r) (answer_in s t (Update r))) table vs'
+  replaced : (vs vs' : List Version) (r : RowData) → AreVersionsOf s table vs → IsVersionReplaced s table t r vs vs' → AreVersionsOf (after_answer s t (Update r) (answer_in s t (Update r))) table vs'
   replaced vs vs' r h a =
       placed (after_answer s t (Update r) (answer_in s t (Update r))) table (fresh t r) a.between vs' a.put
       (subst (λ ws. AreVersionsOf (after_answer s t (Update r) (answer_in s t (Update r))) table (ws ++ fresh t r ∷ [])) a.ended.is (by a.may))
@@ -72,7 +72,7 @@ module _ (opening : Map) (steps : List Step) (s : State) (table : Phases) (t : �
   updated vs vs' r h true e a = replaced vs vs' r h a
   updated vs vs' r h false e a = subst (AreVersionsOf (after_answer s t (Update r) (answer_in s t (Update r))) table) (sym a) (kept_by_update_absent opening steps s table vs t mine r k h f e)
 
-  removed : (vs vs' : List Version) (v : Version) → AreVersionsOf s table vs → IsRemoved s table t v vs vs' → AreVersionsOf (after_answer s t (Delete v.row.key) (answer_in s t (Delete v.row.key))) table vs'
+  removed : (vs vs' : List Version) (v : Version) → AreVersionsOf s table vs → IsVersionRemoved s table t v vs vs' → AreVersionsOf (after_answer s t (Delete v.row.key) (answer_in s t (Delete v.row.key))) table vs'
   removed vs vs' v h a = subst (AreVersionsOf (after_answer s t (Delete v.row.key) (answer_in s t (Delete v.row.key))) table) a.ended.is (by a.may)
     where
       here : AreVersionsOf s table (a.ended.before ++ v ∷ a.ended.after)

@@ -24,7 +24,7 @@ use Rattle.mvo_theory.specs.Calls.{IsKept}
 use Rattle.mvo_theory.proofs.Cases.{begin_cases}
 use Rattle.mvo_txn.specs.declared.state.TxState.{TxState}
 use Rattle.mvo_txn.specs.declared.state.TxState.TheVariants as state
-use Rattle.mvo_txn.specs.declared.seat.Seat.{Seat}
+use Rattle.mvo_txn.specs.declared.table_seat.TableSeat.{TableSeat}
 use Rattle.mvo_txn.specs.Txns.{Txns, state_of, spent_clock, why_not_begun}
 use Rattle.mvo_txn.proofs.Stamps.{get_removed, get_left}
 use Rattle.mvo_representation.specs.Table.{phase_as}
@@ -99,7 +99,7 @@ there_by None None (Some u) = there_ended u.outcome
 there_by None None None = refl
 
 module _ {P : Type 0} where
-  seat_state : (o : Option (Seat P)) → is_some (option_map (λ s. s.state) o) ≡ is_some o
+  seat_state : (o : Option (TableSeat P)) → is_some (option_map (λ s. s.state) o) ≡ is_some o
   seat_state None = refl
   seat_state (Some s) = refl
 

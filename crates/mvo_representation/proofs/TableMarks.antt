@@ -38,7 +38,7 @@ least_below n (x ∷ xs) = (
   least_below (cond (nat_le n x) n x) xs,
 )
 
-or_second : (a b : Bool) → b ≡ true → (a || b) ≡ true
+pub or_second : (a b : Bool) → b ≡ true → (a || b) ≡ true
 or_second true b e = refl
 or_second false b e = e
 

@@ -6,9 +6,9 @@ use Rattle.mvo_types.specs.declared.ids.TxId.{TxId}
 use Rattle.mvo_types.specs.declared.ids.Stamp.{Stamp}
 use Rattle.mvo_txn.specs.declared.state.TxState.{TxState}
 use Rattle.mvo_txn.specs.declared.state.TxState.TheVariants.{Active, Preparing, Committed, Aborted}
-use Rattle.mvo_txn.specs.declared.seat.Seat.{Seat}
+use Rattle.mvo_txn.specs.declared.table_seat.TableSeat.{TableSeat}
 use Rattle.mvo_txn.specs.Seats.{with_state}
-use Rattle.mvo_txn.specs.Txns.{Txns, state_of, kept_of, IsPreparing, after_begin, after_write, after_terminate}
+use Rattle.mvo_txn.specs.Txns.{Txns, state_of, kept_of, IsPreparingState, table_after_begin, table_after_write, after_terminate}
 use Rattle.mvo_txn.proofs.Stamps.{get_inserted, get_beside, get_removed, get_left}
 use Rattle.mvo_deps.specs.declared.node.Node.{Node}
 use Rattle.mvo_deps.specs.Data.{DependencyData, no_dependencies, without_dependents}
@@ -20,7 +20,7 @@ use Rattle.mvo_representation.specs.Nodes.{node_as, nodes_of, no_node, nodes_aft
 use Rattle.mvo_representation.specs.Dependencies.{tx_id}
 
 -- one that is Preparing has an end
-pub preparing_state : (o : Option TxState) → IsPreparing o → (e : Stamp) × (o ≡ Some (Preparing e))
+pub preparing_state : (o : Option TxState) → IsPreparingState o → (e : Stamp) × (o ≡ Some (Preparing e))
 preparing_state None h = absurd (false≢true h)
 preparing_state (Some Active) h = absurd (false≢true h)
 preparing_state (Some (Preparing e)) h = (e, refl)
@@ -28,13 +28,13 @@ preparing_state (Some (Committed e)) h = absurd (false≢true h)
 preparing_state (Some Aborted) h = absurd (false≢true h)
 
 module _ {P : Type 0} where
-  abbrev at_seat : Option (Seat (Node P)) → DependencyData
+  abbrev at_seat : Option (TableSeat (Node P)) → DependencyData
   at_seat o = data_in (option_map (λ s. s.kept) o)
 
   -- ---- a begin
-  begun_at : (old : Txns (Node P)) (node : Node P) → node.dependencies ≡ no_dependencies → (u : ℕ) → nodes_of (after_begin old node) u ≡ nodes_after_begin (old.clock + 1) (nodes_of old) u
+  begun_at : (old : Txns (Node P)) (node : Node P) → node.dependencies ≡ no_dependencies → (u : ℕ) → nodes_of (table_after_begin old node) u ≡ nodes_after_begin (old.clock + 1) (nodes_of old) u
   begun_at old node none u = ⊎_elim
-      (λ is. ap (nodes_of (after_begin old node)) is
+      (λ is. ap (nodes_of (table_after_begin old node)) is
       ∙ ap (λ o. node_as (at_seat o)) (get_inserted old.seats (old.clock + 1) seat)
       ∙ ap node_as none
       ∙ sym (ap (λ b. cond b no_node (nodes_of old u)) (eq-eqb u (old.clock + 1) is)))
@@ -42,16 +42,16 @@ module _ {P : Type 0} where
       ∙ sym (ap (λ b. cond b no_node (nodes_of old u)) (ne_eqb u (old.clock + 1) ne)))
       (cases_eq u (old.clock + 1))
     where
-      seat : Seat (Node P)
+      seat : TableSeat (Node P)
       seat = record { state = Active; kept = node }
 
-  pub begun_nodes : (old : Txns (Node P)) (node : Node P) → node.dependencies ≡ no_dependencies → nodes_after_begin (old.clock + 1) (nodes_of old) ≡ nodes_of (after_begin old node)
+  pub begun_nodes : (old : Txns (Node P)) (node : Node P) → node.dependencies ≡ no_dependencies → nodes_after_begin (old.clock + 1) (nodes_of old) ≡ nodes_of (table_after_begin old node)
   begun_nodes old node none = λ i u. sym (begun_at old node none u) i
 
-  pub begun_state : (old : Txns (Node P)) (node : Node P) → state_of (after_begin old node) (old.clock + 1) ≡ Some Active
+  pub begun_state : (old : Txns (Node P)) (node : Node P) → state_of (table_after_begin old node) (old.clock + 1) ≡ Some Active
   begun_state old node = ap (option_map (λ s. s.state)) (get_inserted old.seats (old.clock + 1) (record { state = Active; kept = node }))
 
-  pub begun_others : (old : Txns (Node P)) (node : Node P) (u : ℕ) → u ≢ old.clock + 1 → state_of (after_begin old node) u ≡ state_of old u
+  pub begun_others : (old : Txns (Node P)) (node : Node P) (u : ℕ) → u ≢ old.clock + 1 → state_of (table_after_begin old node) u ≡ state_of old u
   begun_others old node u ne = ap (option_map (λ s. s.state)) (get_beside old.seats (old.clock + 1) (record { state = Active; kept = node }) u ne)
 
   -- ---- another state, at any clock
@@ -62,10 +62,10 @@ module _ {P : Type 0} where
   restated_nodes old clock t now = λ i u. node_as (data_in (sym (kept_restated old.seats t now u) i))
 
   -- ---- what the caller keeps
-  pub written_nodes : (old : Txns (Node P)) (t : ℕ) (node new : Node P) → kept_of old t ≡ Some node → new.dependencies ≡ node.dependencies → nodes_of old ≡ nodes_of (after_write old t new)
+  pub written_nodes : (old : Txns (Node P)) (t : ℕ) (node new : Node P) → kept_of old t ≡ Some node → new.dependencies ≡ node.dependencies → nodes_of old ≡ nodes_of (table_after_write old t new)
   written_nodes old t node new was same = λ i u. node_as (sym ((written_alike old (tx_id t) node new was same).data_is (tx_id u)) i)
 
-  pub written_state : (old : Txns (Node P)) (t : ℕ) (node new : Node P) → kept_of old t ≡ Some node → new.dependencies ≡ node.dependencies → (u : ℕ) → state_of (after_write old t new) u ≡ state_of old u
+  pub written_state : (old : Txns (Node P)) (t : ℕ) (node new : Node P) → kept_of old t ≡ Some node → new.dependencies ≡ node.dependencies → (u : ℕ) → state_of (table_after_write old t new) u ≡ state_of old u
   written_state old t node new was same u = (written_alike old (tx_id t) node new was same).state_is (tx_id u)
 
   -- ---- a report

@@ -23,11 +23,12 @@ use Rattle.mvo_theory.proofs.Finds.{find_none}
 use Rattle.mvo_theory.proofs.Phases.{leads_after_operation}
 use Rattle.mvo_theory.proofs.Single.{active_found, preparing_found, active_alone, preparing_alone}
 use Rattle.mvo_theory.proofs.Who.{active_holds, id_of}
+use Rattle.mvo_theory.proofs.EndSteps.{or_none}
 use Rattle.mvo_txn.specs.Txns.{Txns, state_of}
 use Rattle.mvo_deps.specs.declared.node.Node.{Node}
-use Rattle.mvo_deps.specs.Data.{is_among}
+use Rattle.mvo_deps.specs.Data.{is_id_among}
 use Rattle.mvo_deps.specs.Nodes.{after_register, after_register_all}
-use Rattle.mvo_deps.specs.Graph.{is_preparing, IsDependencyGraph}
+use Rattle.mvo_deps.specs.Graph.{is_id_preparing, IsDependencyGraph}
 use Rattle.mvo_deps.proofs.Grown.{state_registered, clock_registered, kept_registered}
 use Rattle.mvo_deps.proofs.Registered.{there_if_preparing}
 use Rattle.mvo_representation.specs.Nodes.{Nodes, nodes_of, HasNodes, HasDrawnDependents}
@@ -42,17 +43,7 @@ use Rattle.mvo_representation.proofs.Reported.{IsNew, its_dependents, its_open, 
 use Rattle.mvo_representation.proofs.Tabled.{table_alike, phase_taken_over}
 use Rattle.mvo_representation.proofs.TableSteps.{nodes_beside, drawn_beside}
 use Rattle.mvo_representation.proofs.TableTells.{open_phase}
-use Rattle.mvo_representation.proofs.Unsettled.{alone}
-
-some_same : (x y : StampedTx) → ◌≡◌ {A = Option StampedTx} (Some x) (Some y) → x ≡ y
-some_same x y q = cc
-
-none_some : (x : StampedTx) → ◌≡◌ {A = Option StampedTx} None (Some x) → ⊥
-none_some x q = cc
-
-or_none : (b : Bool) → (b || false) ≡ b
-or_none true = refl
-or_none false = refl
+use Rattle.mvo_representation.proofs.Unsettled.{alone, none_some}
 
 or_turned : (a b : Bool) → (a || b) ≡ (b || a)
 or_turned true true = refl
@@ -101,7 +92,7 @@ module _ {P : Type 0} (opening : Map) (steps : List Step) (s : State) (old : Txn
 
   one_registered : (table : Txns (Node P)) (es : List ℕ) (id : TxId) (x : StampedTx) → preparing_of id.0 s.stamped ≡ Some x → HasEnds table es → HasEnds (after_register table mine id) (x.end ∷ es)
   one_registered table es id x g w =
-      let prep : is_preparing table id ≡ true = ap is_some (open_phase (state_of table id.0) x.end (stands table w.states id.0 ∙ phase_preparing s id.0 x k.single g)) in
+      let prep : is_id_preparing table id ≡ true = ap is_some (open_phase (state_of table id.0) x.end (stands table w.states id.0 ∙ phase_preparing s id.0 x k.single g)) in
       let there : is_some (get table.seats r.id) ≡ true = seated s table r.id (stands table w.states r.id) (ap is_open_phase (phase_active s r.id r f)) in
       let may : MayRegister table mine id = record {
         apart = other id x g;
@@ -121,7 +112,7 @@ module _ {P : Type 0} (opening : Map) (steps : List Step) (s : State) (old : Txn
 
   -- these ends are of just those that are registered, and of those before
   abbrev AreOf : List TxId → List ℕ → List ℕ → Type 0
-  AreOf ids es es' = AllByRecursion (λ y. y.settled ≡ false → has_end es' y.end ≡ (is_among (tx_id y.id) ids || has_end es y.end)) s.stamped
+  AreOf ids es es' = AllByRecursion (λ y. y.settled ≡ false → has_end es' y.end ≡ (is_id_among (tx_id y.id) ids || has_end es y.end)) s.stamped
 
   -- those that are left are registered
   abbrev Registers : Txns (Node P) → List ℕ → List TxId → Type 0
@@ -137,11 +128,11 @@ module _ {P : Type 0} (opening : Map) (steps : List Step) (s : State) (old : Txn
           let rest = again x (one_registered table es id x g w) in (
             rest.0,
             rest.1,
-            each_both (λ y. y.settled ≡ false → has_end rest.0 y.end ≡ (is_among (tx_id y.id) ids || ((x.end == y.end) || has_end es y.end))) (λ y. y.settled ≡ false → (y.id == id.0) ≡ (y.end == x.end)) (λ y. y.settled ≡ false → has_end rest.0 y.end ≡ ((eqb id.0 y.id || is_among (tx_id y.id) ids) || has_end es y.end))
+            each_both (λ y. y.settled ≡ false → has_end rest.0 y.end ≡ (is_id_among (tx_id y.id) ids || ((x.end == y.end) || has_end es y.end))) (λ y. y.settled ≡ false → (y.id == id.0) ≡ (y.end == x.end)) (λ y. y.settled ≡ false → has_end rest.0 y.end ≡ ((eqb id.0 y.id || is_id_among (tx_id y.id) ids) || has_end es y.end))
                 (λ y a b o.
                 a o
-                ∙ ap (λ c. is_among (tx_id y.id) ids || (c || has_end es y.end)) (swap_eq x.end y.end ∙ sym (b o) ∙ swap_eq y.id id.0)
-                ∙ or_passed (is_among (tx_id y.id) ids) (eqb id.0 y.id) (has_end es y.end)) s.stamped rest.2 (alone s k.single k.sound.rising id.0 x g),
+                ∙ ap (λ c. is_id_among (tx_id y.id) ids || (c || has_end es y.end)) (swap_eq x.end y.end ∙ sym (b o) ∙ swap_eq y.id id.0)
+                ∙ or_passed (is_id_among (tx_id y.id) ids) (eqb id.0 y.id) (has_end es y.end)) s.stamped rest.2 (alone s k.single k.sound.rising id.0 x g),
           )
 
   -- ---- the answer
@@ -155,17 +146,17 @@ module _ {P : Type 0} (opening : Map) (steps : List Step) (s : State) (old : Txn
   }
 
   same_open : (op : Op) (a : AnswerData) (ids : List TxId) (es : List ℕ) → AreDependencies s op r ids → AreOf ids [] es → (q : ActiveTx) → (q.id ≡ r.id → q ≡ r) → AllByRecursion (λ y. y.settled ≡ false → has_end (active_with_ends r.id es q).depends_on y.end ≡ has_end (with_answer s r.id op a q).depends_on y.end) s.stamped
-  same_open op a ids es d of q own = each_both (λ y. y.settled ≡ false → has_end es y.end ≡ (is_among (tx_id y.id) ids || false)) (λ y. y.settled ≡ false → has_end (dependencies s op r) y.end ≡ (has_end r.depends_on y.end || is_among (tx_id y.id) ids)) (λ y. y.settled ≡ false → has_end (cond (q.id == r.id) (with_ends q.depends_on es) q.depends_on) y.end ≡ has_end (cond (q.id == r.id) (dependencies s op q) q.depends_on) y.end)
+  same_open op a ids es d of q own = each_both (λ y. y.settled ≡ false → has_end es y.end ≡ (is_id_among (tx_id y.id) ids || false)) (λ y. y.settled ≡ false → has_end (dependencies s op r) y.end ≡ (has_end r.depends_on y.end || is_id_among (tx_id y.id) ids)) (λ y. y.settled ≡ false → has_end (cond (q.id == r.id) (with_ends q.depends_on es) q.depends_on) y.end ≡ has_end (cond (q.id == r.id) (dependencies s op q) q.depends_on) y.end)
       (λ y m j o. by y (m o) (j o) (q.id == r.id) refl) s.stamped of d.just
     where
-      by : (y : StampedTx) → has_end es y.end ≡ (is_among (tx_id y.id) ids || false) → has_end (dependencies s op r) y.end ≡ (has_end r.depends_on y.end || is_among (tx_id y.id) ids) → (b : Bool) → (q.id == r.id) ≡ b → has_end (cond b (with_ends q.depends_on es) q.depends_on) y.end ≡ has_end (cond b (dependencies s op q) q.depends_on) y.end
+      by : (y : StampedTx) → has_end es y.end ≡ (is_id_among (tx_id y.id) ids || false) → has_end (dependencies s op r) y.end ≡ (has_end r.depends_on y.end || is_id_among (tx_id y.id) ids) → (b : Bool) → (q.id == r.id) ≡ b → has_end (cond b (with_ends q.depends_on es) q.depends_on) y.end ≡ has_end (cond b (dependencies s op q) q.depends_on) y.end
       by y m j false e = refl
       by y m j true e =
           let same = own (eqb-true q.id r.id e) in
           has_with_ends q.depends_on es y.end
-          ∙ ap (λ c. c || has_end q.depends_on y.end) (m ∙ or_none (is_among (tx_id y.id) ids))
-          ∙ or_turned (is_among (tx_id y.id) ids) (has_end q.depends_on y.end)
-          ∙ ap (λ (z : ActiveTx). has_end z.depends_on y.end || is_among (tx_id y.id) ids) same
+          ∙ ap (λ c. c || has_end q.depends_on y.end) (m ∙ or_none (is_id_among (tx_id y.id) ids))
+          ∙ or_turned (is_id_among (tx_id y.id) ids) (has_end q.depends_on y.end)
+          ∙ ap (λ (z : ActiveTx). has_end z.depends_on y.end || is_id_among (tx_id y.id) ids) same
           ∙ sym j
           ∙ ap (λ (z : ActiveTx). has_end (dependencies s op z) y.end) (sym same)
 

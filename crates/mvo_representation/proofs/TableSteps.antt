@@ -27,7 +27,7 @@ use Rattle.mvo_theory.proofs.Who.{active_holds, id_of}
 use Rattle.mvo_txn.specs.declared.state.TxState.{TxState}
 use Rattle.mvo_txn.specs.declared.state.TxState.TheVariants.{Active, Preparing, Committed, Aborted}
 use Rattle.mvo_txn.specs.Txns as txns
-use Rattle.mvo_txn.specs.Txns.{Txns, no_txns, state_of, kept_of, IsPreparing, IsUnended, IsEnded}
+use Rattle.mvo_txn.specs.Txns.{Txns, no_txns, state_of, kept_of, IsPreparingState, IsUnended, IsEnded}
 use Rattle.mvo_txn.specs.Queue.{open_end}
 use Rattle.mvo_deps.specs.declared.node.Node.{Node}
 use Rattle.mvo_deps.specs.Data as deps
@@ -65,10 +65,10 @@ module _ {P : Type 0} where
   }
 
   -- ---- a begin
-  pub table_begun : (opening : Map) (steps : List Step) (s : State) (old : Txns (Node P)) (node : Node P) → IsKept opening steps s → HasDependencies s old → node.dependencies ≡ no_dependencies → HasDependencies (after_begin s (s.clock + 1)) (txns.after_begin old node)
+  pub table_begun : (opening : Map) (steps : List Step) (s : State) (old : Txns (Node P)) (node : Node P) → IsKept opening steps s → HasDependencies s old → node.dependencies ≡ no_dependencies → HasDependencies (after_begin s (s.clock + 1)) (txns.table_after_begin old node)
   table_begun opening steps s old node k h none = record {
-    stands = table_leads s (after_begin s (s.clock + 1)) (Begins (s.clock + 1)) old (txns.after_begin old node) (Some Active) h.stands (leads_after_begin s (s.clock + 1) (omega arith) k.sound k.single) clock
-        (ap (state_of (txns.after_begin old node)) (sym clock) ∙ begun_state old node) refl
+    stands = table_leads s (after_begin s (s.clock + 1)) (Begins (s.clock + 1)) old (txns.table_after_begin old node) (Some Active) h.stands (leads_after_begin s (s.clock + 1) (omega arith) k.sound k.single) clock
+        (ap (state_of (txns.table_after_begin old node)) (sym clock) ∙ begun_state old node) refl
         (λ u ne. begun_others old node u (λ e. ne (e ∙ clock)));
     nodes = subst (HasNodes (after_begin s (s.clock + 1))) nodes_are (nodes_begun s (nodes_of old) (s.clock + 1) (omega arith) k.sound h.nodes h.drawn);
     drawn = subst (HasDrawnDependents (after_begin s (s.clock + 1))) nodes_are (drawn_begun s (nodes_of old) (s.clock + 1) (omega arith) k.sound h.drawn);
@@ -79,13 +79,13 @@ module _ {P : Type 0} where
       clock : old.clock + 1 ≡ s.clock + 1
       clock = ap (λ (n : ℕ). n + 1) h.stands.clock
 
-      nodes_are : nodes_after_begin (s.clock + 1) (nodes_of old) ≡ nodes_of (txns.after_begin old node)
+      nodes_are : nodes_after_begin (s.clock + 1) (nodes_of old) ≡ nodes_of (txns.table_after_begin old node)
       nodes_are = ap (λ (n : ℕ). nodes_after_begin n (nodes_of old)) (sym clock) ∙ begun_nodes old node none
 
   -- ---- what the caller keeps
-  pub table_written : (s : State) (old : Txns (Node P)) (t : ℕ) (node new : Node P) → HasDependencies s old → kept_of old t ≡ Some node → new.dependencies ≡ node.dependencies → HasDependencies s (txns.after_write old t new)
+  pub table_written : (s : State) (old : Txns (Node P)) (t : ℕ) (node new : Node P) → HasDependencies s old → kept_of old t ≡ Some node → new.dependencies ≡ node.dependencies → HasDependencies s (txns.table_after_write old t new)
   table_written s old t node new h was same = record {
-    stands = table_alike s s old (txns.after_write old t new) h.stands refl refl (written_state old t node new was same) (λ u. refl);
+    stands = table_alike s s old (txns.table_after_write old t new) h.stands refl refl (written_state old t node new was same) (λ u. refl);
     nodes = subst (HasNodes s) (written_nodes old t node new was same) h.nodes;
     drawn = subst (HasDrawnDependents s) (written_nodes old t node new was same) h.drawn;
     aborted = h.aborted;
@@ -93,9 +93,9 @@ module _ {P : Type 0} where
   }
 
   -- ---- a precommit
-  pub table_prepared : (opening : Map) (steps : List Step) (s : State) (old : Txns (Node P)) (t : ℕ) → IsKept opening steps s → HasDependencies s old → state_of old t ≡ Some Active → HasDependencies (after_precommit s t) (txns.after_prepare old t)
-  table_prepared opening steps s old t k h was = subst (λ o. HasDependencies (after_precommit_of s o) (txns.after_prepare old t)) (sym f) (record {
-    stands = table_leads s (after_prepare s r (s.clock + 1)) (Prepares t (s.clock + 1)) old (txns.after_prepare old t) (Some (Preparing (record { 0 = old.clock + 1 }))) h.stands
+  pub table_prepared : (opening : Map) (steps : List Step) (s : State) (old : Txns (Node P)) (t : ℕ) → IsKept opening steps s → HasDependencies s old → state_of old t ≡ Some Active → HasDependencies (after_precommit s t) (txns.table_after_prepare old t)
+  table_prepared opening steps s old t k h was = subst (λ o. HasDependencies (after_precommit_of s o) (txns.table_after_prepare old t)) (sym f) (record {
+    stands = table_leads s (after_prepare s r (s.clock + 1)) (Prepares t (s.clock + 1)) old (txns.table_after_prepare old t) (Some (Preparing (record { 0 = old.clock + 1 }))) h.stands
         (leads_after_prepare s t r (s.clock + 1) f is k.single) clock
         (state_now old.seats t (Preparing (record { 0 = old.clock + 1 })) Active t refl was)
         (ap PreparingPhase clock)
@@ -124,7 +124,7 @@ module _ {P : Type 0} where
       clock : old.clock + 1 ≡ s.clock + 1
       clock = ap (λ (n : ℕ). n + 1) h.stands.clock
 
-      nodes_are : nodes_of old ≡ nodes_of (txns.after_prepare old t)
+      nodes_are : nodes_of old ≡ nodes_of (txns.table_after_prepare old t)
       nodes_are = restated_nodes old (old.clock + 1) t (Preparing (record { 0 = old.clock + 1 }))
 
   -- ---- a check
@@ -167,13 +167,13 @@ module _ {P : Type 0} where
 
   -- ---- a commit
   committed : (opening : Map) (steps : List Step) (s : State) (old new : Txns (Node P)) (t : TxId) (end : Stamp) → IsKept opening steps s → HasDependencies s old → state_of old t.0 ≡ Some (Preparing end)
-      → IsReported deps.after_commit (txns.after_change old t.0 (Committed end)) new t → KeepsGraphAtCommit (txns.after_change old t.0 (Committed end)) new t → HasDependencies (after_commit_of s t.0 (preparing_of t.0 s.stamped)) new
+      → IsReported deps.after_dependency_commit (txns.table_after_change old t.0 (Committed end)) new t → KeepsGraphAtCommit (txns.table_after_change old t.0 (Committed end)) new t → HasDependencies (after_commit_of s t.0 (preparing_of t.0 s.stamped)) new
   committed opening steps s old new t end k h was told keeps = subst (λ o. HasDependencies (after_commit_of s t.0 o) new) (sym f) (record {
     stands = table_leads s (after_commit s t.0 x.end) (Commits t.0 x.end) old new (Some (Committed end)) h.stands (leads_after_commit s t.0 x f k.sound k.single)
-        (reported_clock deps.after_commit now new t told ∙ h.stands.clock)
-        (reported_state deps.after_commit now new t told t.0 ∙ state_now old.seats t.0 (Committed end) (Preparing end) t.0 refl was)
+        (reported_clock deps.after_dependency_commit now new t told ∙ h.stands.clock)
+        (reported_state deps.after_dependency_commit now new t told t.0 ∙ state_now old.seats t.0 (Committed end) (Preparing end) t.0 refl was)
         (ap CommittedPhase (sym e))
-        (λ u ne. reported_state deps.after_commit now new t told u ∙ state_restated old.seats t.0 (Committed end) u ne);
+        (λ u ne. reported_state deps.after_dependency_commit now new t told u ∙ state_restated old.seats t.0 (Committed end) u ne);
     nodes = commit_reported s now new t.0 x k.sound k.single f (subst (HasNodes s) nodes_are h.nodes) told;
     drawn = commit_drawn s now new t.0 x k.sound k.single f (subst (HasDrawnDependents s) nodes_are h.drawn) told;
     aborted = h.aborted;
@@ -181,7 +181,7 @@ module _ {P : Type 0} where
   })
     where
       now : Txns (Node P)
-      now = txns.after_change old t.0 (Committed end)
+      now = txns.table_after_change old t.0 (Committed end)
 
       found : (x : StampedTx) × (preparing_of t.0 s.stamped ≡ Some x) × (x.end ≡ end.0)
       found = preparing_is s t.0 end.0 (sym (h.stands.phases t.0) ∙ ap phase_as was)
@@ -199,22 +199,22 @@ module _ {P : Type 0} where
       nodes_are = restated_nodes old old.clock t.0 (Committed end)
 
   pub table_committed : (opening : Map) (steps : List Step) (s : State) (old untold new : Txns (Node P)) (t : TxId) (end : Stamp) → IsKept opening steps s → HasDependencies s old → state_of old t.0 ≡ Some (Preparing end)
-      → untold ≡ txns.after_change old t.0 (Committed end) → IsReported deps.after_commit untold new t → KeepsGraphAtCommit untold new t → HasDependencies (after_commit_of s t.0 (preparing_of t.0 s.stamped)) new
+      → untold ≡ txns.table_after_change old t.0 (Committed end) → IsReported deps.after_dependency_commit untold new t → KeepsGraphAtCommit untold new t → HasDependencies (after_commit_of s t.0 (preparing_of t.0 s.stamped)) new
   table_committed opening steps s old untold new t end k h was e told keeps =
-      committed opening steps s old new t end k h was (subst (λ table. IsReported deps.after_commit table new t) e told) (subst (λ table. KeepsGraphAtCommit table new t) e keeps)
+      committed opening steps s old new t end k h was (subst (λ table. IsReported deps.after_dependency_commit table new t) e told) (subst (λ table. KeepsGraphAtCommit table new t) e keeps)
 
   -- ---- an abort
   abbrev fallen : Txns (Node P) → ℕ → Txns (Node P)
-  fallen old t = txns.after_change old t Aborted
+  fallen old t = txns.table_after_change old t Aborted
 
   undone : (opening : Map) (steps : List Step) (s : State) (old new : Txns (Node P)) (t : TxId) → IsKept opening steps s → HasDependencies s old → state_of old t.0 ≡ Some Active
-      → IsReported (deps.after_abort t) (fallen old t.0) new t → KeepsGraphAtAbort (fallen old t.0) new t → HasDependencies (after_abort_of s t.0 (preparing_of t.0 s.stamped)) new
+      → IsReported (deps.after_dependency_abort t) (fallen old t.0) new t → KeepsGraphAtAbort (fallen old t.0) new t → HasDependencies (after_abort_of s t.0 (preparing_of t.0 s.stamped)) new
   undone opening steps s old new t k h was told keeps = subst (λ o. HasDependencies (after_abort_of s t.0 o) new) (sym nobody) (record {
     stands = table_leads s (after_abort_of_active s t.0) (Aborts t.0) old new (Some Aborted) h.stands leads
-        (reported_clock (deps.after_abort t) (fallen old t.0) new t told ∙ h.stands.clock)
-        (reported_state (deps.after_abort t) (fallen old t.0) new t told t.0 ∙ state_now old.seats t.0 Aborted Active t.0 refl was)
+        (reported_clock (deps.after_dependency_abort t) (fallen old t.0) new t told ∙ h.stands.clock)
+        (reported_state (deps.after_dependency_abort t) (fallen old t.0) new t told t.0 ∙ state_now old.seats t.0 Aborted Active t.0 refl was)
         refl
-        (λ u ne. reported_state (deps.after_abort t) (fallen old t.0) new t told u ∙ state_restated old.seats t.0 Aborted u ne);
+        (λ u ne. reported_state (deps.after_dependency_abort t) (fallen old t.0) new t told u ∙ state_restated old.seats t.0 Aborted u ne);
     nodes = nodes_elsewhere (after_abort_of_active s t.0) (after_abort_of_active s t.0).marks (after_abort_of_active s t.0).ended (nodes_of (fallen old t.0)) (nodes_of new) alike.active alike.preparing
         (subst (HasNodes (after_abort_of_active s t.0)) nodes_are (nodes_aborted s (nodes_of old) t.0 h.nodes));
     drawn = drawn_elsewhere (after_abort_of_active s t.0) (after_abort_of_active s t.0).marks (after_abort_of_active s t.0).ended (nodes_of (fallen old t.0)) (nodes_of new) alike.active alike.preparing
@@ -247,13 +247,13 @@ module _ {P : Type 0} where
       alike = left_alike (after_abort_of_active s t.0) (fallen old t.0) new t.0 (ap is_open_phase leads.own) (λ u ne. undone_at (fallen old t.0) new t.0 none told u ne)
 
   failed : (opening : Map) (steps : List Step) (s : State) (old new : Txns (Node P)) (t : TxId) (end : Stamp) → IsKept opening steps s → HasDependencies s old → state_of old t.0 ≡ Some (Preparing end)
-      → IsReported (deps.after_abort t) (fallen old t.0) new t → KeepsGraphAtAbort (fallen old t.0) new t → HasDependencies (after_abort_of s t.0 (preparing_of t.0 s.stamped)) new
+      → IsReported (deps.after_dependency_abort t) (fallen old t.0) new t → KeepsGraphAtAbort (fallen old t.0) new t → HasDependencies (after_abort_of s t.0 (preparing_of t.0 s.stamped)) new
   failed opening steps s old new t end k h was told keeps = subst (λ o. HasDependencies (after_abort_of s t.0 o) new) (sym f) (record {
     stands = table_leads s (after_abort_of_preparing s t.0 x.end) (Aborts t.0) old new (Some Aborted) h.stands (leads_after_abort_of_preparing s t.0 x f k.sound k.single)
-        (reported_clock (deps.after_abort t) (fallen old t.0) new t told ∙ h.stands.clock)
-        (reported_state (deps.after_abort t) (fallen old t.0) new t told t.0 ∙ state_now old.seats t.0 Aborted (Preparing end) t.0 refl was)
+        (reported_clock (deps.after_dependency_abort t) (fallen old t.0) new t told ∙ h.stands.clock)
+        (reported_state (deps.after_dependency_abort t) (fallen old t.0) new t told t.0 ∙ state_now old.seats t.0 Aborted (Preparing end) t.0 refl was)
         refl
-        (λ u ne. reported_state (deps.after_abort t) (fallen old t.0) new t told u ∙ state_restated old.seats t.0 Aborted u ne);
+        (λ u ne. reported_state (deps.after_dependency_abort t) (fallen old t.0) new t told u ∙ state_restated old.seats t.0 Aborted u ne);
     nodes = abort_reported s (fallen old t.0) new t.0 x k.sound k.single f seats (subst (HasNodes s) nodes_are h.nodes) told;
     drawn = abort_drawn s (fallen old t.0) new t.0 x k.sound k.single f seats (subst (HasDrawnDependents s) nodes_are h.drawn) told;
     aborted = h.aborted ++ t ∷ [];
@@ -276,7 +276,7 @@ module _ {P : Type 0} where
       seats = λ u o. there_restated old.seats t.0 Aborted u ∙ seated s old u (h.stands.phases u) o
 
   aborted : (opening : Map) (steps : List Step) (s : State) (old new : Txns (Node P)) (t : TxId) → IsKept opening steps s → HasDependencies s old → IsUnended (state_of old t.0)
-      → IsReported (deps.after_abort t) (txns.after_change old t.0 Aborted) new t → KeepsGraphAtAbort (txns.after_change old t.0 Aborted) new t → HasDependencies (after_abort_of s t.0 (preparing_of t.0 s.stamped)) new
+      → IsReported (deps.after_dependency_abort t) (txns.table_after_change old t.0 Aborted) new t → KeepsGraphAtAbort (txns.table_after_change old t.0 Aborted) new t → HasDependencies (after_abort_of s t.0 (preparing_of t.0 s.stamped)) new
   aborted opening steps s old new t k h unended told keeps = go (state_of old t.0) refl unended
     where
       go : (o : Option TxState) → state_of old t.0 ≡ o → IsUnended o → HasDependencies (after_abort_of s t.0 (preparing_of t.0 s.stamped)) new
@@ -287,9 +287,9 @@ module _ {P : Type 0} where
       go (Some Aborted) e u = absurd u
 
   pub table_aborted : (opening : Map) (steps : List Step) (s : State) (old untold new : Txns (Node P)) (t : TxId) → IsKept opening steps s → HasDependencies s old → IsUnended (state_of old t.0)
-      → untold ≡ txns.after_change old t.0 Aborted → IsReported (deps.after_abort t) untold new t → KeepsGraphAtAbort untold new t → HasDependencies (after_abort_of s t.0 (preparing_of t.0 s.stamped)) new
+      → untold ≡ txns.table_after_change old t.0 Aborted → IsReported (deps.after_dependency_abort t) untold new t → KeepsGraphAtAbort untold new t → HasDependencies (after_abort_of s t.0 (preparing_of t.0 s.stamped)) new
   table_aborted opening steps s old untold new t k h unended e told keeps =
-      aborted opening steps s old new t k h unended (subst (λ table. IsReported (deps.after_abort t) table new t) e told) (subst (λ table. KeepsGraphAtAbort table new t) e keeps)
+      aborted opening steps s old new t k h unended (subst (λ table. IsReported (deps.after_dependency_abort t) table new t) e told) (subst (λ table. KeepsGraphAtAbort table new t) e keeps)
 
   -- ---- finishing
   pub table_worded : (s : State) (old : Txns (Node P)) (f : EndedTx → List Word) → HasDependencies s old → HasDependencies (with_words f s) old

@@ -18,12 +18,12 @@ use Rattle.mvo_theory.proofs.Traced.{ends_differ}
 use Rattle.mvo_theory.proofs.Who.{active_holds}
 use Rattle.mvo_txn.specs.declared.state.TxState.{TxState}
 use Rattle.mvo_txn.specs.declared.state.TxState.TheVariants.{Active, Preparing, Committed, Aborted}
-use Rattle.mvo_txn.specs.Txns.{Txns, state_of, IsPreparing}
+use Rattle.mvo_txn.specs.Txns.{Txns, state_of, IsPreparingState}
 use Rattle.mvo_txn.specs.Queue.{open_end}
 use Rattle.mvo_deps.specs.declared.node.Node.{Node}
-use Rattle.mvo_deps.specs.Data.{is_among}
+use Rattle.mvo_deps.specs.Data.{is_id_among}
 use Rattle.mvo_deps.specs.Nodes.{data_of}
-use Rattle.mvo_deps.specs.Waiting.{IsOpen, HasNoneOpen, IsLeastOpen}
+use Rattle.mvo_deps.specs.Waiting.{IsOpenEnd, HasNoneOpen, IsLeastOpen}
 use Rattle.mvo_deps.proofs.Counter.{waits_by_counter}
 use Rattle.mvo_deps.proofs.Registered.{there_if_preparing}
 use Rattle.mvo_representation.specs.Nodes.{nodes_of, IsNode, AreDependents}
@@ -59,24 +59,24 @@ module _ {P : Type 0} where
       ap (λ (u : ℕ). (nodes_of table u).flag) (sym w.1) ∙ w.0.flag ∙ sym (ap flag_of_active found.1)
 
   -- the Preparing one
-  pub preparing_found_in : (s : State) (table : Txns (Node P)) (t : ℕ) → HasDependencies s table → IsPreparing (state_of table t) → (x : StampedTx) × (preparing_of t s.stamped ≡ Some x)
+  pub preparing_found_in : (s : State) (table : Txns (Node P)) (t : ℕ) → HasDependencies s table → IsPreparingState (state_of table t) → (x : StampedTx) × (preparing_of t s.stamped ≡ Some x)
   preparing_found_in s table t h prep =
       let e = preparing_state (state_of table t) prep in
       let x = preparing_is s t e.0.0 (sym (h.stands.phases t) ∙ ap phase_as e.1) in
       (x.0, x.1)
 
-  pub flag_of_preparing_is : (s : State) (table : Txns (Node P)) (t : ℕ) → HasDependencies s table → IsPreparing (state_of table t) → (nodes_of table t).flag ≡ flag_of_preparing (preparing_of t s.stamped)
+  pub flag_of_preparing_is : (s : State) (table : Txns (Node P)) (t : ℕ) → HasDependencies s table → IsPreparingState (state_of table t) → (nodes_of table t).flag ≡ flag_of_preparing (preparing_of t s.stamped)
   flag_of_preparing_is s table t h prep =
       let found = preparing_found_in s table t h prep in
       let w = found_holds (λ x. x.settled ≡ false → IsNode s.stamped x.depends_on x.aborted_dependency (nodes_of table x.id)) t s.stamped found.0 found.1 h.nodes.preparing in
       ap (λ (u : ℕ). (nodes_of table u).flag) (sym w.1) ∙ (w.0 w.2).flag ∙ sym (ap flag_of_preparing found.1)
 
   -- ---- whom a Preparing one waits for
-  module _ (opening : Map) (steps : List Step) (s : State) (table : Txns (Node P)) (t : TxId) (k : IsKept opening steps s) (h : HasDependencies s table) (prep : IsPreparing (state_of table t.0)) (x : StampedTx) (f : preparing_of t.0 s.stamped ≡ Some x) where
+  module _ (opening : Map) (steps : List Step) (s : State) (table : Txns (Node P)) (t : TxId) (k : IsKept opening steps s) (h : HasDependencies s table) (prep : IsPreparingState (state_of table t.0)) (x : StampedTx) (f : preparing_of t.0 s.stamped ≡ Some x) where
     -- each Preparing one stands so in the table, and is among those that it depends on just where it is so in the state
     record IsOn (y : StampedTx) : Type 0 where
       pub open_end_is : open_end (state_of table y.id) ≡ Some y.end
-      pub on_is : is_among (tx_id y.id) (data_of table t).on ≡ has_end x.depends_on y.end
+      pub on_is : is_id_among (tx_id y.id) (data_of table t).on ≡ has_end x.depends_on y.end
 
     it : ((y : StampedTx) → y.settled ≡ false → preparing_of y.id s.stamped ≡ Some y → AreDependents s (nodes_of table y.id).dependents y.end → IsOn y)
     it y o g d =
@@ -102,7 +102,7 @@ module _ {P : Type 0} where
       pub waits : it.settled ≡ false
       pub on : has_end x.depends_on it.end ≡ true
 
-    open_there : (id : TxId) (e : ℕ) → IsOpen table (data_of table t).on id e → IsOpenThere id e
+    open_there : (id : TxId) (e : ℕ) → IsOpenEnd table (data_of table t).on id e → IsOpenThere id e
     open_there id e o =
         let g = preparing_is s id.0 e (sym (h.stands.phases id.0) ∙ phase_open (state_of table id.0) e o.open_end_is) in
         let w = found_holds (λ y. y.settled ≡ false → IsOn y) id.0 s.stamped g.0 g.1 all_on in
@@ -112,7 +112,7 @@ module _ {P : Type 0} where
           ends = g.2;
           is = w.1;
           waits = w.2;
-          on = sym (w.0 w.2).on_is ∙ ap (λ (u : ℕ). is_among (tx_id u) (data_of table t).on) w.1 ∙ o.among;
+          on = sym (w.0 w.2).on_is ∙ ap (λ (u : ℕ). is_id_among (tx_id u) (data_of table t).on) w.1 ∙ o.among;
         }
 
     least_in : (o : Option StampedTx) → waiting_for x.depends_on s.stamped ≡ o → MatchOption (option_map (λ y. tx_id y.id) o) (HasNoneOpen table (data_of table t).on) (IsLeastOpen table (data_of table t).on)
@@ -135,7 +135,7 @@ module _ {P : Type 0} where
         }
 
     -- who has the least end is the one
-    same_ids : (a b : TxId) (e : ℕ) → IsOpen table (data_of table t).on a e → IsOpen table (data_of table t).on b e → a.0 ≡ b.0
+    same_ids : (a b : TxId) (e : ℕ) → IsOpenEnd table (data_of table t).on a e → IsOpenEnd table (data_of table t).on b e → a.0 ≡ b.0
     same_ids a b e o p =
         let g = open_there a e o in
         let m = open_there b e p in
@@ -151,7 +151,7 @@ module _ {P : Type 0} where
         let l = n.least b m.end m.is_open in
         let r = m.least a n.end n.is_open in
         let e : n.end ≡ m.end = omega (arith, l, r) in
-        ap Some (same_ids a b m.end (subst (λ (u : ℕ). IsOpen table (data_of table t).on a u) e n.is_open) m.is_open)
+        ap Some (same_ids a b m.end (subst (λ (u : ℕ). IsOpenEnd table (data_of table t).on a u) e n.is_open) m.is_open)
 
     id_within : (o : Option StampedTx) → option_map (λ id. id.0) (option_map (λ y. tx_id y.id) o) ≡ option_map (λ y. y.id) o
     id_within None = refl
@@ -176,12 +176,12 @@ module _ {P : Type 0} where
         ∙ some_within (waiting_for x.depends_on s.stamped)
         ∙ waits_by_counter table t (option_map (λ y. tx_id y.id) (waiting_for x.depends_on s.stamped)) h.aborted (least_in (waiting_for x.depends_on s.stamped) refl) h.graph
 
-  pub awaited_is : (opening : Map) (steps : List Step) (s : State) (table : Txns (Node P)) (t : TxId) (whom : Option TxId) → IsKept opening steps s → HasDependencies s table → IsPreparing (state_of table t.0) → MatchOption whom (HasNoneOpen table (data_of table t).on) (IsLeastOpen table (data_of table t).on) → option_map (λ id. id.0) whom ≡ option_map (λ y. y.id) (awaited s t.0)
+  pub awaited_is : (opening : Map) (steps : List Step) (s : State) (table : Txns (Node P)) (t : TxId) (whom : Option TxId) → IsKept opening steps s → HasDependencies s table → IsPreparingState (state_of table t.0) → MatchOption whom (HasNoneOpen table (data_of table t).on) (IsLeastOpen table (data_of table t).on) → option_map (λ id. id.0) whom ≡ option_map (λ y. y.id) (awaited s t.0)
   awaited_is opening steps s table t whom k h prep m =
       let found = preparing_found_in s table t.0 h prep in
       awaited_found opening steps s table t k h prep found.0 found.1 whom m
 
-  pub counted_is : (opening : Map) (steps : List Step) (s : State) (table : Txns (Node P)) (t : TxId) → IsKept opening steps s → HasDependencies s table → IsPreparing (state_of table t.0) → is_some (awaited s t.0) ≡ nat_lt 0 (data_of table t).unsettled
+  pub counted_is : (opening : Map) (steps : List Step) (s : State) (table : Txns (Node P)) (t : TxId) → IsKept opening steps s → HasDependencies s table → IsPreparingState (state_of table t.0) → is_some (awaited s t.0) ≡ nat_lt 0 (data_of table t).unsettled
   counted_is opening steps s table t k h prep =
       let found = preparing_found_in s table t.0 h prep in
       counted_found opening steps s table t k h prep found.0 found.1

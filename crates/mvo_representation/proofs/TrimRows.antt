@@ -26,7 +26,7 @@ use Rattle.mvo_word.specs.declared.held.Held.{Held}
 use Rattle.mvo_chain.specs.declared.version.Version.{Version}
 use Rattle.mvo_representation.specs.Words.{Phases, Ends, ends_of, stamp_in, is_stamp, has_stamp, NetEffect, with_effect, net_effect, as_net_effect, last_change, or_change_at, change_below, standing, is_up_to, is_standing, standing_effect}
 use Rattle.mvo_representation.specs.Words.NetEffect.{Untouched, Removed, Puts, Clash}
-use Rattle.mvo_representation.specs.Versions.{IsClaimed, HasItsClaims, AreVersionsOf, HoldsRows, origin_at_start}
+use Rattle.mvo_representation.specs.Versions.{EndIsClaimed, HasItsClaims, AreVersionsOf, HoldsRows, origin_at_start}
 use Rattle.mvo_representation.proofs.Collect.{each_drop, leaves_row, leaves_put, PutAt, put_at_stamp}
 use Rattle.mvo_representation.proofs.Kept.{standing_effect-at}
 use Rattle.mvo_representation.proofs.TrimChanges.{opened_at_trim}
@@ -208,7 +208,7 @@ module _ (opening : Map) (steps : List Step) (s : State) (table : Phases) (vs : 
       unclaimed : (z : StampedTx) → IsIn z s.stamped → z.end < suc m → has_claim z.claims k a ≡ true → ⊥
       unclaimed z mz l claim =
           let its : HasItsClaims s (ends_of table) y = (each_back (HasItsClaims s (ends_of table)) xs (y ∷ ys) here.claims).0 in
-          let same = mz (λ u. IsClaimed y.row.key a (has_stamp (ends_of table) u.end) u.claims y.end) (its a put (stays_on y on a (begun_by y on a put))).stamped in
+          let same = mz (λ u. EndIsClaimed y.row.key a (has_stamp (ends_of table) u.end) u.claims y.end) (its a put (stays_on y on a (begun_by y on a put))).stamped in
           let at = is_the_stamp z.end (stamp_in (ends_of table) y.end) (same ∙ ap (λ (j : RowKey). has_claim z.claims j a) key ∙ claim) in
           let late = ends_later y on z.end at in omega (arith, late, l)
 

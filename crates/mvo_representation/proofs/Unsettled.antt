@@ -12,12 +12,12 @@ use Rattle.mvo_theory.proofs.Finds.{count_some}
 use Rattle.mvo_theory.proofs.Single.{preparing_found}
 use Rattle.mvo_theory.proofs.Traced.{ends_differ}
 use Rattle.mvo_representation.proofs.Facts.{found_holds}
-use Rattle.mvo_representation.proofs.Waited.{one}
+use Rattle.mvo_deps.proofs.Lists.{one}
 
 some_none : (x : StampedTx) → ◌≡◌ {A = Option StampedTx} (Some x) None → ⊥
 some_none x q = cc
 
-none_some : (x : StampedTx) → ◌≡◌ {A = Option StampedTx} None (Some x) → ⊥
+pub none_some : (x : StampedTx) → ◌≡◌ {A = Option StampedTx} None (Some x) → ⊥
 none_some x q = cc
 
 pub some_same : (x y : StampedTx) → ◌≡◌ {A = Option StampedTx} (Some x) (Some y) → x ≡ y

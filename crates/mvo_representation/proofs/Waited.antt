@@ -12,11 +12,9 @@ use Rattle.mvo_theory.specs.Sound.{IsRising}
 use Rattle.mvo_theory.proofs.Each.{each_weaker}
 use Rattle.mvo_representation.specs.Nodes.{with_listed, is_open_in, open_count}
 use Rattle.mvo_representation.proofs.Open.{is_open}
+use Rattle.mvo_deps.proofs.Lists.{one}
 
 -- ---- counts
-abbrev pub one : Bool → ℕ
-one b = cond b 1 0
-
 and_false : (b : Bool) → (b && false) ≡ false
 and_false true = refl
 and_false false = refl

@@ -6,7 +6,7 @@ use Rattle.std.specs.Option.{option_map}
 use Rattle.std.specs.Ordering.{eq_by_cmp}
 use Rattle.std.specs.Cmp.{eq_by_cmp_equiv}
 use Rattle.std.specs.FinMap as fin
-use Rattle.std.proofs.lemmas.Bool.{false≢true, true≢false, and_parts, eqb-true}
+use Rattle.std.proofs.lemmas.Bool.{true≢false, and_parts, eqb-true}
 use Rattle.std.proofs.lemmas.Map.Views.{tells_apart}
 use Rattle.mvo_types.proofs.Maps.{exact_keys}
 use Rattle.mvo_types.specs.declared.row.RowKey.{RowKey}
@@ -22,19 +22,20 @@ use Rattle.mvo_theory.specs.Sound.{IsNumbered}
 use Rattle.mvo_theory.specs.Calls.{IsKept}
 use Rattle.mvo_word.specs.declared.held.Held.{Held}
 use Rattle.mvo_chain.specs.declared.version.Version.{Version}
-use Rattle.mvo_range.specs.declared.place.Place.{Place}
-use Rattle.mvo_range.specs.Place.{Map as Places}
+use Rattle.mvo_range.specs.declared.sort_place.SortPlace.{SortPlace}
+use Rattle.mvo_range.specs.Place.{PlaceNumbers as Places}
 use Rattle.mvo_range.proofs.Places.{places_total}
 use Rattle.mvo_representation.specs.Steps.{IsOwnNewest}
-use Rattle.mvo_representation.specs.Words.{Phases, Ends, ends_of, stamp_in, is_stamp, has_stamp, NetEffect, with_effect, effect_by, effect_of, net_effect, as_net_effect, change_below, standing, IsShownAt, is_below, is_up_to, meets, is_met, content_put}
+use Rattle.mvo_representation.specs.Words.{Phases, Ends, ends_of, stamp_in, has_stamp, NetEffect, with_effect, effect_by, effect_of, net_effect, as_net_effect, change_below, standing, IsShownAt, is_below, is_up_to, meets, is_met, content_put}
 use Rattle.mvo_visible.specs.Words.{names}
 use Rattle.mvo_representation.specs.Words.NetEffect.{Untouched, Removed, Puts, Clash}
 use Rattle.mvo_representation.specs.Versions.{AreVersionsOf}
-use Rattle.mvo_representation.specs.Indexes.{place_of, is_at_place, HasPlaces}
+use Rattle.mvo_representation.specs.Indexes.{version_place, is_at_place, HasPlaces}
 use Rattle.mvo_representation.proofs.Shown.{active_begins, behind_is, stands_below}
 use Rattle.mvo_representation.proofs.Version.{last_change_is_one, no_change}
-use Rattle.mvo_representation.proofs.Scanned.{OneOf, one_of, any_at}
+use Rattle.mvo_representation.proofs.Scanned.{OneOf, one_of, any_at, none_held, some_held}
 use Rattle.mvo_representation.proofs.Writing.{writer}
+use Rattle.mvo_representation.proofs.Collect.{stamp_is}
 use Rattle.mvo_types.specs.Write.Effect.{Put}
 
 -- ---- a put that stands is of a version
@@ -47,12 +48,6 @@ pub record PutBy (n : Held → Bool) (k : RowKey) (h : ContentData) (vs : List V
   pub put : n version.begin ≡ true
   pub stays : n version.end ≡ false
   pub row : content_of version.row ≡ h
-
-none_held : (h : ContentData) → ◌≡◌ {A = Option ContentData} None (Some h) → ⊥
-none_held h e = cc
-
-some_held : (g h : ContentData) → ◌≡◌ {A = Option ContentData} (Some g) (Some h) → g ≡ h
-some_held g h q = cc
 
 puts_or : (d e : NetEffect) (h : ContentData) → content_put (with_effect d e) ≡ Some h → (content_put d ≡ Some h) ⊎ (content_put e ≡ Some h)
 puts_or Untouched e h q = inr q
@@ -96,10 +91,6 @@ pub record ShownThere (ends : Ends) (t : ℕ) (k : RowKey) (h : ContentData) (vs
   pub is : vs ≡ before ++ version ∷ after
   pub row : content_of version.row ≡ h
   pub shown : IsShownAt ends t k vs version o
-
-stamp_is : (o : Option ℕ) (m : ℕ) → is_stamp m o ≡ true → o ≡ Some m
-stamp_is None m g = absurd (false≢true g)
-stamp_is (Some n) m g = ap (λ x. Some x) (eqb-true n m g)
 
 pub shown_found : (opening : Map) (steps : List Step) (s : State) (table : Phases) (vs : List Version) (t : ℕ) (mine : ActiveTx) (k : RowKey) (h : ContentData) → IsKept opening steps s → AreVersionsOf s table vs → active_of t s.active ≡ Some mine → fin.get (seen_by s.base s.stamped t) k ≡ Some h → ShownThere (ends_of table) t k h vs (origin s t k)
 shown_found opening steps s table vs t mine k h kept r f e = go (change_below (ends_of table) t k vs) refl
@@ -148,7 +139,7 @@ shown_found opening steps s table vs t mine k h kept r f e = go (change_below (e
 
 -- ---- a scan meets each such version at its place in the ordered index
 pub record IsPlacedIn (places : Places) (tab lo hi : ℕ) (q : RowKey) : Type 0 where
-  pub place : Place
+  pub place : SortPlace
   pub there : is_some (fin.get places place) ≡ true
   pub table : place.table ≡ tab
   pub from : nat_le lo place.sort ≡ true
@@ -165,8 +156,8 @@ met_placed ends start b tab lo hi q vs places h e = go (one_of (meets ends start
         let x = and_parts (w.version.row.key.table == tab) (nat_le lo w.version.row.sort && nat_le w.version.row.sort hi) z.1 in
         let u = and_parts (nat_le lo w.version.row.sort) (nat_le w.version.row.sort hi) x.1 in
         record {
-          place = place_of w.version;
-          there = h.at (place_of w.version) ∙ ap (list_any (is_at_place (place_of w.version))) w.is ∙ any_at (is_at_place (place_of w.version)) w.before w.version w.after ((eq_by_cmp_equiv places_total).refl (place_of w.version));
+          place = version_place w.version;
+          there = h.at (version_place w.version) ∙ ap (list_any (is_at_place (version_place w.version))) w.is ∙ any_at (is_at_place (version_place w.version)) w.before w.version w.after ((eq_by_cmp_equiv places_total).refl (version_place w.version));
           table = eqb-true w.version.row.key.table tab x.0;
           from = u.0;
           to = u.1;

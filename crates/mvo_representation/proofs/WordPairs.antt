@@ -12,7 +12,7 @@ use Rattle.mvo_visible.specs.Words.{names}
 use Rattle.mvo_work.specs.declared.word_place.WordPlace.{WordPlace}
 use Rattle.mvo_work.specs.declared.word_place.WordPlace.TheVariants.{Begin, End}
 use Rattle.mvo_representation.specs.Words.{Ends, ends_of, stamp_in}
-use Rattle.mvo_representation.specs.WordLists.{names_at, named, IsGone, IsWordOf, IsWordAt, StandAt}
+use Rattle.mvo_representation.specs.WordLists.{names_at, places_naming, IsGone, IsWordOf, IsWordAt, StandAt}
 use Rattle.mvo_representation.proofs.WordPlaces.{names_here, filter_all}
 
 abbrev pub ends_in : State → Ends
@@ -37,7 +37,7 @@ stand_named s slots t (w ∷ ws) (p ∷ ps) h = (names_here slots t p h.0.versio
 stand_named s slots t [] (p ∷ ps) h = absurd h
 stand_named s slots t (w ∷ ws) [] h = absurd h
 
-pub stand_all : (s : State) (slots : Slots) (t : ℕ) (ws : List Word) (ps : List WordPlace) → StandAt s slots t ws ps → StandAt s slots t ws (named slots t ps)
+pub stand_all : (s : State) (slots : Slots) (t : ℕ) (ws : List Word) (ps : List WordPlace) → StandAt s slots t ws ps → StandAt s slots t ws (places_naming slots t ps)
 stand_all s slots t ws ps h = subst (StandAt s slots t ws) (sym (filter_all (names_at slots t) ps (stand_named s slots t ws ps h))) h
 
 pub stand_length : (s : State) (slots : Slots) (t : ℕ) (ws : List Word) (ps : List WordPlace) → StandAt s slots t ws ps → length ws ≡ length ps

@@ -11,7 +11,7 @@ use Rattle.mvo_chain.specs.Slots.{Slots, version_at}
 use Rattle.mvo_visible.specs.Words.{names}
 use Rattle.mvo_work.specs.declared.word_place.WordPlace.{WordPlace}
 use Rattle.mvo_work.specs.declared.word_place.WordPlace.TheVariants.{Begin, End}
-use Rattle.mvo_representation.specs.WordLists.{WordLists, number_at, is_place, word_at, is_named, names_at, HaveListNow}
+use Rattle.mvo_representation.specs.WordLists.{WordLists, number_at_word, is_place, word_at, is_named_at, names_at, HaveListNow}
 
 -- ---- one place or two
 pub place_same : (p : WordPlace) → is_place p p ≡ true
@@ -37,24 +37,24 @@ place_apart p q e i = true≢false (sym (subst (λ (o : WordPlace). is_place p o
 -- ---- which name a transaction
 pub record IsNamedAt (slots : Slots) (t : ℕ) (p : WordPlace) : Type 0 where
   pub version : Version
-  pub at : version_at slots (number_at p) ≡ Some version
+  pub at : version_at slots (number_at_word p) ≡ Some version
   pub named : names t (word_at p version) ≡ true
 
 pub names_there : (slots : Slots) (t : ℕ) (p : WordPlace) → names_at slots t p ≡ true → IsNamedAt slots t p
-names_there slots t p e = go (version_at slots (number_at p)) refl e
+names_there slots t p e = go (version_at slots (number_at_word p)) refl e
   where
-    go : (o : Option Version) → version_at slots (number_at p) ≡ o → is_named t p o ≡ true → IsNamedAt slots t p
+    go : (o : Option Version) → version_at slots (number_at_word p) ≡ o → is_named_at t p o ≡ true → IsNamedAt slots t p
     go None q f = absurd (false≢true f)
     go (Some v) q f = record { version = v; at = q; named = f }
 
-pub names_here : (slots : Slots) (t : ℕ) (p : WordPlace) (v : Version) → version_at slots (number_at p) ≡ Some v → names_at slots t p ≡ names t (word_at p v)
-names_here slots t p v e = ap (is_named t p) e
+pub names_here : (slots : Slots) (t : ℕ) (p : WordPlace) (v : Version) → version_at slots (number_at_word p) ≡ Some v → names_at slots t p ≡ names t (word_at p v)
+names_here slots t p v e = ap (is_named_at t p) e
 
-pub names_none : (slots : Slots) (t : ℕ) (p : WordPlace) → version_at slots (number_at p) ≡ None → names_at slots t p ≡ false
-names_none slots t p e = ap (is_named t p) e
+pub names_none : (slots : Slots) (t : ℕ) (p : WordPlace) → version_at slots (number_at_word p) ≡ None → names_at slots t p ≡ false
+names_none slots t p e = ap (is_named_at t p) e
 
-pub names_like : (slots slots' : Slots) (t : ℕ) (p : WordPlace) → version_at slots' (number_at p) ≡ version_at slots (number_at p) → names_at slots' t p ≡ names_at slots t p
-names_like slots slots' t p e = ap (is_named t p) e
+pub names_like : (slots slots' : Slots) (t : ℕ) (p : WordPlace) → version_at slots' (number_at_word p) ≡ version_at slots (number_at_word p) → names_at slots' t p ≡ names_at slots t p
+names_like slots slots' t p e = ap (is_named_at t p) e
 
 -- a word names one at most
 pub one_name : (t u : ℕ) (w : Held) → names t w ≡ true → names u w ≡ true → t ≡ u
@@ -73,10 +73,6 @@ pub own_name : (t : ℕ) → names t (By (record { 0 = t })) ≡ true
 own_name t = eq-eqb t t refl
 
 -- ---- the places of a list that pass
-pub filter_same : {X : Type 0} (f g : X → Bool) (xs : List X) → AllByRecursion (λ x. f x ≡ g x) xs → filter f xs ≡ filter g xs
-filter_same f g [] h = refl
-filter_same f g (x ∷ xs) h = ap (λ (b : Bool). cond b (x ∷ filter f xs) (filter f xs)) h.0 ∙ ap (λ ys. cond (g x) (x ∷ ys) ys) (filter_same f g xs h.1)
-
 pub filter_always : {X : Type 0} (f g : X → Bool) (xs : List X) → ((x : X) → f x ≡ g x) → filter f xs ≡ filter g xs
 filter_always f g [] h = refl
 filter_always f g (x ∷ xs) h = ap (λ (b : Bool). cond b (x ∷ filter f xs) (filter f xs)) (h x) ∙ ap (λ ys. cond (g x) (x ∷ ys) ys) (filter_always f g xs h)

@@ -27,14 +27,15 @@ use Rattle.mvo_representation.specs.Words.{Ends, stamp_in}
 use Rattle.mvo_representation.specs.Steps.{fresh, ended_by}
 use Rattle.mvo_representation.specs.Order.{own_words}
 use Rattle.mvo_representation.specs.OrderLaws.{HaveNow}
-use Rattle.mvo_representation.specs.WordLists.{WordLists, HaveListNow, number_at, word_at, is_place, names_at, named, IsGone, IsOfClaim, IsWordOf, IsWordAt, StandAt, HasOwnWords}
+use Rattle.mvo_representation.specs.WordLists.{WordLists, HaveListNow, number_at_word, word_at, is_place, names_at, places_naming, IsGone, IsOfClaim, IsWordOf, IsWordAt, StandAt, HasOwnWords}
 use Rattle.mvo_representation.proofs.Ending.{named_end}
-use Rattle.mvo_representation.proofs.OrderLists.{some_version, no_version}
+use Rattle.mvo_representation.proofs.OrderLists.{no_version}
 use Rattle.mvo_representation.proofs.OrderWritten.{others_keep_written}
 use Rattle.mvo_representation.proofs.WordPlaces.{AreOnce, IsNewOrOld, own_name, names_here, names_none, names_like, place_apart, place_cases, filter_always, filter_narrow, each_passes, not_counted, once_pushed}
 use Rattle.mvo_representation.proofs.WordPairs.{ends_in, IsLike, word_like, version_like_self, stand_weaker, stand_kept, stand_push, stand_named, stand_less}
 use Rattle.mvo_representation.proofs.WordsKept.{IsActiveListed, IsPreparingListed, IsEndedListed}
 use Rattle.mvo_representation.proofs.WordsSaid.{none_pass, not_the_one, not_preparing_one}
+use Rattle.mvo_representation.proofs.Slots.{some_version}
 
 -- ---- all around t, the words of which are these
 pub record IsListedAround (s s' : State) (slots : Slots) (lists : WordLists) (t : ℕ) (ws : List Word) (us : List EndedTx) : Type 0 where
@@ -57,16 +58,16 @@ active_not_ended s t r h f = each_weaker (λ u. is_ended_as t u ≡ false) (λ u
 
 -- ---- t puts a version
 module _ (s s' : State) (slots slots' : Slots) (lists lists' : WordLists) (t : ℕ) (row : RowData) (n : ℕ) (hole : version_at slots (number n) ≡ None) (now : HaveNow slots slots' n (fresh t row)) (unstamped : ends_in s' t ≡ None) (list : HaveListNow lists lists' t (lists t ++ Begin (number n) ∷ [])) where
-  put_here : (q : WordPlace) → (number_at q).0 ≡ n → version_at slots' (number_at q) ≡ Some (fresh t row)
+  put_here : (q : WordPlace) → (number_at_word q).0 ≡ n → version_at slots' (number_at_word q) ≡ Some (fresh t row)
   put_here q i = ap (λ (j : ℕ). version_at slots' (number j)) i ∙ now.here
 
-  was_hole : (q : WordPlace) → (number_at q).0 ≡ n → version_at slots (number_at q) ≡ None
+  was_hole : (q : WordPlace) → (number_at_word q).0 ≡ n → version_at slots (number_at_word q) ≡ None
   was_hole q i = ap (λ (j : ℕ). version_at slots (number j)) i ∙ hole
 
   put_names : (u : ℕ) → u ≢ t → (q : WordPlace) → names_at slots' u q ≡ names_at slots u q
-  put_names u d q = elim (cases_eq (number_at q).0 n) [
+  put_names u d q = elim (cases_eq (number_at_word q).0 n) [
     | inl i ↦ names_here slots' u q (fresh t row) (put_here q i) ∙ silent q ∙ sym (names_none slots u q (was_hole q i))
-    | inr m ↦ names_like slots slots' u q (now.others (number_at q) m)
+    | inr m ↦ names_like slots slots' u q (now.others (number_at_word q) m)
   ]
     where
       silent : (q : WordPlace) → names u (word_at q (fresh t row)) ≡ false
@@ -76,16 +77,16 @@ module _ (s s' : State) (slots slots' : Slots) (lists lists' : WordLists) (t : �
   put_once : AreOnce slots lists → how_many (is_place (Begin (number n))) (lists t) ≡ 0 → AreOnce slots' lists'
   put_once once zero = once_pushed slots slots' lists lists' t (Begin (number n)) list zero old once
     where
-      fresh_named : (u : ℕ) (q : WordPlace) → (number_at q).0 ≡ n → names u (word_at q (fresh t row)) ≡ true → (q ≡ Begin (number n)) × (u ≡ t)
+      fresh_named : (u : ℕ) (q : WordPlace) → (number_at_word q).0 ≡ n → names u (word_at q (fresh t row)) ≡ true → (q ≡ Begin (number n)) × (u ≡ t)
       fresh_named u (Begin m) i e = (ap (λ (j : ℕ). Begin (record { 0 = j })) i, sym (eqb-true t u e))
       fresh_named u (End m) i e = absurd (false≢true e)
 
       old : (u : ℕ) (q : WordPlace) → names_at slots' u q ≡ true → IsNewOrOld slots t (Begin (number n)) u q
-      old u q e = elim (cases_eq (number_at q).0 n) [
+      old u q e = elim (cases_eq (number_at_word q).0 n) [
         | inl i ↦ inr (fresh_named u q i (sym (names_here slots' u q (fresh t row) (put_here q i)) ∙ e))
         | inr m ↦ inl (elim (place_cases q (Begin (number n))) [
-          | inl is ↦ absurd (m (ap (λ (x : WordPlace). (number_at x).0) is))
-          | inr o ↦ (o, sym (names_like slots slots' u q (now.others (number_at q) m)) ∙ e)
+          | inl is ↦ absurd (m (ap (λ (x : WordPlace). (number_at_word x).0) is))
+          | inr o ↦ (o, sym (names_like slots slots' u q (now.others (number_at_word q) m)) ∙ e)
         ])
       ]
 
@@ -105,7 +106,7 @@ module _ (s s' : State) (slots slots' : Slots) (lists lists' : WordLists) (t : �
   put_at : (u : ℕ) (w : Word) (q : WordPlace) → IsWordAt s' slots u w q → IsWordAt s' slots' u w q
   put_at u w q o = record {
     version = o.version;
-    at = now.others (number_at q) (λ i. no_version o.version (sym (was_hole q i) ∙ o.at)) ∙ o.at;
+    at = now.others (number_at_word q) (λ i. no_version o.version (sym (was_hole q i) ∙ o.at)) ∙ o.at;
     named = o.named;
     is = word_like s' s' slots slots' u w q o.version o.version (put_like u) (version_like_self s' s' u o.version refl) o.is;
   }
@@ -117,12 +118,12 @@ module _ (s s' : State) (slots slots' : Slots) (lists lists' : WordLists) (t : �
   ]
 
   put_own : (u : ℕ) → u ≢ t → (ws : List Word) → HasOwnWords s' slots u ws (lists u) → HasOwnWords s' slots' u ws (lists' u)
-  put_own u d ws o = subst (HasOwnWords s' slots' u ws) (sym (list.others u d)) (record { stand = stand_weaker s' s' slots slots' u (put_at u) ws (lists u) o.stand; written = others_keep_written u slots slots' (map (λ q. (number_at q).0) (lists u)) (put_written u d) o.written })
+  put_own u d ws o = subst (HasOwnWords s' slots' u ws) (sym (list.others u d)) (record { stand = stand_weaker s' s' slots slots' u (put_at u) ws (lists u) o.stand; written = others_keep_written u slots slots' (map (λ q. (number_at_word q).0) (lists u)) (put_written u d) o.written })
 
   put_ended : (u : EndedTx) → u.id ≢ t → IsEndedListed s' slots lists u → IsEndedListed s' slots' lists' u
   put_ended u d o =
-      subst (λ qs. StandAt s' slots' u.id u.words (named slots' u.id qs)) (sym (list.others u.id d))
-      (subst (StandAt s' slots' u.id u.words) (filter_always (names_at slots u.id) (names_at slots' u.id) (lists u.id) (λ q. sym (put_names u.id d q))) (stand_weaker s' s' slots slots' u.id (put_at u.id) u.words (named slots u.id (lists u.id)) o))
+      subst (λ qs. StandAt s' slots' u.id u.words (places_naming slots' u.id qs)) (sym (list.others u.id d))
+      (subst (StandAt s' slots' u.id u.words) (filter_always (names_at slots u.id) (names_at slots' u.id) (lists u.id) (λ q. sym (put_names u.id d q))) (stand_weaker s' s' slots slots' u.id (put_at u.id) u.words (places_naming slots u.id (lists u.id)) o))
 
   pub put_around : (ws : List Word) (us : List EndedTx) → IsListedAround s s' slots lists t ws us → IsListedAround s s' slots' lists' t (ws ++ Own ∷ []) us
   put_around ws us h = record {
@@ -137,20 +138,20 @@ module _ (s s' : State) (slots slots' : Slots) (lists lists' : WordLists) (t : �
 
 -- ---- t ends a version
 module _ (s s' : State) (slots slots' : Slots) (lists lists' : WordLists) (t : ℕ) (v : Version) (n : ℕ) (le : s.clock ≤ s'.clock) (path : ends_in s' ≡ ends_in s) (at : version_at slots (number n) ≡ Some v) (now : HaveNow slots slots' n (ended_by t v)) (list : HaveListNow lists lists' t (lists t ++ End (number n) ∷ [])) (kept : names t v.end ≡ false) where
-  end_here : (q : WordPlace) → (number_at q).0 ≡ n → version_at slots' (number_at q) ≡ Some (ended_by t v)
+  end_here : (q : WordPlace) → (number_at_word q).0 ≡ n → version_at slots' (number_at_word q) ≡ Some (ended_by t v)
   end_here q i = ap (λ (j : ℕ). version_at slots' (number j)) i ∙ now.here
 
-  end_was : (q : WordPlace) → (number_at q).0 ≡ n → version_at slots (number_at q) ≡ Some v
+  end_was : (q : WordPlace) → (number_at_word q).0 ≡ n → version_at slots (number_at_word q) ≡ Some v
   end_was q i = ap (λ (j : ℕ). version_at slots (number j)) i ∙ at
 
   -- but for its End, the version names whom it named
   pub end_beside : (u : ℕ) (q : WordPlace) → (q ≡ End (number n) → ⊥) → names_at slots' u q ≡ names_at slots u q
-  end_beside u q d = elim (cases_eq (number_at q).0 n) [
+  end_beside u q d = elim (cases_eq (number_at_word q).0 n) [
     | inl i ↦ names_here slots' u q (ended_by t v) (end_here q i) ∙ go q d i ∙ sym (names_here slots u q v (end_was q i))
-    | inr m ↦ names_like slots slots' u q (now.others (number_at q) m)
+    | inr m ↦ names_like slots slots' u q (now.others (number_at_word q) m)
   ]
     where
-      go : (q : WordPlace) → (q ≡ End (number n) → ⊥) → (number_at q).0 ≡ n → names u (word_at q (ended_by t v)) ≡ names u (word_at q v)
+      go : (q : WordPlace) → (q ≡ End (number n) → ⊥) → (number_at_word q).0 ≡ n → names u (word_at q (ended_by t v)) ≡ names u (word_at q v)
       go (Begin m) d i = refl
       go (End m) d i = absurd (d (ap (λ (j : ℕ). End (record { 0 = j })) i))
 
@@ -186,7 +187,7 @@ module _ (s s' : State) (slots slots' : Slots) (lists lists' : WordLists) (t : �
   }
 
   pub end_at : (u : ℕ) (w : Word) (q : WordPlace) → names_at slots' u q ≡ true → IsWordAt s slots u w q → IsWordAt s' slots' u w q
-  end_at u w q e o = elim (cases_eq (number_at q).0 n) [
+  end_at u w q e o = elim (cases_eq (number_at_word q).0 n) [
     | inl i ↦ record {
       version = ended_by t v;
       at = end_here q i;
@@ -195,7 +196,7 @@ module _ (s s' : State) (slots slots' : Slots) (lists lists' : WordLists) (t : �
     }
     | inr d ↦ record {
       version = o.version;
-      at = now.others (number_at q) d ∙ o.at;
+      at = now.others (number_at_word q) d ∙ o.at;
       named = o.named;
       is = word_like s s' slots slots' u w q o.version o.version (end_like u) (version_like_self s s' u o.version path) o.is;
     }
@@ -211,12 +212,12 @@ module _ (s s' : State) (slots slots' : Slots) (lists lists' : WordLists) (t : �
   ]
 
   end_own : (u : ℕ) → u ≢ t → names u v.end ≡ false → (ws : List Word) → HasOwnWords s slots u ws (lists u) → HasOwnWords s' slots' u ws (lists' u)
-  end_own u d free ws o = subst (HasOwnWords s' slots' u ws) (sym (list.others u d)) (record { stand = end_stand u (λ q e. end_names u d free q ∙ e) ws (lists u) o.stand; written = others_keep_written u slots slots' (map (λ q. (number_at q).0) (lists u)) (end_written u d free) o.written })
+  end_own u d free ws o = subst (HasOwnWords s' slots' u ws) (sym (list.others u d)) (record { stand = end_stand u (λ q e. end_names u d free q ∙ e) ws (lists u) o.stand; written = others_keep_written u slots slots' (map (λ q. (number_at_word q).0) (lists u)) (end_written u d free) o.written })
 
-  pub end_ended : (u : EndedTx) → u.id ≢ t → names u.id v.end ≡ false → IsEndedListed s slots lists u → StandAt s' slots' u.id u.words (named slots' u.id (lists' u.id))
+  pub end_ended : (u : EndedTx) → u.id ≢ t → names u.id v.end ≡ false → IsEndedListed s slots lists u → StandAt s' slots' u.id u.words (places_naming slots' u.id (lists' u.id))
   end_ended u d free o =
-      subst (λ qs. StandAt s' slots' u.id u.words (named slots' u.id qs)) (sym (list.others u.id d))
-      (subst (StandAt s' slots' u.id u.words) (filter_always (names_at slots u.id) (names_at slots' u.id) (lists u.id) (λ q. sym (end_names u.id d free q))) (end_stand u.id (λ q e. end_names u.id d free q ∙ e) u.words (named slots u.id (lists u.id)) o))
+      subst (λ qs. StandAt s' slots' u.id u.words (places_naming slots' u.id qs)) (sym (list.others u.id d))
+      (subst (StandAt s' slots' u.id u.words) (filter_always (names_at slots u.id) (names_at slots' u.id) (lists u.id) (λ q. sym (end_names u.id d free q))) (end_stand u.id (λ q e. end_names u.id d free q ∙ e) u.words (places_naming slots u.id (lists u.id)) o))
 
   pub end_around : (ws : List Word) (w : Word) (us us' : List EndedTx) → AllByRecursion (λ q. names q.id v.end ≡ false) s.active → AllByRecursion (λ x. x.settled ≡ false → names x.id v.end ≡ false) s.stamped → AllByRecursion (λ u. u.id ≢ t) us' → AllByRecursion (IsEndedListed s' slots' lists') us' → IsWordAt s' slots' t w (End (number n)) → IsListedAround s s slots lists t ws us → IsListedAround s s' slots' lists' t (ws ++ w ∷ []) us'
   end_around ws w us us' free free' apart ended mine h = record {
@@ -271,19 +272,19 @@ module _ (s s' : State) (slots slots' : Slots) (lists lists' : WordLists) (t : �
     taken_pair : (u : ℕ) → u ≢ t → ends_in s u ≡ None → (w : Word) (q : WordPlace) → IsWordAt s slots u w q → names_at slots' u q ≡ not (is_end_of c w)
     taken_pair u d out w q o = go w q o.version o.at o.named o.is
       where
-        stays : (q : WordPlace) (x : Version) → version_at slots (number_at q) ≡ Some x → names u (word_at q x) ≡ true → (q ≡ End (number n) → ⊥) → names_at slots' u q ≡ true
+        stays : (q : WordPlace) (x : Version) → version_at slots (number_at_word q) ≡ Some x → names u (word_at q x) ≡ true → (q ≡ End (number n) → ⊥) → names_at slots' u q ≡ true
         stays q x there name far = end_beside u q far ∙ names_here slots u q x there ∙ name
 
         begin_far : (m : VersionNo) → Begin m ≡ End (number n) → ⊥
         begin_far m i = false≢true (ap (is_place (Begin m)) (sym i) ∙ eq-eqb m.0 m.0 refl)
 
         far_of : (m : VersionNo) → (m.0 ≡ n → ⊥) → End m ≡ End (number n) → ⊥
-        far_of m f i = f (ap (λ (x : WordPlace). (number_at x).0) i)
+        far_of m f i = f (ap (λ (x : WordPlace). (number_at_word x).0) i)
 
         gone : (m : VersionNo) → m.0 ≡ n → names_at slots' u (End m) ≡ false
         gone m i = ap (λ (j : ℕ). names_at slots' u (End (record { 0 = j }))) i ∙ end_gone u d
 
-        go : (w : Word) (q : WordPlace) (x : Version) → version_at slots (number_at q) ≡ Some x → names u (word_at q x) ≡ true → IsWordOf s slots u w q x → names_at slots' u q ≡ not (is_end_of c w)
+        go : (w : Word) (q : WordPlace) (x : Version) → version_at slots (number_at_word q) ≡ Some x → names u (word_at q x) ≡ true → IsWordOf s slots u w q x → names_at slots' u q ≡ not (is_end_of c w)
         go Own (Begin m) x there name is = stays (Begin m) x there name (begin_far m)
         go Own (End m) x there name is = elim (cases_eq m.0 n) [
           | inl i ↦ absurd (none_end c.origin (sym out ∙ is c.origin (ap (λ (y : Version). stamp_in (ends_in s) y.begin) (some_version x v (sym there ∙ ap (λ (j : ℕ). version_at slots (number j)) i ∙ at)) ∙ put)))
@@ -301,9 +302,9 @@ module _ (s s' : State) (slots slots' : Slots) (lists lists' : WordLists) (t : �
       | inr o ↦ sym (end_beside u q (place_apart q (End (number n)) o)) ∙ e
     ]
 
-    pub taken_ended : (u : EndedTx) → u.id ≢ t → ends_in s u.id ≡ None → IsEndedListed s slots lists u → StandAt s' slots' u.id (filter (λ w. not (is_end_of c w)) u.words) (named slots' u.id (lists' u.id))
+    pub taken_ended : (u : EndedTx) → u.id ≢ t → ends_in s u.id ≡ None → IsEndedListed s slots lists u → StandAt s' slots' u.id (filter (λ w. not (is_end_of c w)) u.words) (places_naming slots' u.id (lists' u.id))
     taken_ended u d out o =
-        subst (λ qs. StandAt s' slots' u.id (filter (λ w. not (is_end_of c w)) u.words) (named slots' u.id qs)) (sym (list.others u.id d))
+        subst (λ qs. StandAt s' slots' u.id (filter (λ w. not (is_end_of c w)) u.words) (places_naming slots' u.id qs)) (sym (list.others u.id d))
         (subst (StandAt s' slots' u.id (filter (λ w. not (is_end_of c w)) u.words)) (sym (filter_narrow (names_at slots' u.id) (names_at slots u.id) (lists u.id) (narrower u.id d)))
-        (stand_kept s s' slots slots' u.id (λ w q e x. end_at u.id w q e x) (filter (λ w. not (is_end_of c w)) u.words) (filter (names_at slots' u.id) (named slots u.id (lists u.id))) (each_passes (names_at slots' u.id) (named slots u.id (lists u.id)))
-        (stand_less s slots u.id (λ w. not (is_end_of c w)) (names_at slots' u.id) (taken_pair u.id d out) u.words (named slots u.id (lists u.id)) o)))
+        (stand_kept s s' slots slots' u.id (λ w q e x. end_at u.id w q e x) (filter (λ w. not (is_end_of c w)) u.words) (filter (names_at slots' u.id) (places_naming slots u.id (lists u.id))) (each_passes (names_at slots' u.id) (places_naming slots u.id (lists u.id)))
+        (stand_less s slots u.id (λ w. not (is_end_of c w)) (names_at slots' u.id) (taken_pair u.id d out) u.words (places_naming slots u.id (lists u.id)) o)))

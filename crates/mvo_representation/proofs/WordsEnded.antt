@@ -15,7 +15,7 @@ use Rattle.mvo_theory.specs.Steps.{after_abort_of}
 use Rattle.mvo_theory.specs.Phases.{phase_in}
 use Rattle.mvo_theory.specs.Calls.{IsKept}
 use Rattle.mvo_theory.proofs.Each.{each_weaker, each_append, each_map, each_filter}
-use Rattle.mvo_theory.proofs.Phases.{Leads, leads_after_prepare, leads_after_abort_of_active, leads_after_abort_of_preparing}
+use Rattle.mvo_theory.proofs.Phases.{Leads, leads_after_prepare, leads_after_abort_of_active, leads_after_abort_of_preparing, alone_in}
 use Rattle.mvo_theory.proofs.Who.{active_holds, id_of}
 use Rattle.mvo_word.specs.declared.held.Held.{Held}
 use Rattle.mvo_word.specs.declared.held.Held.TheVariants.{At, By, Infinity}
@@ -29,9 +29,9 @@ use Rattle.mvo_representation.specs.Words.{Ends, end_in, stamp_in}
 use Rattle.mvo_representation.specs.Versions.{IsKnown, IsInside, AreVersionsOf}
 use Rattle.mvo_representation.specs.Indexes.{all_versions}
 use Rattle.mvo_representation.specs.Table.{phases_of}
-use Rattle.mvo_representation.specs.WordLists.{WordLists, number_at, word_at, named, IsGone, IsWordOf, IsWordAt, StandAt, HasOwnWords, HasWordLists}
+use Rattle.mvo_representation.specs.WordLists.{WordLists, number_at_word, word_at, places_naming, IsGone, IsWordOf, IsWordAt, StandAt, HasOwnWords, HasWordLists}
 use Rattle.mvo_representation.specs.WordLaws.{PrecommitKeepsLists, AbortKeepsLists}
-use Rattle.mvo_representation.proofs.Ending.{own_word, named_end, alone_in}
+use Rattle.mvo_representation.proofs.Ending.{own_word, named_end}
 use Rattle.mvo_representation.proofs.Facts.{found_holds, preparing_is, phase_active, phase_preparing}
 use Rattle.mvo_representation.proofs.OrderSteps.{live}
 use Rattle.mvo_representation.proofs.Quiet.{with_end, ends_turn, ends_stay, stamp_other}
@@ -39,12 +39,7 @@ use Rattle.mvo_representation.proofs.WordPlaces.{one_name}
 use Rattle.mvo_representation.proofs.WordPairs.{ends_in, stand_weaker, stand_all, stand_self}
 use Rattle.mvo_representation.proofs.WordsKept.{IsActiveListed, IsPreparingListed, IsEndedListed, active_self, preparing_self, ended_self, absent_before, here_versions, words_preparing}
 use Rattle.mvo_representation.proofs.WordsSaid.{may_abort, unended}
-
-none_end : (e : ℕ) → ◌≡◌ {A = Option ℕ} None (Some e) → ⊥
-none_end e q = cc
-
-some_end : (a b : ℕ) → ◌≡◌ {A = Option ℕ} (Some a) (Some b) → a ≡ b
-some_end a b q = cc
+use Rattle.mvo_representation.proofs.Decided.{none_end, some_end}
 
 -- ---- a precommit
 module _ (opening : Map) (steps : List Step) (s : State) (slots : Slots) (r : ActiveTx) (k : IsKept opening steps s) (h : AreVersionsOf s (phase_in s) (all_versions slots)) (f : active_of r.id s.active ≡ Some r) where
@@ -87,7 +82,7 @@ module _ (opening : Map) (steps : List Step) (s : State) (slots : Slots) (r : Ac
   end_own : (t : ℕ) → t ≡ r.id → ends_in (after_prepare s r (s.clock + 1)) t ≡ Some (s.clock + 1)
   end_own t i = ap (λ (x : Ends). x t) path_prepared ∙ ap (λ (b : Bool). cond b (Some (s.clock + 1)) (ends_in s t)) (eq-eqb t r.id i)
 
-  word_prepared : (t : ℕ) (w : Word) (p : WordPlace) (v : Version) → version_at slots (number_at p) ≡ Some v → names t (word_at p v) ≡ true → IsWordOf s slots t w p v → IsWordOf (after_prepare s r (s.clock + 1)) slots t w p v
+  word_prepared : (t : ℕ) (w : Word) (p : WordPlace) (v : Version) → version_at slots (number_at_word p) ≡ Some v → names t (word_at p v) ≡ true → IsWordOf s slots t w p v → IsWordOf (after_prepare s r (s.clock + 1)) slots t w p v
   word_prepared t Own (Begin n) v at e o = tt
   word_prepared t Own (End n) v at e o = λ a q. go a q (names r.id v.begin) refl
     where
@@ -130,7 +125,7 @@ module _ (opening : Map) (steps : List Step) (s : State) (slots : Slots) (r : Ac
     once = l.once;
     active = each_filter (λ q. not (q.id == r.id)) (IsActiveListed s slots words) (IsActiveListed (after_prepare s r (s.clock + 1)) slots words) (λ q _ o. own_prepared q.id (words_of q.history q.claims) (words q.id) o) s.active l.active;
     preparing = each_append (IsPreparingListed (after_prepare s r (s.clock + 1)) slots words) s.stamped (to_stamped (s.clock + 1) r ∷ []) (each_weaker (IsPreparingListed s slots words) (IsPreparingListed (after_prepare s r (s.clock + 1)) slots words) (λ x o n. own_prepared x.id (words_of x.history x.claims) (words x.id) (o n)) s.stamped l.preparing) ((λ _. own_prepared r.id (words_of r.history r.claims) (words r.id) (active_holds (IsActiveListed s slots words) r.id s.active r f l.active).0), tt);
-    ended = each_weaker (IsEndedListed s slots words) (IsEndedListed (after_prepare s r (s.clock + 1)) slots words) (λ u o. stand_weaker s (after_prepare s r (s.clock + 1)) slots slots u.id (at_prepared u.id) u.words (named slots u.id (words u.id)) o) s.ended l.ended;
+    ended = each_weaker (IsEndedListed s slots words) (IsEndedListed (after_prepare s r (s.clock + 1)) slots words) (λ u o. stand_weaker s (after_prepare s r (s.clock + 1)) slots slots u.id (at_prepared u.id) u.words (places_naming slots u.id (words u.id)) o) s.ended l.ended;
     absent = λ u q. l.absent u (absent_before s (after_prepare s r (s.clock + 1)) (Prepares r.id (s.clock + 1)) leads_prepared (λ q. away (sym leads_prepared.own ∙ q)) u q);
   }
     where
@@ -228,7 +223,7 @@ module _ (opening : Map) (steps : List Step) (s : State) (slots : Slots) (t : �
   no_put : (n : VersionNo) (v : Version) → version_at slots n ≡ Some v → stamp_in (ends_in (after_abort_of_preparing s t x.end)) v.begin ≡ Some x.end → ⊥
   no_put n v at q = unstamped v.begin (known_begin n v at) (sym (ap (λ (y : Ends). stamp_in y v.begin) path_aborted) ∙ q)
 
-  word_aborted : (u : ℕ) (w : Word) (p : WordPlace) (v : Version) → version_at slots (number_at p) ≡ Some v → IsWordOf s slots u w p v → IsWordOf (after_abort_of_preparing s t x.end) slots u w p v
+  word_aborted : (u : ℕ) (w : Word) (p : WordPlace) (v : Version) → version_at slots (number_at_word p) ≡ Some v → IsWordOf s slots u w p v → IsWordOf (after_abort_of_preparing s t x.end) slots u w p v
   word_aborted u Own (Begin n) v at o = tt
   word_aborted u Own (End n) v at o = λ a q. go a q (cases_eq u t)
     where
@@ -268,7 +263,7 @@ module _ (opening : Map) (steps : List Step) (s : State) (slots : Slots) (t : �
     once = l.once;
     active = each_map (active_with_flag t x.end) (IsActiveListed s slots words) (IsActiveListed (after_abort_of_preparing s t x.end) slots words) (λ q o. own_aborted q.id (words_of q.history q.claims) (words q.id) o) s.active l.active;
     preparing = each_map (with_flag t x.end) (IsPreparingListed s slots words) (IsPreparingListed (after_abort_of_preparing s t x.end) slots words) (λ y o n. own_aborted y.id (words_of y.history y.claims) (words y.id) (o n)) (filter (not_at x.end) s.stamped) (each_filter (not_at x.end) (IsPreparingListed s slots words) (IsPreparingListed s slots words) (λ y _ o. o) s.stamped l.preparing);
-    ended = each_append (IsEndedListed (after_abort_of_preparing s t x.end) slots words) s.ended (aborted_tx t (words_now s t) ∷ []) (each_weaker (IsEndedListed s slots words) (IsEndedListed (after_abort_of_preparing s t x.end) slots words) (λ u o. stand_weaker s (after_abort_of_preparing s t x.end) slots slots u.id (at_aborted u.id) u.words (named slots u.id (words u.id)) o) s.ended l.ended) (stand_all (after_abort_of_preparing s t x.end) slots t (words_now s t) (words t) mine, tt);
+    ended = each_append (IsEndedListed (after_abort_of_preparing s t x.end) slots words) s.ended (aborted_tx t (words_now s t) ∷ []) (each_weaker (IsEndedListed s slots words) (IsEndedListed (after_abort_of_preparing s t x.end) slots words) (λ u o. stand_weaker s (after_abort_of_preparing s t x.end) slots slots u.id (at_aborted u.id) u.words (places_naming slots u.id (words u.id)) o) s.ended l.ended) (stand_all (after_abort_of_preparing s t x.end) slots t (words_now s t) (words t) mine, tt);
     absent = λ u q. l.absent u (absent_before s (after_abort_of_preparing s t x.end) (Aborts t) leads_aborted (λ q. away (sym leads_aborted.own ∙ q)) u q);
   }
     where

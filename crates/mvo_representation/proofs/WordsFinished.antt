@@ -13,6 +13,8 @@ use Rattle.mvo_theory.specs.Phases.{phase_in}
 use Rattle.mvo_theory.specs.Sound.{IsSingle, how_many}
 use Rattle.mvo_theory.proofs.Each.{each_weaker, each_both, each_map}
 use Rattle.mvo_theory.proofs.Phases.{Leads, leads_after_termination}
+use Rattle.mvo_theory.proofs.Single.{each_without}
+use Rattle.mvo_theory.proofs.EndSteps.{filter_same}
 use Rattle.mvo_word.specs.declared.held.Held.TheVariants.{Infinity}
 use Rattle.mvo_chain.specs.declared.version.Version.{Version}
 use Rattle.mvo_chain.specs.declared.version.VersionNo.{VersionNo}
@@ -28,18 +30,18 @@ use Rattle.mvo_representation.specs.Steps.{IsUnnamed}
 use Rattle.mvo_representation.specs.Table.{phases_of}
 use Rattle.mvo_representation.specs.Order.{own_words, word_of_stamp}
 use Rattle.mvo_representation.specs.OrderLaws.{HaveNow}
-use Rattle.mvo_representation.specs.WordLists.{WordLists, HaveListNow, number_at, word_at, is_place, names_at, named, finished, IsWordOf, IsWordAt, StandAt, HasOwnWords, HasWordLists}
+use Rattle.mvo_representation.specs.WordLists.{WordLists, HaveListNow, number_at_word, word_at, is_place, names_at, places_naming, finished, IsWordOf, IsWordAt, StandAt, HasOwnWords, HasWordLists}
 use Rattle.mvo_representation.specs.WordLaws.{FinishKeepsLists, LastIsUnnamed, LastKeepsLists, LeavingKeepsLists}
 use Rattle.mvo_representation.proofs.Ending.{named_end}
-use Rattle.mvo_representation.proofs.OrderLists.{some_version}
 use Rattle.mvo_representation.proofs.OrderSteps.{live}
 use Rattle.mvo_representation.proofs.OrderWritten.{others_keep_written}
 use Rattle.mvo_representation.proofs.Quiet.{with_end, ends_turn, stamp_other}
 use Rattle.mvo_representation.proofs.Reworded.{phase_with_words}
-use Rattle.mvo_representation.proofs.WordPlaces.{not_other, names_here, names_like, place_same, place_apart, place_cases, filter_same, filter_always, each_passes, counted_none, counted_passes}
+use Rattle.mvo_representation.proofs.WordPlaces.{not_other, names_here, names_like, place_same, place_apart, place_cases, filter_always, each_passes, counted_none, counted_passes}
 use Rattle.mvo_representation.proofs.WordPairs.{ends_in, IsLike, IsLikeVersion, word_like, version_like_self, stand_weaker, stand_kept, stand_rest, stand_self}
 use Rattle.mvo_representation.proofs.WordsKept.{IsActiveListed, IsPreparingListed, IsEndedListed, own_self, unnamed_at}
 use Rattle.mvo_representation.proofs.WordsSaid.{not_the_one, ended_not_active, ended_not_preparing, ended_there, active_beside, preparing_beside, unnamed_where_none, none_is_unnamed, done_is_seen, none_pass}
+use Rattle.mvo_representation.proofs.Slots.{some_version}
 
 -- ---- a version with a finished word
 -- a word that names nobody
@@ -91,21 +93,21 @@ module _ (ends : Ends) (t : ℕ) where
       ∙ ap (λ (b : Bool). cond {A = Option (RowKey × Bool × Bool)} (names u v.begin || b) (Some (v.row.key, names u v.begin, b)) None) (end_names u p v e d)
 
 -- ---- the places, once one is finished
-module _ (slots slots' : Slots) (ends : Ends) (t : ℕ) (p : WordPlace) (v : Version) (at : version_at slots (number_at p) ≡ Some v) (now : HaveNow slots slots' (number_at p).0 (finished ends t p v)) where
+module _ (slots slots' : Slots) (ends : Ends) (t : ℕ) (p : WordPlace) (v : Version) (at : version_at slots (number_at_word p) ≡ Some v) (now : HaveNow slots slots' (number_at_word p).0 (finished ends t p v)) where
   pub names_gone : (u : ℕ) → names_at slots' u p ≡ false
   names_gone u = names_here slots' u p (finished ends t p v) now.here ∙ word_goes ends t u p v
 
-  at_same : (q : WordPlace) → (number_at q).0 ≡ (number_at p).0 → (version_at slots (number_at q) ≡ Some v) × (version_at slots' (number_at q) ≡ Some (finished ends t p v))
+  at_same : (q : WordPlace) → (number_at_word q).0 ≡ (number_at_word p).0 → (version_at slots (number_at_word q) ≡ Some v) × (version_at slots' (number_at_word q) ≡ Some (finished ends t p v))
   at_same q i = (ap (λ (j : ℕ). version_at slots (number j)) i ∙ at, ap (λ (j : ℕ). version_at slots' (number j)) i ∙ now.here)
 
   -- another place names whom it named
   pub names_beside : (u : ℕ) (q : WordPlace) → (q ≡ p → ⊥) → names_at slots' u q ≡ names_at slots u q
-  names_beside u q d = elim (cases_eq (number_at q).0 (number_at p).0) [
+  names_beside u q d = elim (cases_eq (number_at_word q).0 (number_at_word p).0) [
     | inl i ↦ let e = at_same q i in names_here slots' u q (finished ends t p v) e.1 ∙ go p q d i ∙ sym (names_here slots u q v e.0)
-    | inr n ↦ names_like slots slots' u q (now.others (number_at q) n)
+    | inr n ↦ names_like slots slots' u q (now.others (number_at_word q) n)
   ]
     where
-      go : (p q : WordPlace) → (q ≡ p → ⊥) → (number_at q).0 ≡ (number_at p).0 → names u (word_at q (finished ends t p v)) ≡ names u (word_at q v)
+      go : (p q : WordPlace) → (q ≡ p → ⊥) → (number_at_word q).0 ≡ (number_at_word p).0 → names u (word_at q (finished ends t p v)) ≡ names u (word_at q v)
       go (Begin n) (Begin m) d i = absurd (d (ap (λ (j : ℕ). Begin (record { 0 = j })) i))
       go (Begin n) (End m) d i = refl
       go (End n) (Begin m) d i = refl
@@ -139,11 +141,11 @@ last_is_unnamed s states slots slots' words u p ps v e is at name fin' now l = u
     let z = counted_passes (names_at slots u.id) q ps b none in
     absurd (omega (arith, o, z)))
   where
-    front : named slots u.id (words u.id) ≡ p ∷ named slots u.id ps
-    front = ap (named slots u.id) is ∙ ap (λ (b : Bool). cond b (p ∷ named slots u.id ps) (named slots u.id ps)) name
+    front : places_naming slots u.id (words u.id) ≡ p ∷ places_naming slots u.id ps
+    front = ap (places_naming slots u.id) is ∙ ap (λ (b : Bool). cond b (p ∷ places_naming slots u.id ps) (places_naming slots u.id ps)) name
 
-    none : named slots u.id ps ≡ []
-    none = none_long (named slots u.id ps) (leb-true (length (p ∷ named slots u.id ps)) 1 (ap (λ qs. nat_le (length qs) 1) (sym front) ∙ sym (done_is_seen s slots words u e l) ∙ fin'))
+    none : places_naming slots u.id ps ≡ []
+    none = none_long (places_naming slots u.id ps) (leb-true (length (p ∷ places_naming slots u.id ps)) 1 (ap (λ qs. nat_le (length qs) 1) (sym front) ∙ sym (done_is_seen s slots words u e l) ∙ fin'))
 
 -- ---- the others
 pub record AreOthersListed (s : State) (slots : Slots) (lists : WordLists) (t : ℕ) : Type 0 where
@@ -161,15 +163,15 @@ others_of s slots lists t l = record {
   ended = each_weaker (IsEndedListed s slots lists) (λ x. x.id ≢ t → IsEndedListed s slots lists x) (λ x o _. o) s.ended l.ended;
 }
 
-module _ (s : State) (slots slots' : Slots) (lists : WordLists) (u : EndedTx) (p : WordPlace) (v : Version) (single : IsSingle s) (e : ended_of u.id s.ended ≡ Some u) (at : version_at slots (number_at p) ≡ Some v) (name : names u.id (word_at p v) ≡ true) (now : HaveNow slots slots' (number_at p).0 (finished (ends_in s) u.id p v)) where
+module _ (s : State) (slots slots' : Slots) (lists : WordLists) (u : EndedTx) (p : WordPlace) (v : Version) (single : IsSingle s) (e : ended_of u.id s.ended ≡ Some u) (at : version_at slots (number_at_word p) ≡ Some v) (name : names u.id (word_at p v) ≡ true) (now : HaveNow slots slots' (number_at_word p).0 (finished (ends_in s) u.id p v)) where
   like : (s' : State) (t : ℕ) → s.clock ≤ s'.clock → ends_in s' ≡ ends_in s → IsLike s s' slots slots' t
   like s' t le same = record {
     clock = le;
     own = λ a q. ap (λ (x : Ends). x t) same ∙ q;
-    puts = λ m w a there q. elim (cases_eq m.0 (number_at p).0) [
+    puts = λ m w a there q. elim (cases_eq m.0 (number_at_word p).0) [
       | inl i ↦
           let is : finished (ends_in s) u.id p v ≡ w = some_version (finished (ends_in s) u.id p v) w (sym now.here ∙ ap (λ (j : ℕ). version_at slots' (number j)) (sym i) ∙ there) in
-          (number_at p, v, at, sym (ap (λ r. r.key) (row_stays (ends_in s) u.id p v)) ∙ ap (λ (x : Version). x.row.key) is, sym (begin_alike (ends_in s) u.id p v name) ∙ ap (λ (x : Version). stamp_in (ends_in s) x.begin) is ∙ sym (ap (λ (x : Ends). stamp_in x w.begin) same) ∙ q)
+          (number_at_word p, v, at, sym (ap (λ r. r.key) (row_stays (ends_in s) u.id p v)) ∙ ap (λ (x : Version). x.row.key) is, sym (begin_alike (ends_in s) u.id p v name) ∙ ap (λ (x : Version). stamp_in (ends_in s) x.begin) is ∙ sym (ap (λ (x : Ends). stamp_in x w.begin) same) ∙ q)
       | inr d ↦ (m, w, sym (now.others m d) ∙ there, refl, sym (ap (λ (x : Ends). stamp_in x w.begin) same) ∙ q)
     ];
   }
@@ -182,7 +184,7 @@ module _ (s : State) (slots slots' : Slots) (lists : WordLists) (u : EndedTx) (p
   }
 
   pub at_finished : (s' : State) (t : ℕ) → s.clock ≤ s'.clock → ends_in s' ≡ ends_in s → (w : Word) (q : WordPlace) → names_at slots' t q ≡ true → IsWordAt s slots t w q → IsWordAt s' slots' t w q
-  at_finished s' t le same w q n o = elim (cases_eq (number_at q).0 (number_at p).0) [
+  at_finished s' t le same w q n o = elim (cases_eq (number_at_word q).0 (number_at_word p).0) [
     | inl i ↦
         let x = at_same slots slots' (ends_in s) u.id p v at now q i in
         let is : o.version ≡ v = some_version o.version v (sym o.at ∙ x.0) in
@@ -194,7 +196,7 @@ module _ (s : State) (slots slots' : Slots) (lists : WordLists) (u : EndedTx) (p
         }
     | inr d ↦ record {
       version = o.version;
-      at = now.others (number_at q) d ∙ o.at;
+      at = now.others (number_at_word q) d ∙ o.at;
       named = o.named;
       is = word_like s s' slots slots' t w q o.version o.version (like s' t le same) (version_like_self s s' t o.version same) o.is;
     }
@@ -213,7 +215,7 @@ module _ (s : State) (slots slots' : Slots) (lists : WordLists) (u : EndedTx) (p
   own_beside : (s' : State) (t : ℕ) → s.clock ≤ s'.clock → ends_in s' ≡ ends_in s → t ≢ u.id → (ws : List Word) (qs : List WordPlace) → HasOwnWords s slots t ws qs → HasOwnWords s' slots' t ws qs
   own_beside s' t le same d ws qs o = record {
     stand = stand_beside s' t le same d ws qs o.stand;
-    written = others_keep_written t slots slots' (map (λ q. (number_at q).0) qs) (λ m. elim (cases_eq m (number_at p).0) [
+    written = others_keep_written t slots slots' (map (λ q. (number_at_word q).0) qs) (λ m. elim (cases_eq m (number_at_word p).0) [
       | inl i ↦ ap (λ (j : ℕ). own_words t (version_at slots' (number j))) i ∙ ap (own_words t) now.here ∙ same_own (ends_in s) u.id t p v name d ∙ sym (ap (λ (j : ℕ). own_words t (version_at slots (number j))) i ∙ ap (own_words t) at)
       | inr n ↦ ap (own_words t) (now.others (number m) n)
     ]) o.written;
@@ -224,11 +226,11 @@ module _ (s : State) (slots slots' : Slots) (lists : WordLists) (u : EndedTx) (p
     once = λ t q d n. l.once t q (sym (names_same t d q) ∙ n);
     active = each_both (λ r. r.id ≢ u.id) (IsActiveListed s slots lists) (IsActiveListed s slots' lists) (λ r d o. own_beside s r.id (omega arith) refl d (words_of r.history r.claims) (lists r.id) o) s.active (ended_not_active s u.id u single e) l.active;
     preparing = each_both (λ x. x.settled ≡ false → x.id ≢ u.id) (IsPreparingListed s slots lists) (IsPreparingListed s slots' lists) (λ x d o n. own_beside s x.id (omega arith) refl (d n) (words_of x.history x.claims) (lists x.id) (o n)) s.stamped (ended_not_preparing s u.id u single e) l.preparing;
-    ended = each_weaker (IsEndedListed s slots lists) (λ x. x.id ≢ u.id → IsEndedListed s slots' lists x) (λ x o d. subst (StandAt s slots' x.id x.words) (filter_always (names_at slots x.id) (names_at slots' x.id) (lists x.id) (λ q. sym (names_same x.id d q))) (stand_beside s x.id (omega arith) refl d x.words (named slots x.id (lists x.id)) o)) s.ended l.ended;
+    ended = each_weaker (IsEndedListed s slots lists) (λ x. x.id ≢ u.id → IsEndedListed s slots' lists x) (λ x o d. subst (StandAt s slots' x.id x.words) (filter_always (names_at slots x.id) (names_at slots' x.id) (lists x.id) (λ q. sym (names_same x.id d q))) (stand_beside s x.id (omega arith) refl d x.words (places_naming slots x.id (lists x.id)) o)) s.ended l.ended;
   }
 
 -- ---- one of several
-module _ (s : State) (slots slots' : Slots) (lists lists' : WordLists) (u : EndedTx) (p : WordPlace) (ps : List WordPlace) (v : Version) (single : IsSingle s) (e : ended_of u.id s.ended ≡ Some u) (is : lists u.id ≡ p ∷ ps) (at : version_at slots (number_at p) ≡ Some v) (name : names_at slots u.id p ≡ true) (now : HaveNow slots slots' (number_at p).0 (finished (ends_in s) u.id p v)) (list : HaveListNow lists lists' u.id ps) (l : HasWordLists s slots lists) where
+module _ (s : State) (slots slots' : Slots) (lists lists' : WordLists) (u : EndedTx) (p : WordPlace) (ps : List WordPlace) (v : Version) (single : IsSingle s) (e : ended_of u.id s.ended ≡ Some u) (is : lists u.id ≡ p ∷ ps) (at : version_at slots (number_at_word p) ≡ Some v) (name : names_at slots u.id p ≡ true) (now : HaveNow slots slots' (number_at_word p).0 (finished (ends_in s) u.id p v)) (list : HaveListNow lists lists' u.id ps) (l : HasWordLists s slots lists) where
   word_name : names u.id (word_at p v) ≡ true
   word_name = sym (names_here slots u.id p v at) ∙ name
 
@@ -239,27 +241,27 @@ module _ (s : State) (slots slots' : Slots) (lists lists' : WordLists) (u : Ende
   others = others_finished s slots slots' lists u p v single e at word_name now l
 
   -- the places behind the first name it as before
-  rest_same : named slots' u.id ps ≡ named slots u.id ps
+  rest_same : places_naming slots' u.id ps ≡ places_naming slots u.id ps
   rest_same = filter_same (names_at slots' u.id) (names_at slots u.id) ps
       (each_weaker (λ q. is_place p q ≡ false) (λ q. names_at slots' u.id q ≡ names_at slots u.id q) (λ q d. names_beside slots slots' (ends_in s) u.id p v at now u.id q (λ i. place_apart p q d (sym i))) ps
       (counted_none p ps (counted_first p ps (ap (how_many (is_place p)) (sym is) ∙ l.once u.id p name) (place_same p))))
 
-  left_own : (x : EndedTx) → IsEndedListed s slots lists x → (x.id ≡ u.id) → StandAt (with_words (words_left u.id) s) slots' x.id (drop 1 x.words) (named slots' x.id (lists' x.id))
+  left_own : (x : EndedTx) → IsEndedListed s slots lists x → (x.id ≡ u.id) → StandAt (with_words (words_left u.id) s) slots' x.id (drop 1 x.words) (places_naming slots' x.id (lists' x.id))
   left_own x o i =
-      subst (λ (j : ℕ). StandAt (with_words (words_left u.id) s) slots' j (drop 1 x.words) (named slots' j (lists' j))) (sym i)
-      (subst (λ qs. StandAt (with_words (words_left u.id) s) slots' u.id (drop 1 x.words) (named slots' u.id qs)) (sym list.here)
-      (stand_kept s (with_words (words_left u.id) s) slots slots' u.id (λ w q n y. at_finished s slots slots' lists u p v single e at word_name now (with_words (words_left u.id) s) u.id (omega arith) path_worded w q n y) (drop 1 x.words) (named slots' u.id ps) (each_passes (names_at slots' u.id) ps)
+      subst (λ (j : ℕ). StandAt (with_words (words_left u.id) s) slots' j (drop 1 x.words) (places_naming slots' j (lists' j))) (sym i)
+      (subst (λ qs. StandAt (with_words (words_left u.id) s) slots' u.id (drop 1 x.words) (places_naming slots' u.id qs)) (sym list.here)
+      (stand_kept s (with_words (words_left u.id) s) slots slots' u.id (λ w q n y. at_finished s slots slots' lists u p v single e at word_name now (with_words (words_left u.id) s) u.id (omega arith) path_worded w q n y) (drop 1 x.words) (places_naming slots' u.id ps) (each_passes (names_at slots' u.id) ps)
       (subst (StandAt s slots u.id (drop 1 x.words)) (sym rest_same)
-      (stand_rest s slots u.id x.words p (named slots u.id ps)
-      (subst (StandAt s slots u.id x.words) (ap (named slots u.id) is ∙ ap (λ (b : Bool). cond b (p ∷ named slots u.id ps) (named slots u.id ps)) name)
-      (subst (λ (j : ℕ). StandAt s slots j x.words (named slots j (lists j))) i o))))))
+      (stand_rest s slots u.id x.words p (places_naming slots u.id ps)
+      (subst (StandAt s slots u.id x.words) (ap (places_naming slots u.id) is ∙ ap (λ (b : Bool). cond b (p ∷ places_naming slots u.id ps) (places_naming slots u.id ps)) name)
+      (subst (λ (j : ℕ). StandAt s slots j x.words (places_naming slots j (lists j))) i o))))))
 
-  left_other : (x : EndedTx) → (x.id ≢ u.id → IsEndedListed s slots' lists x) → x.id ≢ u.id → StandAt (with_words (words_left u.id) s) slots' x.id x.words (named slots' x.id (lists' x.id))
-  left_other x o d = subst (λ qs. StandAt (with_words (words_left u.id) s) slots' x.id x.words (named slots' x.id qs)) (sym (list.others x.id d)) (stand_self s (with_words (words_left u.id) s) slots' x.id (omega arith) path_worded x.words (named slots' x.id (lists x.id)) (o d))
+  left_other : (x : EndedTx) → (x.id ≢ u.id → IsEndedListed s slots' lists x) → x.id ≢ u.id → StandAt (with_words (words_left u.id) s) slots' x.id x.words (places_naming slots' x.id (lists' x.id))
+  left_other x o d = subst (λ qs. StandAt (with_words (words_left u.id) s) slots' x.id x.words (places_naming slots' x.id qs)) (sym (list.others x.id d)) (stand_self s (with_words (words_left u.id) s) slots' x.id (omega arith) path_worded x.words (places_naming slots' x.id (lists x.id)) (o d))
 
-  left_of : (x : EndedTx) → IsEndedListed s slots lists x → (x.id ≢ u.id → IsEndedListed s slots' lists x) → (x.id ≡ u.id) ⊎ (x.id ≡ u.id → ⊥) → StandAt (with_words (words_left u.id) s) slots' x.id (words_left u.id x) (named slots' x.id (lists' x.id))
-  left_of x o n (inl i) = subst (λ (b : Bool). StandAt (with_words (words_left u.id) s) slots' x.id (cond b (drop 1 x.words) x.words) (named slots' x.id (lists' x.id))) (sym (eq-eqb x.id u.id i)) (left_own x o i)
-  left_of x o n (inr d) = subst (λ (b : Bool). StandAt (with_words (words_left u.id) s) slots' x.id (cond b (drop 1 x.words) x.words) (named slots' x.id (lists' x.id))) (sym (ne_eqb x.id u.id d)) (left_other x n d)
+  left_of : (x : EndedTx) → IsEndedListed s slots lists x → (x.id ≢ u.id → IsEndedListed s slots' lists x) → (x.id ≡ u.id) ⊎ (x.id ≡ u.id → ⊥) → StandAt (with_words (words_left u.id) s) slots' x.id (words_left u.id x) (places_naming slots' x.id (lists' x.id))
+  left_of x o n (inl i) = subst (λ (b : Bool). StandAt (with_words (words_left u.id) s) slots' x.id (cond b (drop 1 x.words) x.words) (places_naming slots' x.id (lists' x.id))) (sym (eq-eqb x.id u.id i)) (left_own x o i)
+  left_of x o n (inr d) = subst (λ (b : Bool). StandAt (with_words (words_left u.id) s) slots' x.id (cond b (drop 1 x.words) x.words) (places_naming slots' x.id (lists' x.id))) (sym (ne_eqb x.id u.id d)) (left_other x n d)
 
   pub worded_lists : HasWordLists (with_words (words_left u.id) s) slots' lists'
   worded_lists = record {
@@ -286,8 +288,8 @@ same_ends : (s : State) (states : States) (vs : List Version) → AreVersionsOf 
 same_ends s states vs h = λ i t. end_in (h.phases t i)
 
 -- what is finished by the table is finished by the state
-finished_in : (s : State) (states : States) (vs : List Version) (slots slots' : Slots) (t : ℕ) (p : WordPlace) (v : Version) → AreVersionsOf s (phases_of states) vs → HaveNow slots slots' (number_at p).0 (finished (ends_of (phases_of states)) t p v) → HaveNow slots slots' (number_at p).0 (finished (ends_in s) t p v)
-finished_in s states vs slots slots' t p v h now = subst (λ (x : Ends). HaveNow slots slots' (number_at p).0 (finished x t p v)) (same_ends s states vs h) now
+finished_in : (s : State) (states : States) (vs : List Version) (slots slots' : Slots) (t : ℕ) (p : WordPlace) (v : Version) → AreVersionsOf s (phases_of states) vs → HaveNow slots slots' (number_at_word p).0 (finished (ends_of (phases_of states)) t p v) → HaveNow slots slots' (number_at_word p).0 (finished (ends_in s) t p v)
+finished_in s states vs slots slots' t p v h now = subst (λ (x : Ends). HaveNow slots slots' (number_at_word p).0 (finished x t p v)) (same_ends s states vs h) now
 
 pub finish_keeps_lists : FinishKeepsLists
 finish_keeps_lists opening steps s states slots slots' lists places words words' u p ps v h e is at name more now list l =
@@ -302,14 +304,6 @@ left_others t (x ∷ us) le = go (x.id == t) refl le (left_others t us)
     go : (b : Bool) → (x.id == t) ≡ b → cond b 1 0 + how_many (is_ended_as t) us ≤ 1 → (how_many (is_ended_as t) us ≤ 1 → AllByRecursion (λ x. x.id ≢ t) (without_ended t us)) → AllByRecursion (λ x. x.id ≢ t) (cond b us (x ∷ without_ended t us))
     go true q l k = each_weaker (λ y. is_ended_as t y ≡ false) (λ y. y.id ≢ t) (λ y n. not_the_one y.id t n) us (none_pass (is_ended_as t) us (omega (arith, l)))
     go false q l k = (not_the_one x.id t q, k (omega (arith, l)))
-
-each_left : (P : EndedTx → Type 0) (t : ℕ) (us : List EndedTx) → AllByRecursion P us → AllByRecursion P (without_ended t us)
-each_left P t [] h = tt
-each_left P t (w ∷ ws) h = go (w.id == t) (each_left P t ws h.1)
-  where
-    go : (b : Bool) → AllByRecursion P (without_ended t ws) → AllByRecursion P (cond b ws (w ∷ without_ended t ws))
-    go true r = h.1
-    go false r = (h.0, r)
 
 found_ended : (t : ℕ) (us : List EndedTx) (u : EndedTx) → ended_of t us ≡ Some u → list_any (is_ended_as t) us ≡ true
 found_ended t [] u e = absurd (none u e)
@@ -343,7 +337,7 @@ module _ (s : State) (slots : Slots) (lists lists' : WordLists) (u : EndedTx) (s
           own = λ a i. ap (λ (x : Ends). x t) path_left ∙ ap (λ (b : Bool). cond b None (ends_in s t)) (ne_eqb t u.id d) ∙ i;
           puts = λ m v a there i. (m, v, there, refl, sym (stamp_left m v there) ∙ i);
         })
-        (record { key = refl; stamp = stamp_left (number_at q) o.version o.at; begin = λ n. n }) o.is;
+        (record { key = refl; stamp = stamp_left (number_at_word q) o.version o.at; begin = λ n. n }) o.is;
   }
 
   own_left : (t : ℕ) → t ≢ u.id → (ws : List Word) (qs : List WordPlace) → HasOwnWords s slots t ws qs → HasOwnWords (after_termination s u.id) slots t ws qs
@@ -354,7 +348,7 @@ module _ (s : State) (slots : Slots) (lists lists' : WordLists) (u : EndedTx) (s
     once = λ t q n. once t q n (cases_eq t u.id);
     active = each_both (λ r. r.id ≢ u.id) (IsActiveListed s slots lists') (IsActiveListed (after_termination s u.id) slots lists') (λ r d o. own_left r.id d (words_of r.history r.claims) (lists' r.id) o) s.active (ended_not_active s u.id u single e) (active_beside s slots lists lists' u.id [] list (ended_not_active s u.id u single e) l.active);
     preparing = each_both (λ x. x.settled ≡ false → x.id ≢ u.id) (IsPreparingListed s slots lists') (IsPreparingListed (after_termination s u.id) slots lists') (λ x d o n. own_left x.id (d n) (words_of x.history x.claims) (lists' x.id) (o n)) s.stamped (ended_not_preparing s u.id u single e) (preparing_beside s slots lists lists' u.id [] list (ended_not_preparing s u.id u single e) l.preparing);
-    ended = each_both (λ x. x.id ≢ u.id) (λ x. x.id ≢ u.id → IsEndedListed s slots lists x) (IsEndedListed (after_termination s u.id) slots lists') (λ x d o. subst (λ qs. StandAt (after_termination s u.id) slots x.id x.words (named slots x.id qs)) (sym (list.others x.id d)) (stand_weaker s (after_termination s u.id) slots slots x.id (at_left x.id d) x.words (named slots x.id (lists x.id)) (o d))) (without_ended u.id s.ended) (left_others u.id s.ended (let o = single.once u.id in omega (arith, o))) (each_left (λ x. x.id ≢ u.id → IsEndedListed s slots lists x) u.id s.ended l.ended);
+    ended = each_both (λ x. x.id ≢ u.id) (λ x. x.id ≢ u.id → IsEndedListed s slots lists x) (IsEndedListed (after_termination s u.id) slots lists') (λ x d o. subst (λ qs. StandAt (after_termination s u.id) slots x.id x.words (places_naming slots x.id qs)) (sym (list.others x.id d)) (stand_weaker s (after_termination s u.id) slots slots x.id (at_left x.id d) x.words (places_naming slots x.id (lists x.id)) (o d))) (without_ended u.id s.ended) (left_others u.id s.ended (let o = single.once u.id in omega (arith, o))) (each_without (λ x. x.id ≢ u.id → IsEndedListed s slots lists x) u.id s.ended l.ended);
     absent = λ t q. gone t q (cases_eq t u.id);
   }
     where

@@ -29,7 +29,7 @@ use Rattle.mvo_representation.specs.Versions.{IsKnown, AreVersionsOf}
 use Rattle.mvo_representation.specs.Indexes.{all_versions}
 use Rattle.mvo_representation.specs.Steps.{IsUnnamed}
 use Rattle.mvo_representation.specs.Table.{phases_of}
-use Rattle.mvo_representation.specs.WordLists.{WordLists, number_at, word_at, names_at, named, StandAt, HasOwnWords, HasWordLists}
+use Rattle.mvo_representation.specs.WordLists.{WordLists, number_at_word, word_at, names_at, places_naming, StandAt, HasOwnWords, HasWordLists}
 use Rattle.mvo_representation.specs.WordLaws.{OpeningHasLists, BeginKeepsLists, AnswerKeepsLists, CheckKeepsLists, CommitKeepsLists, TrimKeepsLists, CloseKeepsLists}
 use Rattle.mvo_representation.proofs.Facts.{found_holds, phase_absent, phase_preparing}
 use Rattle.mvo_representation.proofs.OrderSteps.{live}
@@ -50,7 +50,7 @@ abbrev pub IsPreparingListed : State → Slots → WordLists → StampedTx → T
 IsPreparingListed s slots lists x = x.settled ≡ false → HasOwnWords s slots x.id (words_of x.history x.claims) (lists x.id)
 
 abbrev pub IsEndedListed : State → Slots → WordLists → EndedTx → Type 0
-IsEndedListed s slots lists u = StandAt s slots u.id u.words (named slots u.id (lists u.id))
+IsEndedListed s slots lists u = StandAt s slots u.id u.words (places_naming slots u.id (lists u.id))
 
 module _ (s s' : State) (slots : Slots) (lists : WordLists) (le : s.clock ≤ s'.clock) (same : ends_in s' ≡ ends_in s) where
   pub active_self : (rs : List ActiveTx) → AllByRecursion (IsActiveListed s slots lists) rs → AllByRecursion (IsActiveListed s' slots lists) rs
@@ -60,7 +60,7 @@ module _ (s s' : State) (slots : Slots) (lists : WordLists) (le : s.clock ≤ s'
   preparing_self xs h = each_weaker (IsPreparingListed s slots lists) (IsPreparingListed s' slots lists) (λ x o n. own_self s s' slots x.id le same (words_of x.history x.claims) (lists x.id) (o n)) xs h
 
   pub ended_self : (us : List EndedTx) → AllByRecursion (IsEndedListed s slots lists) us → AllByRecursion (IsEndedListed s' slots lists) us
-  ended_self us h = each_weaker (IsEndedListed s slots lists) (IsEndedListed s' slots lists) (λ u o. stand_self s s' slots u.id le same u.words (named slots u.id (lists u.id)) o) us h
+  ended_self us h = each_weaker (IsEndedListed s slots lists) (IsEndedListed s' slots lists) (λ u o. stand_self s s' slots u.id le same u.words (places_naming slots u.id (lists u.id)) o) us h
 
 -- who is absent after a step was absent before
 pub absent_before : (s s' : State) (x : Step) → Leads x s s' → (phase_in s' (owner_of x) ≡ Absent → ⊥) → (u : ℕ) → phase_in s' u ≡ Absent → phase_in s u ≡ Absent
@@ -80,7 +80,7 @@ absent_unnamed s slots t h e = each_weaker (λ v. IsKnown s (phase_in s) v.begin
 pub unnamed_at : (slots : Slots) (t : ℕ) (p : WordPlace) → IsUnnamed t (all_versions slots) → names_at slots t p ≡ true → ⊥
 unnamed_at slots t p h e =
     let n = names_there slots t p e in
-    let k = live slots (λ v. (names t v.begin ≡ false) × (names t v.end ≡ false)) h (number_at p).0 n.version n.at in
+    let k = live slots (λ v. (names t v.begin ≡ false) × (names t v.end ≡ false)) h (number_at_word p).0 n.version n.at in
     true≢false (sym n.named ∙ go p n.version k)
   where
     go : (q : WordPlace) (v : Version) → (names t v.begin ≡ false) × (names t v.end ≡ false) → names t (word_at q v) ≡ false

@@ -24,8 +24,8 @@ use Rattle.mvo_representation.specs.Words.{Phases}
 use Rattle.mvo_representation.specs.Indexes.{all_versions}
 use Rattle.mvo_representation.specs.Steps.{IsUnnamed}
 use Rattle.mvo_representation.specs.Table.{phases_of}
-use Rattle.mvo_representation.specs.Order.{own_words, IsWritten, MayAbort}
-use Rattle.mvo_representation.specs.WordLists.{WordLists, HaveListNow, number_at, word_at, is_place, names_at, named, IsWordAt, StandAt, HasOwnWords}
+use Rattle.mvo_representation.specs.Order.{own_words, AreWrittenBy, MayAbort}
+use Rattle.mvo_representation.specs.WordLists.{WordLists, HaveListNow, number_at_word, word_at, is_place, names_at, places_naming, IsWordAt, StandAt, HasOwnWords}
 use Rattle.mvo_representation.specs.WordLaws.{PassingKeepsLists, DoneIsSeen, NoneIsUnnamed, RemovalKeepsLists, RoomKeepsLists, ListsAreWritten}
 use Rattle.mvo_representation.proofs.Done.{each_live}
 use Rattle.mvo_representation.proofs.Facts.{found_holds, preparing_is}
@@ -113,21 +113,21 @@ may_abort s table t same (inr p) = inr (p.0, sym same ∙ p.1)
 pub lists_are_written : ListsAreWritten
 lists_are_written opening steps s states slots lists places words t h m l = go (may_abort s (phases_of states) t (h.versions.phases t) m)
   where
-    go : MayAbort (phase_in s) t → IsWritten t slots (map (λ p. (number_at p).0) (words t))
+    go : MayAbort (phase_in s) t → AreWrittenBy t slots (map (λ p. (number_at_word p).0) (words t))
     go (inl a) =
         let r = active_there s t a in
         let w = active_holds (IsActiveListed s slots words) t s.active r.0 r.1 l.active in
-        subst (λ (u : ℕ). IsWritten u slots (map (λ p. (number_at p).0) (words u))) w.1 w.0.written
+        subst (λ (u : ℕ). AreWrittenBy u slots (map (λ p. (number_at_word p).0) (words u))) w.1 w.0.written
     go (inr p) =
         let x = preparing_is s t p.0 p.1 in
         let w = found_holds (IsPreparingListed s slots words) t s.stamped x.0 x.1 l.preparing in
-        subst (λ (u : ℕ). IsWritten u slots (map (λ p. (number_at p).0) (words u))) w.1 (w.0 w.2).written
+        subst (λ (u : ℕ). AreWrittenBy u slots (map (λ p. (number_at_word p).0) (words u))) w.1 (w.0 w.2).written
 
 -- ---- whether it is done
 pub done_is_seen : DoneIsSeen
 done_is_seen s slots words u e l =
     ap is_last_word e
-    ∙ ap (λ n. nat_le n 1) (stand_length s slots u.id u.words (named slots u.id (words u.id)) (find_holds (IsEndedListed s slots words) (is_ended_as u.id) s.ended u e l.ended).0)
+    ∙ ap (λ n. nat_le n 1) (stand_length s slots u.id u.words (places_naming slots u.id (words u.id)) (find_holds (IsEndedListed s slots words) (is_ended_as u.id) s.ended u e l.ended).0)
 
 -- no place names it
 pub unnamed_where_none : (slots : Slots) (t : ℕ) → ((p : WordPlace) → names_at slots t p ≡ true → ⊥) → IsUnnamed t (all_versions slots)
@@ -136,7 +136,7 @@ unnamed_where_none slots t f = each_live (λ v. (names t v.begin ≡ false) × (
   go (End (number n)) v e (names t v.end) refl,
 ))
   where
-    go : (p : WordPlace) (v : Version) → version_at slots (number_at p) ≡ Some v → (b : Bool) → names t (word_at p v) ≡ b → names t (word_at p v) ≡ false
+    go : (p : WordPlace) (v : Version) → version_at slots (number_at_word p) ≡ Some v → (b : Bool) → names t (word_at p v) ≡ b → names t (word_at p v) ≡ false
     go p v e true q = absurd (f p (names_here slots t p v e ∙ q))
     go p v e false q = q
 
@@ -177,14 +177,14 @@ passing_keeps_lists opening steps s states slots lists places words words' u p p
             omega (arith, o, z)
 
     passed : (w : EndedTx) → IsEndedListed s slots words w → (w.id ≡ u.id) ⊎ (w.id ≡ u.id → ⊥) → IsEndedListed s slots words' w
-    passed w o (inr d) = subst (λ qs. StandAt s slots w.id w.words (named slots w.id qs)) (sym (now.others w.id d)) o
+    passed w o (inr d) = subst (λ qs. StandAt s slots w.id w.words (places_naming slots w.id qs)) (sym (now.others w.id d)) o
     passed w o (inl i) = subst (λ qs. StandAt s slots w.id w.words qs) same o
       where
-        same : named slots w.id (words w.id) ≡ named slots w.id (words' w.id)
+        same : places_naming slots w.id (words w.id) ≡ places_naming slots w.id (words' w.id)
         same =
-            ap (λ (x : ℕ). named slots x (words x)) i ∙ ap (named slots u.id) is
-            ∙ ap (λ (b : Bool). cond b (p ∷ named slots u.id ps) (named slots u.id ps)) silent
-            ∙ sym (ap (λ (x : ℕ). named slots x (words' x)) i ∙ ap (named slots u.id) now.here)
+            ap (λ (x : ℕ). places_naming slots x (words x)) i ∙ ap (places_naming slots u.id) is
+            ∙ ap (λ (b : Bool). cond b (p ∷ places_naming slots u.id ps) (places_naming slots u.id ps)) silent
+            ∙ sym (ap (λ (x : ℕ). places_naming slots x (words' x)) i ∙ ap (places_naming slots u.id) now.here)
 
     absent : (t : ℕ) → phase_in s t ≡ Absent → (t ≡ u.id) ⊎ (t ≡ u.id → ⊥) → words' t ≡ []
     absent t q (inl i) = absurd (ended_there s u.id u e (ap (phase_in s) (sym i) ∙ q))
@@ -196,18 +196,18 @@ removal_keeps_lists s slots slots' words v n at free others gone l = record {
   once = λ t p e. l.once t p (sym (same t p) ∙ e);
   active = each_weaker (IsActiveListed s slots words) (IsActiveListed s slots' words) (λ r o. own r.id (words_of r.history r.claims) (words r.id) o) s.active l.active;
   preparing = each_weaker (IsPreparingListed s slots words) (IsPreparingListed s slots' words) (λ x o q. own x.id (words_of x.history x.claims) (words x.id) (o q)) s.stamped l.preparing;
-  ended = each_weaker (IsEndedListed s slots words) (IsEndedListed s slots' words) (λ u o. subst (StandAt s slots' u.id u.words) (filter_always (names_at slots u.id) (names_at slots' u.id) (words u.id) (λ p. sym (same u.id p))) (stand u.id u.words (named slots u.id (words u.id)) o)) s.ended l.ended;
+  ended = each_weaker (IsEndedListed s slots words) (IsEndedListed s slots' words) (λ u o. subst (StandAt s slots' u.id u.words) (filter_always (names_at slots u.id) (names_at slots' u.id) (words u.id) (λ p. sym (same u.id p))) (stand u.id u.words (places_naming slots u.id (words u.id)) o)) s.ended l.ended;
   absent = l.absent;
 }
   where
-    unnamed_there : (t : ℕ) (p : WordPlace) → (number_at p).0 ≡ n → names_at slots t p ≡ false
+    unnamed_there : (t : ℕ) (p : WordPlace) → (number_at_word p).0 ≡ n → names_at slots t p ≡ false
     unnamed_there t (Begin m) e = names_here slots t (Begin m) v (ap (λ (i : ℕ). version_at slots (number i)) e ∙ at) ∙ (free t).0
     unnamed_there t (End m) e = names_here slots t (End m) v (ap (λ (i : ℕ). version_at slots (number i)) e ∙ at) ∙ (free t).1
 
     same : (t : ℕ) (p : WordPlace) → names_at slots' t p ≡ names_at slots t p
-    same t p = elim (cases_eq (number_at p).0 n) [
+    same t p = elim (cases_eq (number_at_word p).0 n) [
       | inl e ↦ names_none slots' t p (ap (λ (i : ℕ). version_at slots' (number i)) e ∙ gone) ∙ sym (unnamed_there t p e)
-      | inr d ↦ names_like slots slots' t p (others (number_at p) d)
+      | inr d ↦ names_like slots slots' t p (others (number_at_word p) d)
     ]
 
     none_version : (w : Version) → ◌≡◌ {A = Option Version} None (Some w) → ⊥
@@ -224,9 +224,9 @@ removal_keeps_lists s slots slots' words v n at free others gone l = record {
     }
 
     word : (t : ℕ) (w : Word) (p : WordPlace) → IsWordAt s slots t w p → IsWordAt s slots' t w p
-    word t w p o = elim (cases_eq (number_at p).0 n) [
+    word t w p o = elim (cases_eq (number_at_word p).0 n) [
       | inl i ↦ absurd (true≢false (sym (names_here slots t p o.version o.at ∙ o.named) ∙ unnamed_there t p i))
-      | inr d ↦ record { version = o.version; at = others (number_at p) d ∙ o.at; named = o.named; is = word_like s s slots slots' t w p o.version o.version (like t) (record { key = refl; stamp = refl; begin = λ e. e }) o.is }
+      | inr d ↦ record { version = o.version; at = others (number_at_word p) d ∙ o.at; named = o.named; is = word_like s s slots slots' t w p o.version o.version (like t) (record { key = refl; stamp = refl; begin = λ e. e }) o.is }
     ]
 
     stand : (t : ℕ) (ws : List Word) (ps : List WordPlace) → StandAt s slots t ws ps → StandAt s slots' t ws ps
@@ -242,15 +242,15 @@ removal_keeps_lists s slots slots' words v n at free others gone l = record {
     ]
 
     own : (t : ℕ) (ws : List Word) (ps : List WordPlace) → HasOwnWords s slots t ws ps → HasOwnWords s slots' t ws ps
-    own t ws ps o = record { stand = stand t ws ps o.stand; written = others_keep_written t slots slots' (map (λ p. (number_at p).0) ps) (written t) o.written }
+    own t ws ps o = record { stand = stand t ws ps o.stand; written = others_keep_written t slots slots' (map (λ p. (number_at_word p).0) ps) (written t) o.written }
 
 -- ---- slots with more room
 pub room_keeps_lists : RoomKeepsLists
 room_keeps_lists s slots slots' words same l = record {
-  once = λ t p e. l.once t p (sym (names_like slots slots' t p (same (number_at p))) ∙ e);
+  once = λ t p e. l.once t p (sym (names_like slots slots' t p (same (number_at_word p))) ∙ e);
   active = each_weaker (IsActiveListed s slots words) (IsActiveListed s slots' words) (λ r o. own r.id (words_of r.history r.claims) (words r.id) o) s.active l.active;
   preparing = each_weaker (IsPreparingListed s slots words) (IsPreparingListed s slots' words) (λ x o q. own x.id (words_of x.history x.claims) (words x.id) (o q)) s.stamped l.preparing;
-  ended = each_weaker (IsEndedListed s slots words) (IsEndedListed s slots' words) (λ u o. subst (StandAt s slots' u.id u.words) (filter_always (names_at slots u.id) (names_at slots' u.id) (words u.id) (λ p. sym (names_like slots slots' u.id p (same (number_at p))))) (stand_weaker s s slots slots' u.id (word u.id) u.words (named slots u.id (words u.id)) o)) s.ended l.ended;
+  ended = each_weaker (IsEndedListed s slots words) (IsEndedListed s slots' words) (λ u o. subst (StandAt s slots' u.id u.words) (filter_always (names_at slots u.id) (names_at slots' u.id) (words u.id) (λ p. sym (names_like slots slots' u.id p (same (number_at_word p))))) (stand_weaker s s slots slots' u.id (word u.id) u.words (places_naming slots u.id (words u.id)) o)) s.ended l.ended;
   absent = l.absent;
 }
   where
@@ -258,7 +258,7 @@ room_keeps_lists s slots slots' words same l = record {
     like t = record { clock = omega arith; own = λ a e. e; puts = λ m w a e q. (m, w, sym (same m) ∙ e, refl, q) }
 
     word : (t : ℕ) (w : Word) (p : WordPlace) → IsWordAt s slots t w p → IsWordAt s slots' t w p
-    word t w p o = record { version = o.version; at = same (number_at p) ∙ o.at; named = o.named; is = word_like s s slots slots' t w p o.version o.version (like t) (record { key = refl; stamp = refl; begin = λ e. e }) o.is }
+    word t w p o = record { version = o.version; at = same (number_at_word p) ∙ o.at; named = o.named; is = word_like s s slots slots' t w p o.version o.version (like t) (record { key = refl; stamp = refl; begin = λ e. e }) o.is }
 
     own : (t : ℕ) (ws : List Word) (ps : List WordPlace) → HasOwnWords s slots t ws ps → HasOwnWords s slots' t ws ps
-    own t ws ps o = record { stand = stand_weaker s s slots slots' t (word t) ws ps o.stand; written = others_keep_written t slots slots' (map (λ p. (number_at p).0) ps) (λ m. ap (own_words t) (same (number m))) o.written }
+    own t ws ps o = record { stand = stand_weaker s s slots slots' t (word t) ws ps o.stand; written = others_keep_written t slots slots' (map (λ p. (number_at_word p).0) ps) (λ m. ap (own_words t) (same (number m))) o.written }

@@ -20,26 +20,25 @@ use Rattle.mvo_theory.proofs.Who.{active_holds}
 use Rattle.mvo_chain.specs.declared.version.Version.{Version}
 use Rattle.mvo_chain.specs.Slots.{Slots, version_at}
 use Rattle.mvo_hash.specs.Lists.{Lists, number}
-use Rattle.mvo_range.specs.Place.{Map as Places, place_cmp}
+use Rattle.mvo_range.specs.Place.{PlaceNumbers as Places, place_cmp}
 use Rattle.mvo_visible.specs.Words.{States, names}
 use Rattle.mvo_work.specs.declared.word_place.WordPlace.{WordPlace}
 use Rattle.mvo_work.specs.declared.word_place.WordPlace.TheVariants.{Begin, End}
 use Rattle.mvo_representation.specs.Words.{Phases, ends_of, end_in}
 use Rattle.mvo_representation.specs.Versions.{IsKnown, AreVersionsOf}
 use Rattle.mvo_representation.specs.Indexes.{all_versions, is_of_key, is_at_place, HasNumbers, HasPlaces}
-use Rattle.mvo_representation.specs.Laws.{StandsFor}
+use Rattle.mvo_representation.specs.Laws.{VersionsStandFor}
 use Rattle.mvo_representation.specs.Steps.{IsOneChanged}
 use Rattle.mvo_representation.specs.Table.{phases_of}
 use Rattle.mvo_representation.specs.Order.{word_of_stamp}
 use Rattle.mvo_representation.specs.Order.HasSameWords.{Same}
 use Rattle.mvo_representation.specs.OrderLaws.{HaveNow}
-use Rattle.mvo_representation.specs.WordLists.{number_at, word_at, names_at, finished}
+use Rattle.mvo_representation.specs.WordLists.{number_at_word, word_at, names_at, finished}
 use Rattle.mvo_representation.specs.WordLaws.{FinishedIsAlike, FinishedStands}
 use Rattle.mvo_representation.proofs.Indexed.{there-at}
 use Rattle.mvo_representation.proofs.Finish.{kept_word}
-use Rattle.mvo_representation.proofs.OrderLists.{some_version}
 use Rattle.mvo_representation.proofs.OrderSteps.{live}
-use Rattle.mvo_representation.proofs.Slots.{slot_changed}
+use Rattle.mvo_representation.proofs.Slots.{slot_changed, some_version}
 use Rattle.mvo_representation.proofs.WordPlaces.{names_here}
 use Rattle.mvo_representation.proofs.WordsSaid.{ended_not_active, active_there}
 use Rattle.mvo_representation.proofs.WordsFinished.{row_stays, begin_alike, end_alike, begin_names, end_names, end_stays}
@@ -111,7 +110,7 @@ one_changed slots slots' n v w at now = subst (IsOneChanged v w (all_versions sl
     same m (inl i) = ap (λ (j : ℕ). slice_index_or (slice_set slots n (Some w)) j None) i ∙ get_or-set_same slots n (Some w) None (in_range slots n v at) ∙ sym (ap (λ (j : ℕ). slice_index_or slots' j None) i ∙ now.here)
     same m (inr d) = get_or-set_other slots n m (Some w) None d ∙ sym (now.others (number m) d)
 
-finished_versions : (opening : Map) (steps : List Step) (s : State) (states : States) (slots slots' : Slots) (lists : Lists) (places : Places) (u : EndedTx) (p : WordPlace) (v : Version) → StandsFor opening steps s states slots lists places → ended_of u.id s.ended ≡ Some u → version_at slots (number_at p) ≡ Some v → names_at slots u.id p ≡ true → HaveNow slots slots' (number_at p).0 (finished (ends_of (phases_of states)) u.id p v) → AreVersionsOf s (phases_of states) (all_versions slots')
+finished_versions : (opening : Map) (steps : List Step) (s : State) (states : States) (slots slots' : Slots) (lists : Lists) (places : Places) (u : EndedTx) (p : WordPlace) (v : Version) → VersionsStandFor opening steps s states slots lists places → ended_of u.id s.ended ≡ Some u → version_at slots (number_at_word p) ≡ Some v → names_at slots u.id p ≡ true → HaveNow slots slots' (number_at_word p).0 (finished (ends_of (phases_of states)) u.id p v) → AreVersionsOf s (phases_of states) (all_versions slots')
 finished_versions opening steps s states slots slots' lists places u p v h e at name now =
     subst (AreVersionsOf s table) c.is (kept_word s table c.before v w c.after (subst (AreVersionsOf s table) (sym c.was) h.versions) (sym (row_stays (ends_of table) u.id p v))
     (record { stamp = sym (begin_alike (ends_of table) u.id p v mine); active = each_weaker (λ r. r.id ≢ u.id) (λ r. names r.id v.begin ≡ names r.id w.begin) (λ r d. sym (begin_names (ends_of table) u.id r.id p v mine d)) s.active apart })
@@ -126,7 +125,7 @@ finished_versions opening steps s states slots slots' lists places u p v h e at 
     w = finished (ends_of table) u.id p v
 
     c : IsOneChanged v w (all_versions slots) (all_versions slots')
-    c = one_changed slots slots' (number_at p).0 v w at now
+    c = one_changed slots slots' (number_at_word p).0 v w at now
 
     mine : names u.id (word_at p v) ≡ true
     mine = sym (names_here slots u.id p v at) ∙ name
@@ -135,7 +134,7 @@ finished_versions opening steps s states slots slots' lists places u p v h e at 
     apart = ended_not_active s u.id u h.kept.single e
 
     was : IsKnown s table v.begin × IsKnown s table v.end
-    was = live slots (λ x. IsKnown s table x.begin × IsKnown s table x.end) h.versions.known (number_at p).0 v at
+    was = live slots (λ x. IsKnown s table x.begin × IsKnown s table x.end) h.versions.known (number_at_word p).0 v at
 
     known : (o : Outcome) → table u.id ≡ ended_as o → IsKnown s table (word_of_stamp (ends_of table u.id))
     known (Commits n) q = subst (λ (x : Option ℕ). IsKnown s table (word_of_stamp x)) (sym (ap end_in q)) (h.versions.committed u.id n q)
@@ -172,6 +171,6 @@ pub finished_stands : FinishedStands
 finished_stands opening steps s states slots slots' lists places u p v h e at name now = record {
   kept = h.kept;
   versions = finished_versions opening steps s states slots slots' lists places u p v h e at name now;
-  numbers = numbers_alike slots slots' lists (number_at p).0 v (finished (ends_of (phases_of states)) u.id p v) at now (row_stays (ends_of (phases_of states)) u.id p v) h.numbers;
-  order = places_alike v (finished (ends_of (phases_of states)) u.id p v) (all_versions slots) (all_versions slots') places (one_changed slots slots' (number_at p).0 v (finished (ends_of (phases_of states)) u.id p v) at now) (row_stays (ends_of (phases_of states)) u.id p v) h.order;
+  numbers = numbers_alike slots slots' lists (number_at_word p).0 v (finished (ends_of (phases_of states)) u.id p v) at now (row_stays (ends_of (phases_of states)) u.id p v) h.numbers;
+  order = places_alike v (finished (ends_of (phases_of states)) u.id p v) (all_versions slots) (all_versions slots') places (one_changed slots slots' (number_at_word p).0 v (finished (ends_of (phases_of states)) u.id p v) at now) (row_stays (ends_of (phases_of states)) u.id p v) h.order;
 }

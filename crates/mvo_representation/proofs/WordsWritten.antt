@@ -39,7 +39,7 @@ use Rattle.mvo_chain.specs.declared.version.Version.{Version}
 use Rattle.mvo_chain.specs.declared.version.VersionNo.{VersionNo}
 use Rattle.mvo_chain.specs.Slots.{Slots, version_at}
 use Rattle.mvo_hash.specs.Lists.{Lists, number}
-use Rattle.mvo_range.specs.Place.{Map as Places}
+use Rattle.mvo_range.specs.Place.{PlaceNumbers as Places}
 use Rattle.mvo_visible.specs.Words.{States, names}
 use Rattle.mvo_work.specs.declared.word_place.WordPlace.{WordPlace}
 use Rattle.mvo_work.specs.declared.word_place.WordPlace.TheVariants.{Begin, End}
@@ -49,10 +49,10 @@ use Rattle.mvo_representation.specs.Indexes.{all_versions}
 use Rattle.mvo_representation.specs.Steps.{MayEnd, IsOneMore, IsOwnNewest, IsFreeToEnd, fresh, ended_by}
 use Rattle.mvo_representation.specs.Steps.MayEnd.{Own as IsOwn, Other}
 use Rattle.mvo_representation.specs.Table.{phases_of}
-use Rattle.mvo_representation.specs.Laws.{StandsFor}
-use Rattle.mvo_representation.specs.Order.{IsWritten}
+use Rattle.mvo_representation.specs.Laws.{VersionsStandFor}
+use Rattle.mvo_representation.specs.Order.{AreWrittenBy}
 use Rattle.mvo_representation.specs.OrderLaws.{HaveNow}
-use Rattle.mvo_representation.specs.WordLists.{WordLists, HaveListNow, number_at, named, StandAt, HasOwnWords, HasWordLists}
+use Rattle.mvo_representation.specs.WordLists.{WordLists, HaveListNow, number_at_word, places_naming, StandAt, HasOwnWords, HasWordLists}
 use Rattle.mvo_representation.specs.WordLaws.{InsertKeepsLists, DeleteKeepsLists, UpdateKeepsLists}
 use Rattle.mvo_representation.proofs.Answers.{only_mine}
 use Rattle.mvo_representation.proofs.Collect.{leaves_row, leaves_put}
@@ -141,12 +141,12 @@ free_preparing opening steps s slots (By y) k i c = go (phase_in s y.0) refl c
     go (IsCommitted e) q g = absurd (none_cause (cause.Stamped (record { 0 = e })) g)
     go IsAborted q g = let u = aborted_there s y.0 q in each_weaker (λ x. x.settled ≡ false → x.id ≢ y.0) (λ x. x.settled ≡ false → names x.id (By y) ≡ false) (λ x d n. ne_eqb y.0 x.id (λ e. d n (sym e))) s.stamped (ended_not_preparing s y.0 u.0 k.single u.1)
 
-numbers_push : (ps : List WordPlace) (q : WordPlace) → map (λ p. (number_at p).0) (ps ++ q ∷ []) ≡ map (λ p. (number_at p).0) ps ++ (number_at q).0 ∷ []
+numbers_push : (ps : List WordPlace) (q : WordPlace) → map (λ p. (number_at_word p).0) (ps ++ q ∷ []) ≡ map (λ p. (number_at_word p).0) ps ++ (number_at_word q).0 ∷ []
 numbers_push [] q = refl
-numbers_push (p ∷ ps) q = ap (λ ns. (number_at p).0 ∷ ns) (numbers_push ps q)
+numbers_push (p ∷ ps) q = ap (λ ns. (number_at_word p).0 ∷ ns) (numbers_push ps q)
 
 -- ---- one that writes
-module _ (opening : Map) (steps : List Step) (s : State) (states : States) (slots : Slots) (lists : Lists) (places : Places) (words : WordLists) (r : ActiveTx) (h : StandsFor opening steps s states slots lists places) (f : active_of r.id s.active ≡ Some r) (l : HasWordLists s slots words) where
+module _ (opening : Map) (steps : List Step) (s : State) (states : States) (slots : Slots) (lists : Lists) (places : Places) (words : WordLists) (r : ActiveTx) (h : VersionsStandFor opening steps s states slots lists places) (f : active_of r.id s.active ≡ Some r) (l : HasWordLists s slots words) where
   same_table : phases_of states ≡ phase_in s
   same_table = λ i t. h.versions.phases t i
 
@@ -183,7 +183,7 @@ module _ (opening : Map) (steps : List Step) (s : State) (states : States) (slot
     apart_ended = active_not_ended s r.id r h.kept.single f;
   }
 
-  written : IsWritten r.id slots (map (λ p. (number_at p).0) (words r.id))
+  written : AreWrittenBy r.id slots (map (λ p. (number_at_word p).0) (words r.id))
   written = (active_holds (IsActiveListed s slots words) r.id s.active r f l.active).0.written
 
   lifted : (s' : State) → s.clock ≤ s'.clock → ends_in s' ≡ ends_in s → (ws : List Word) → IsListedAround s s slots words r.id ws s.ended → IsListedAround s s' slots words r.id ws s.ended
@@ -191,14 +191,14 @@ module _ (opening : Map) (steps : List Step) (s : State) (states : States) (slot
     once = g.once;
     active = each_weaker (λ q. q.id ≢ r.id → IsActiveListed s slots words q) (λ q. q.id ≢ r.id → IsActiveListed s' slots words q) (λ q o d. own_self s s' slots q.id le path (words_of q.history q.claims) (words q.id) (o d)) s.active g.active;
     preparing = each_weaker (IsPreparingListed s slots words) (IsPreparingListed s' slots words) (λ x o q. own_self s s' slots x.id le path (words_of x.history x.claims) (words x.id) (o q)) s.stamped g.preparing;
-    ended = each_weaker (IsEndedListed s slots words) (IsEndedListed s' slots words) (λ u o. stand_self s s' slots u.id le path u.words (named slots u.id (words u.id)) o) s.ended g.ended;
+    ended = each_weaker (IsEndedListed s slots words) (IsEndedListed s' slots words) (λ u o. stand_self s s' slots u.id le path u.words (places_naming slots u.id (words u.id)) o) s.ended g.ended;
     mine = stand_self s s' slots r.id le path ws (words r.id) g.mine;
     apart = g.apart;
     apart_ended = g.apart_ended;
   }
 
   -- with its own words, these are the lists of all
-  active_closed : (s' : State) (slots' : Slots) (words' : WordLists) (op : Op) (a : AnswerData) (ws : List Word) (us : List EndedTx) → IsListedAround s s' slots' words' r.id ws us → words_told s r.id op a r ≡ ws → IsWritten r.id slots' (map (λ p. (number_at p).0) (words' r.id)) → AllByRecursion (IsActiveListed s' slots' words') (map (with_answer s r.id op a) s.active)
+  active_closed : (s' : State) (slots' : Slots) (words' : WordLists) (op : Op) (a : AnswerData) (ws : List Word) (us : List EndedTx) → IsListedAround s s' slots' words' r.id ws us → words_told s r.id op a r ≡ ws → AreWrittenBy r.id slots' (map (λ p. (number_at_word p).0) (words' r.id)) → AllByRecursion (IsActiveListed s' slots' words') (map (with_answer s r.id op a) s.active)
   active_closed s' slots' words' op a ws us g told w = each_map (with_answer s r.id op a) (λ q. (q.id ≡ r.id → q ≡ r) × (q.id ≢ r.id → IsActiveListed s' slots' words' q)) (IsActiveListed s' slots' words') (λ q x. closed q x.0 x.1 (cases_eq q.id r.id)) s.active
       (each_both (λ q. q.id ≡ r.id → q ≡ r) (λ q. q.id ≢ r.id → IsActiveListed s' slots' words' q) (λ q. (q.id ≡ r.id → q ≡ r) × (q.id ≢ r.id → IsActiveListed s' slots' words' q)) (λ q x y. (x, y)) s.active (only_mine r.id r s.active h.kept.numbered.distinct f) g.active)
     where
@@ -216,7 +216,7 @@ module _ (opening : Map) (steps : List Step) (s : State) (states : States) (slot
       go (inl i) = absurd (differ (sym is_active ∙ sym (same r.id) ∙ ap (phase_in s') (sym i) ∙ q))
       go (inr d) = list.others u d ∙ l.absent u (sym (same u) ∙ q)
 
-  closed_plain : (slots' : Slots) (words' : WordLists) (op : Op) (a : AnswerData) (ws : List Word) (ps : List WordPlace) → HaveListNow words words' r.id ps → IsListedAround s (after_operation s r.id op a) slots' words' r.id ws s.ended → words_told s r.id op a r ≡ ws → IsWritten r.id slots' (map (λ p. (number_at p).0) (words' r.id)) → HasWordLists (after_operation s r.id op a) slots' words'
+  closed_plain : (slots' : Slots) (words' : WordLists) (op : Op) (a : AnswerData) (ws : List Word) (ps : List WordPlace) → HaveListNow words words' r.id ps → IsListedAround s (after_operation s r.id op a) slots' words' r.id ws s.ended → words_told s r.id op a r ≡ ws → AreWrittenBy r.id slots' (map (λ p. (number_at_word p).0) (words' r.id)) → HasWordLists (after_operation s r.id op a) slots' words'
   closed_plain slots' words' op a ws ps list g told w = record {
     once = g.once;
     active = active_closed (after_operation s r.id op a) slots' words' op a ws s.ended g told w;
@@ -225,7 +225,7 @@ module _ (opening : Map) (steps : List Step) (s : State) (states : States) (slot
     absent = absent_closed (after_operation s r.id op a) words' ps (phases_told op a) list;
   }
 
-  closed_taken : (c : Claim) (slots' : Slots) (words' : WordLists) (op : Op) (a : AnswerData) (ws : List Word) (ps : List WordPlace) → HaveListNow words words' r.id ps → IsListedAround s (taken_over (Some c) (after_operation s r.id op a)) slots' words' r.id ws (taken_over (Some c) (after_operation s r.id op a)).ended → words_told s r.id op a r ≡ ws → IsWritten r.id slots' (map (λ p. (number_at p).0) (words' r.id)) → HasWordLists (taken_over (Some c) (after_operation s r.id op a)) slots' words'
+  closed_taken : (c : Claim) (slots' : Slots) (words' : WordLists) (op : Op) (a : AnswerData) (ws : List Word) (ps : List WordPlace) → HaveListNow words words' r.id ps → IsListedAround s (taken_over (Some c) (after_operation s r.id op a)) slots' words' r.id ws (taken_over (Some c) (after_operation s r.id op a)).ended → words_told s r.id op a r ≡ ws → AreWrittenBy r.id slots' (map (λ p. (number_at_word p).0) (words' r.id)) → HasWordLists (taken_over (Some c) (after_operation s r.id op a)) slots' words'
   closed_taken c slots' words' op a ws ps list g told w = record {
     once = g.once;
     active = active_closed (taken_over (Some c) (after_operation s r.id op a)) slots' words' op a ws (taken_over (Some c) (after_operation s r.id op a)).ended g told w;
@@ -235,12 +235,12 @@ module _ (opening : Map) (steps : List Step) (s : State) (states : States) (slot
   }
 
   -- ---- an insert
-  pub inserted : (slots' : Slots) (words' : WordLists) (row : RowData) (n : ℕ) → version_at slots (number n) ≡ None → HaveNow slots slots' n (fresh r.id row) → HaveListNow words words' r.id (words r.id ++ Begin (number n) ∷ []) → IsWritten r.id slots' (map (λ p. (number_at p).0) (words r.id) ++ n ∷ []) → HasWordLists (after_operation s r.id (Insert row) Inserted) slots' words'
+  pub inserted : (slots' : Slots) (words' : WordLists) (row : RowData) (n : ℕ) → version_at slots (number n) ≡ None → HaveNow slots slots' n (fresh r.id row) → HaveListNow words words' r.id (words r.id ++ Begin (number n) ∷ []) → AreWrittenBy r.id slots' (map (λ p. (number_at_word p).0) (words r.id) ++ n ∷ []) → HasWordLists (after_operation s r.id (Insert row) Inserted) slots' words'
   inserted slots' words' row n hole now list w =
       closed_plain slots' words' (Insert row) Inserted (words_of r.history r.claims ++ Own ∷ []) (words r.id ++ Begin (number n) ∷ []) list
       (put_around s (after_operation s r.id (Insert row) Inserted) slots slots' words words' r.id row n hole now (ap (λ (x : Ends). x r.id) (path_told (Insert row) Inserted) ∙ ap end_in is_active) list (words_of r.history r.claims) s.ended (lifted (after_operation s r.id (Insert row) Inserted) (omega arith) (path_told (Insert row) Inserted) (words_of r.history r.claims) start))
       (told_own s r.id (Insert row) Inserted r refl)
-      (subst (IsWritten r.id slots') (sym (ap (map (λ p. (number_at p).0)) list.here ∙ numbers_push (words r.id) (Begin (number n)))) w)
+      (subst (AreWrittenBy r.id slots') (sym (ap (map (λ p. (number_at_word p).0)) list.here ∙ numbers_push (words r.id) (Begin (number n)))) w)
 
   -- ---- an end
   module _ (v : Version) (n : ℕ) (at : version_at slots (number n) ≡ Some v) (op : Op) (a : AnswerData) (key : ended_key op a ≡ Some v.row.key) where
@@ -377,10 +377,10 @@ module _ (opening : Map) (steps : List Step) (s : State) (states : States) (slot
           kept : names r.id v.end ≡ false
           kept = not_mine v.end free.unnamed
 
-          ended_one : (u : EndedTx) → u.id ≢ r.id → ended_of u.id s.ended ≡ Some u → IsEndedListed s slots words u → StandAt s' between u.id (words_without c u.outcome u.words) (named between u.id (words' u.id))
+          ended_one : (u : EndedTx) → u.id ≢ r.id → ended_of u.id s.ended ≡ Some u → IsEndedListed s slots words u → StandAt s' between u.id (words_without c u.outcome u.words) (places_naming between u.id (words' u.id))
           ended_one u d e g = go u.outcome refl
             where
-              go : (y : Outcome) → u.outcome ≡ y → StandAt s' between u.id (words_without c y u.words) (named between u.id (words' u.id))
+              go : (y : Outcome) → u.outcome ≡ y → StandAt s' between u.id (words_without c y u.words) (places_naming between u.id (words' u.id))
               go Aborted q = taken_ended s s' slots between words words' r.id v n (omega arith) (path_taken c op a) at now list kept c refl put only_put u d (ap end_in (ended_phase s u h.kept.single e ∙ ap ended_as q)) g
               go (Committed m) q = end_ended s s' slots between words words' r.id v n (omega arith) (path_taken c op a) at now list kept u d (free_committed s u.id m v.end (ended_phase s u h.kept.single e ∙ ap ended_as q) o.free) g
 
@@ -388,7 +388,7 @@ module _ (opening : Map) (steps : List Step) (s : State) (states : States) (slot
 pub insert_keeps_lists : InsertKeepsLists
 insert_keeps_lists opening steps s states slots slots' lists places words words' r row n h f gone hole now list l =
     inserted opening steps s states slots lists places words r h f l slots' words' row n hole now list
-    (insert_is_written opening steps s states slots slots' lists places r row n (map (λ p. (number_at p).0) (words r.id)) h f gone hole now (written opening steps s states slots lists places words r h f l))
+    (insert_is_written opening steps s states slots slots' lists places r row n (map (λ p. (number_at_word p).0) (words r.id)) h f gone hole now (written opening steps s states slots lists places words r h f l))
 
 -- the lists between the End and the Begin of an update
 abbrev between_lists : WordLists → ℕ → List WordPlace → WordLists
@@ -409,8 +409,8 @@ delete_keeps_lists opening steps s states slots slots' lists places words words'
     c : Claim
     c = record { key = v.row.key; origin = origin s r.id v.row.key }
 
-    w : IsWritten r.id slots' (map (λ p. (number_at p).0) (words' r.id))
-    w = subst (IsWritten r.id slots') (sym (ap (map (λ p. (number_at p).0)) list.here ∙ numbers_push (words r.id) (End (number n)))) (delete_is_written opening steps s states slots slots' lists places r v n (map (λ p. (number_at p).0) (words r.id)) h f at may now (written opening steps s states slots lists places words r h f l))
+    w : AreWrittenBy r.id slots' (map (λ p. (number_at_word p).0) (words' r.id))
+    w = subst (AreWrittenBy r.id slots') (sym (ap (map (λ p. (number_at_word p).0)) list.here ∙ numbers_push (words r.id) (End (number n)))) (delete_is_written opening steps s states slots slots' lists places r v n (map (λ p. (number_at_word p).0) (words r.id)) h f at may now (written opening steps s states slots lists places words r h f l))
 
     go : MayEnd s (phase_in s) r.id (all_versions slots) v → HasWordLists (after_answer s r.id (Delete v.row.key) Deleted) slots' words'
     go (IsOwn o) = subst (λ (x : Option Claim). HasWordLists (taken_over x (after_operation s r.id (Delete v.row.key) Deleted)) slots' words') (sym (no_claim opening steps s states slots lists places words r h f l v n at (Delete v.row.key) Deleted refl o))
@@ -441,9 +441,9 @@ update_keeps_lists opening steps s states slots between slots' lists places word
     key_of : ◌≡◌ {A = Option RowKey} (Some row.key) (Some v.row.key)
     key_of = ap (λ (k : RowKey). Some k) key
 
-    w : IsWritten r.id slots' (map (λ p. (number_at p).0) (words' r.id))
-    w = subst (IsWritten r.id slots') (sym (ap (map (λ p. (number_at p).0)) list.here ∙ numbers_push ps (Begin (number m)) ∙ ap (λ ns. ns ++ m ∷ []) (numbers_push (words r.id) (End (number n)))))
-        (update_is_written opening steps s states slots between slots' lists places r v row n m (map (λ p. (number_at p).0) (words r.id)) h f at key may ended hole now (written opening steps s states slots lists places words r h f l))
+    w : AreWrittenBy r.id slots' (map (λ p. (number_at_word p).0) (words' r.id))
+    w = subst (AreWrittenBy r.id slots') (sym (ap (map (λ p. (number_at_word p).0)) list.here ∙ numbers_push ps (Begin (number m)) ∙ ap (λ ns. ns ++ m ∷ []) (numbers_push (words r.id) (End (number n)))))
+        (update_is_written opening steps s states slots between slots' lists places r v row n m (map (λ p. (number_at_word p).0) (words r.id)) h f at key may ended hole now (written opening steps s states slots lists places words r h f l))
 
     -- the End is that of the version's key
     word : (x : Word) → end_word r.history (claims_with s r (Some row.key)) v.row.key ≡ x → words_by r.history (claims_with s r (Some row.key)) (Update row) Updated ≡ x ∷ Own ∷ []

@@ -11,7 +11,6 @@ use Rattle.std.proofs.lemmas.List.Folds.{list_any-append}
 use Rattle.std.proofs.lemmas.Map.Views.{tells_apart}
 use Rattle.mvo_types.proofs.Maps.{exact_keys, keys_total}
 use Rattle.mvo_types.specs.declared.row.RowKey.{RowKey}
-use Rattle.mvo_types.specs.declared.cause.Cause.{Cause}
 use Rattle.mvo_types.specs.declared.cause.Cause.TheVariants as cause
 use Rattle.mvo_types.specs.declared.op.Op.{Op}
 use Rattle.mvo_types.specs.AnswerData.{AnswerData}
@@ -28,13 +27,14 @@ use Rattle.mvo_theory.specs.Changes.{after_operation}
 use Rattle.mvo_theory.specs.Sound.{IsSound, IsStarted, IsNumbered}
 use Rattle.mvo_theory.proofs.Each.{each_weaker, each_both, each_always, each_append}
 use Rattle.mvo_theory.proofs.Who.{active_holds, id_of}
+use Rattle.mvo_theory.proofs.Claims.{none_cause}
 use Rattle.mvo_word.specs.declared.held.Held.{Held}
 use Rattle.mvo_word.specs.declared.held.Held.TheVariants.{At, By, Infinity}
 use Rattle.mvo_chain.specs.declared.version.Version.{Version}
 use Rattle.mvo_representation.specs.Words.{Phases, Ends, end_in, ends_of, stamp_in, is_stamp, has_stamp, cause_of_phase, cause_at_end, NetEffect, with_effect, effect_by, effect_of, net_effect, as_net_effect, standing, IsShownAt, is_clash}
 use Rattle.mvo_visible.specs.Words.{names}
 use Rattle.mvo_representation.specs.Words.NetEffect.{Untouched, Removed, Puts, Clash}
-use Rattle.mvo_representation.specs.Versions.{Say, IsKnown, IsClaimed, HasClaims, IsInside, AreVersionsOf}
+use Rattle.mvo_representation.specs.Versions.{Say, IsKnown, EndIsClaimed, EndHasClaims, IsInside, AreVersionsOf}
 use Rattle.mvo_representation.proofs.Effects.{net_effect-at}
 use Rattle.mvo_representation.proofs.Facts.{phase_active, stamp_drawn}
 use Rattle.mvo_representation.proofs.Shown.{active_begins, behind_is, stands_below}
@@ -44,13 +44,9 @@ use Rattle.mvo_representation.proofs.Kept.{IsSame, same_trans, IsVersion, each_v
 use Rattle.mvo_representation.proofs.Answers.{IsOnly, only_mine, Wrote, IsApartFrom, ClaimsMore, claims_answered, known_answered, inside_answered, version_answered, kept_after_operation}
 use Rattle.mvo_representation.specs.Steps.{IsOwnNewest, fresh, ended_by}
 use Rattle.mvo_representation.proofs.Own.{IsFree, own_id, not_absent, same_effect, wrote_fresh, wrote_end_other, wrote_end_own, wrote_both, same_fresh, same_end, apart_fresh, apart_end, apart_both, version_fresh, free_after}
+use Rattle.mvo_representation.proofs.Collect.{each_drop}
+use Rattle.mvo_representation.proofs.Decided.{none_end, some_end}
 use Rattle.mvo_types.specs.Write.Effect.{Put, Delete as Gone}
-
-none_end : (e : ℕ) → ◌≡◌ {A = Option ℕ} None (Some e) → ⊥
-none_end e q = cc
-
-some_end : (a b : ℕ) → ◌≡◌ {A = Option ℕ} (Some a) (Some b) → a ≡ b
-some_end a b q = cc
 
 -- ---- the one that writes
 pub record IsWriter (s : State) (table : Phases) (t : ℕ) (mine : ActiveTx) (vs : List Version) : Type 0 where
@@ -104,9 +100,6 @@ pub record IsClaimable (s : State) (ends : Ends) (w : Held) : Type 0 where
   pub unseen : stamp_in ends w ≡ None
   pub unnamed : AllByRecursion (λ r. names r.id w ≡ false) s.active
 
-none_cause : (c : Cause) → ◌≡◌ {A = Option Cause} (Some c) None → ⊥
-none_cause c e = cc
-
 pub claimable : (s : State) (table : Phases) (vs : List Version) (w : Held) → AreVersionsOf s table vs → IsKnown s table w → cause_at_end table w ≡ None → IsClaimable s (ends_of table) w
 claimable s table vs (At n) h k c = absurd (none_cause (cause.Stamped n) c)
 claimable s table vs Infinity h k c = record { unseen = refl; unnamed = each_always (λ r. names r.id Infinity ≡ false) (λ r. refl) s.active }
@@ -129,10 +122,6 @@ stamped_unnamed s table vs Infinity e h q = absurd (none_end e q)
 stamped_unnamed s table vs (By u) e h q = not_active s u.0 (λ i. none_end e (sym (ap end_in (h.phases u.0 ∙ i)) ∙ q))
 
 -- ---- lists with one apart
-each_drop : {X : Type 0} (P : X → Type 0) (xs : List X) (v : X) (ys : List X) → AllByRecursion P (xs ++ v ∷ ys) → AllByRecursion P (xs ++ ys)
-each_drop P [] v ys h = h.1
-each_drop P (x ∷ xs) v ys h = (h.0, each_drop P xs v ys h.1)
-
 each_insert : {X : Type 0} (P : X → Type 0) (xs : List X) (w : X) (ys : List X) → P w → AllByRecursion P (xs ++ ys) → AllByRecursion P (xs ++ w ∷ ys)
 each_insert P [] w ys p h = (p, h)
 each_insert P (x ∷ xs) w ys p h = (h.0, each_insert P xs w ys p h.1)
@@ -270,11 +259,11 @@ ends_other s table t op a mine xs v ys o sd st num h f x e = record {
       claims = λ b put _.
           let at : o ≡ b = some_end o b (sym x.shown.put ∙ put) in
           let g = was.claims o x.shown.put x.shown.stays in
-          subst (λ (m : ℕ). HasClaims (after_operation s t op a) (ends_of table) (ended_by t v) m) at (record {
+          subst (λ (m : ℕ). EndHasClaims (after_operation s t op a) (ends_of table) (ended_by t v) m) at (record {
             active = claims_answered s t op a mine (claim_of s mine v ∷ []) v.row.key o (By (record { 0 = t })) more
                 (own_id t ∙ sym (list_any-append (λ d. eq_by_cmp key_cmp v.row.key d.key && (d.origin == o)) mine.claims (claim_of s mine v ∷ []) ∙ last_true (has_claim mine.claims v.row.key o) (eq_by_cmp key_cmp v.row.key v.row.key) (eqb (origin s mine.id v.row.key) o) ((eq_by_cmp_equiv keys_total).refl v.row.key) (eq-eqb (origin s mine.id v.row.key) o is_origin)))
-                (each_both (λ q. names q.id v.end ≡ false) (λ q. IsClaimed v.row.key o (names q.id) q.claims v.end) (λ q. (q.id ≡ t → ⊥) → IsClaimed v.row.key o (names q.id) q.claims (By (record { 0 = t }))) (λ q n i d. ne_eqb t q.id (λ p. d (sym p)) ∙ sym n ∙ i) s.active free.unnamed g.active);
-            stamped = each_weaker (λ y. IsClaimed v.row.key o (has_stamp (ends_of table) y.end) y.claims v.end) (λ y. IsClaimed v.row.key o (has_stamp (ends_of table) y.end) y.claims (By (record { 0 = t }))) (λ y i. ap (is_stamp y.end) (ap end_in me.active ∙ sym free.unseen) ∙ i) s.stamped g.stamped;
+                (each_both (λ q. names q.id v.end ≡ false) (λ q. EndIsClaimed v.row.key o (names q.id) q.claims v.end) (λ q. (q.id ≡ t → ⊥) → EndIsClaimed v.row.key o (names q.id) q.claims (By (record { 0 = t }))) (λ q n i d. ne_eqb t q.id (λ p. d (sym p)) ∙ sym n ∙ i) s.active free.unnamed g.active);
+            stamped = each_weaker (λ y. EndIsClaimed v.row.key o (has_stamp (ends_of table) y.end) y.claims v.end) (λ y. EndIsClaimed v.row.key o (has_stamp (ends_of table) y.end) y.claims (By (record { 0 = t }))) (λ y i. ap (is_stamp y.end) (ap end_in me.active ∙ sym free.unseen) ∙ i) s.stamped g.stamped;
           });
       forward = λ b m _ is. absurd (none_end m (sym (ap end_in me.active) ∙ is));
       inside = inside_answered s t op a (ended_by t v) (each_weaker (λ q. names q.id v.begin ≡ false) (IsInside (ended_by t v)) (λ q n is. absurd (true≢false (sym is ∙ n))) s.active (stamped_unnamed s table (xs ++ v ∷ ys) v.begin o h x.shown.put));

@@ -16,7 +16,7 @@ use Rattle.mvo_visible.specs.Words.{States}
 use Rattle.mvo_visible.specs.Versions.{versions_at}
 use Rattle.mvo_visible.specs.Shown.{shown_to}
 use Rattle.mvo_deps.specs.declared.node.Node.{Node}
-use Rattle.mvo_deps.specs.Data.{is_among}
+use Rattle.mvo_deps.specs.Data.{is_id_among}
 use Rattle.mvo_deps.specs.Graph.{IsDependencyGraph}
 use Rattle.mvo_representation.specs.Words.{ends_of, is_met}
 use Rattle.mvo_representation.specs.Indexes.{all_versions}
@@ -47,16 +47,16 @@ pub record AreDependencies (s : State) (op : Op) (r : ActiveTx) (ids : List TxId
       AllByRecursion
       (λ x. x.settled ≡ false
       → has_end (dependencies s op r) x.end
-      ≡ (has_end r.depends_on x.end || is_among (tx_id x.id) ids)) s.stamped
+      ≡ (has_end r.depends_on x.end || is_id_among (tx_id x.id) ids)) s.stamped
 
 -- ---- whom the rules name
 -- on whom it makes the transaction t depend, what the rules show it of the key
 abbrev pub named_at : States → Slots → Lists → ℕ → RowKey → Option TxId
 named_at states slots lists t k = (shown_to states t t (versions_at slots lists k)).depends_on
 
-abbrev pub named : Option TxId → List TxId
-named None = []
-named (Some id) = id ∷ []
+abbrev pub named_ids : Option TxId → List TxId
+named_ids None = []
+named_ids (Some id) = id ∷ []
 
 -- whether a scan of t meets a row of the key
 abbrev pub is_met_at : States → State → Slots → ℕ → ℕ → ℕ → ℕ → RowKey → Bool
@@ -68,7 +68,7 @@ is_met_at states s slots t table lo hi q =
 pub record AreNamedByScan (s : State) (states : States) (slots : Slots) (lists : Lists)
     (t table lo hi : ℕ) (ids : List TxId) : Type 0 where
   pub each : (q : RowKey) (id : TxId) → is_met_at states s slots t table lo hi q ≡ true
-      → named_at states slots lists t q ≡ Some id → is_among id ids ≡ true
+      → named_at states slots lists t q ≡ Some id → is_id_among id ids ≡ true
   pub only :
       AllByRecursion
       (λ id. (q : RowKey) × (is_met_at states s slots t table lo hi q ≡ true)

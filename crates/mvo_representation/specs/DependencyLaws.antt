@@ -20,10 +20,10 @@ use Rattle.mvo_theory.specs.Words.{is_done}
 use Rattle.mvo_theory.specs.Calls.{IsKept}
 use Rattle.mvo_txn.specs.declared.state.TxState.TheVariants.{Active, Preparing, Committed, Aborted}
 use Rattle.mvo_txn.specs.Txns as txns
-use Rattle.mvo_txn.specs.Txns.{Txns, no_txns, state_of, kept_of, IsPreparing, IsUnended, IsEnded}
+use Rattle.mvo_txn.specs.Txns.{Txns, no_txns, state_of, kept_of, IsPreparingState, IsUnended, IsEnded}
 use Rattle.mvo_chain.specs.Slots.{Slots}
 use Rattle.mvo_hash.specs.Lists.{Lists}
-use Rattle.mvo_range.specs.Place.{Map as Places}
+use Rattle.mvo_range.specs.Place.{PlaceNumbers as Places}
 use Rattle.mvo_visible.specs.Words.{States}
 use Rattle.mvo_deps.specs.declared.node.Node.{Node}
 use Rattle.mvo_deps.specs.Data as deps
@@ -31,8 +31,8 @@ use Rattle.mvo_deps.specs.Data.{no_dependencies}
 use Rattle.mvo_deps.specs.Nodes.{data_of, after_register_all, IsReported}
 use Rattle.mvo_deps.specs.Graph.{KeepsGraphAtCommit, KeepsGraphAtAbort}
 use Rattle.mvo_deps.specs.Waiting.{IsLeastOpen, HasNoneOpen}
-use Rattle.mvo_representation.specs.Laws.{StandsFor}
-use Rattle.mvo_representation.specs.Dependencies.{HasDependencies, AreDependencies, tx_id, named, named_at, AreNamedByScan}
+use Rattle.mvo_representation.specs.Laws.{VersionsStandFor}
+use Rattle.mvo_representation.specs.Dependencies.{HasDependencies, AreDependencies, tx_id, named_ids, named_at, AreNamedByScan}
 
 -- ---- what each call leaves
 -- a core is opened with an empty table
@@ -45,14 +45,14 @@ abbrev pub BeginInTable : Type 0 → Type 0
 BeginInTable P = (opening : Map) (steps : List Step) (s : State) (old : Txns (Node P))
     (node : Node P) → IsKept opening steps s → HasDependencies s old
     → node.dependencies ≡ no_dependencies
-    → HasDependencies (after_begin s (s.clock + 1)) (txns.after_begin old node)
+    → HasDependencies (after_begin s (s.clock + 1)) (txns.table_after_begin old node)
 
 -- the caller writes what it keeps of a transaction beside its dependencies
 abbrev pub WriteInTable : Type 0 → Type 0
 WriteInTable P = (s : State) (old : Txns (Node P)) (t : ℕ) (node written : Node P)
     → HasDependencies s old → kept_of old t ≡ Some node
     → written.dependencies ≡ node.dependencies
-    → HasDependencies s (txns.after_write old t written)
+    → HasDependencies s (txns.table_after_write old t written)
 
 -- an operation is answered, and those are registered on whom it lets the transaction depend
 abbrev pub AnswerInTable : Type 0 → Type 0
@@ -66,15 +66,15 @@ AnswerInTable P = (opening : Map) (steps : List Step) (s : State) (old : Txns (N
 abbrev pub KeyNames : Type 0
 KeyNames = (opening : Map) (steps : List Step) (s : State) (states : States) (slots : Slots)
     (lists : Lists) (places : Places) (t : ℕ) (op : Op) (r : ActiveTx) (k : RowKey)
-    → StandsFor opening steps s states slots lists places → active_of t s.active ≡ Some r
-    → entry_of op ≡ Key k → AreDependencies s op r (named (named_at states slots lists t k))
+    → VersionsStandFor opening steps s states slots lists places → active_of t s.active ≡ Some r
+    → entry_of op ≡ Key k → AreDependencies s op r (named_ids (named_at states slots lists t k))
 
 -- and of a scan, whom they name at the keys that it meets
 abbrev pub ScanNames : Type 0
 ScanNames = (opening : Map) (steps : List Step) (s : State) (states : States) (slots : Slots)
     (lists : Lists) (places : Places) (t : ℕ) (r : ActiveTx) (table lo hi : ℕ)
     (ids : List TxId)
-    → StandsFor opening steps s states slots lists places → active_of t s.active ≡ Some r
+    → VersionsStandFor opening steps s states slots lists places → active_of t s.active ≡ Some r
     → AreNamedByScan s states slots lists t table lo hi ids
     → AreDependencies s (Scan table lo hi) r ids
 
@@ -82,7 +82,7 @@ ScanNames = (opening : Map) (steps : List Step) (s : State) (states : States) (s
 abbrev pub PrecommitInTable : Type 0 → Type 0
 PrecommitInTable P = (opening : Map) (steps : List Step) (s : State) (old : Txns (Node P))
     (t : ℕ) → IsKept opening steps s → HasDependencies s old → state_of old t ≡ Some Active
-    → HasDependencies (after_precommit s t) (txns.after_prepare old t)
+    → HasDependencies (after_precommit s t) (txns.table_after_prepare old t)
 
 -- a check changes nothing
 abbrev pub CheckInTable : Type 0 → Type 0
@@ -95,8 +95,8 @@ CommitInTable P = (opening : Map) (steps : List Step) (s : State)
     (old untold new : Txns (Node P)) (t : TxId) (end : Stamp)
     → IsKept opening steps s → HasDependencies s old
     → state_of old t.0 ≡ Some (Preparing end)
-    → untold ≡ txns.after_change old t.0 (Committed end)
-    → IsReported deps.after_commit untold new t → KeepsGraphAtCommit untold new t
+    → untold ≡ txns.table_after_change old t.0 (Committed end)
+    → IsReported deps.after_dependency_commit untold new t → KeepsGraphAtCommit untold new t
     → HasDependencies (after_commit_now s t.0) new
 
 -- an Active or a Preparing transaction is aborted in the table, and then reported
@@ -104,8 +104,8 @@ abbrev pub AbortInTable : Type 0 → Type 0
 AbortInTable P = (opening : Map) (steps : List Step) (s : State)
     (old untold new : Txns (Node P)) (t : TxId)
     → IsKept opening steps s → HasDependencies s old → IsUnended (state_of old t.0)
-    → untold ≡ txns.after_change old t.0 Aborted
-    → IsReported (deps.after_abort t) untold new t → KeepsGraphAtAbort untold new t
+    → untold ≡ txns.table_after_change old t.0 Aborted
+    → IsReported (deps.after_dependency_abort t) untold new t → KeepsGraphAtAbort untold new t
     → HasDependencies (after_abort s t.0) new
 
 -- a word that is replaced, but for the last, changes nothing
@@ -139,7 +139,7 @@ TellsFlagOfActive P = (s : State) (table : Txns (Node P)) (t : ℕ)
 
 abbrev pub TellsFlagOfPreparing : Type 0 → Type 0
 TellsFlagOfPreparing P = (s : State) (table : Txns (Node P)) (t : ℕ)
-    → HasDependencies s table → IsPreparing (state_of table t)
+    → HasDependencies s table → IsPreparingState (state_of table t)
     → option_map (λ by. by.0) (data_of table (tx_id t)).aborted
     ≡ flag_of_preparing (preparing_of t s.stamped)
 
@@ -147,7 +147,7 @@ TellsFlagOfPreparing P = (s : State) (table : Txns (Node P)) (t : ℕ)
 abbrev pub TellsAwaited : Type 0 → Type 0
 TellsAwaited P = (opening : Map) (steps : List Step) (s : State) (table : Txns (Node P))
     (t : TxId) (whom : Option TxId)
-    → IsKept opening steps s → HasDependencies s table → IsPreparing (state_of table t.0)
+    → IsKept opening steps s → HasDependencies s table → IsPreparingState (state_of table t.0)
     → MatchOption whom (HasNoneOpen table (data_of table t).on)
     (IsLeastOpen table (data_of table t).on)
     → option_map (λ id. id.0) whom ≡ option_map (λ x. x.id) (awaited s t.0)
@@ -156,5 +156,5 @@ TellsAwaited P = (opening : Map) (steps : List Step) (s : State) (table : Txns (
 abbrev pub CountsAwaited : Type 0 → Type 0
 CountsAwaited P = (opening : Map) (steps : List Step) (s : State) (table : Txns (Node P))
     (t : TxId) → IsKept opening steps s → HasDependencies s table
-    → IsPreparing (state_of table t.0)
+    → IsPreparingState (state_of table t.0)
     → is_some (awaited s t.0) ≡ nat_lt 0 (data_of table t).unsettled

@@ -10,8 +10,8 @@ use Rattle.mvo_theory.specs.State.{State}
 use Rattle.mvo_chain.specs.declared.version.Version.{Version}
 use Rattle.mvo_chain.specs.Slots.{Slots}
 use Rattle.mvo_hash.specs.Lists.{Lists, numbers_of}
-use Rattle.mvo_range.specs.declared.place.Place.{Place}
-use Rattle.mvo_range.specs.Place.{Map as Places, place_cmp}
+use Rattle.mvo_range.specs.declared.sort_place.SortPlace.{SortPlace}
+use Rattle.mvo_range.specs.Place.{PlaceNumbers as Places, place_cmp}
 use Rattle.mvo_representation.specs.Words.{Phases}
 use Rattle.mvo_representation.specs.Versions.{AreVersionsOf}
 use Rattle.mvo_representation.specs.Nodes.{Nodes, HasNodes, HasDrawnDependents}
@@ -44,15 +44,15 @@ pub record HasNumbers (slots : Slots) (lists : Lists) : Type 0 where
       ≡ cond (is_of_key k (slice_index_or slots n None)) 1 0
 
 -- where a version stands in the order of sorts
-abbrev pub place_of : Version → Place
-place_of v = record { table = v.row.key.table; sort = v.row.sort; key = v.row.key.key }
+abbrev pub version_place : Version → SortPlace
+version_place v = record { table = v.row.key.table; sort = v.row.sort; key = v.row.key.key }
 
-abbrev pub is_at_place : Place → Version → Bool
-is_at_place p v = eq_by_cmp place_cmp p (place_of v)
+abbrev pub is_at_place : SortPlace → Version → Bool
+is_at_place p v = eq_by_cmp place_cmp p (version_place v)
 
 -- the ordered index has just the places of the versions
 pub record HasPlaces (vs : List Version) (places : Places) : Type 0 where
-  pub at : (p : Place) → is_some (fin.get places p) ≡ list_any (is_at_place p) vs
+  pub at : (p : SortPlace) → is_some (fin.get places p) ≡ list_any (is_at_place p) vs
 
 -- the table, the dependencies, the versions and the indexes are those of the state
 pub record Represents (s : State) (table : Phases) (nodes : Nodes) (slots : Slots) (lists : Lists)

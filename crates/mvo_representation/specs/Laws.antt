@@ -18,7 +18,7 @@ use Rattle.mvo_chain.specs.declared.version.Version.{Version}
 use Rattle.mvo_chain.specs.declared.version.VersionNo.{VersionNo}
 use Rattle.mvo_chain.specs.Slots.{Slots, version_at}
 use Rattle.mvo_hash.specs.Lists.{Lists}
-use Rattle.mvo_range.specs.Place.{Map as Places}
+use Rattle.mvo_range.specs.Place.{PlaceNumbers as Places}
 use Rattle.mvo_visible.specs.Words.{States}
 use Rattle.mvo_visible.specs.Causes.{cause_of}
 use Rattle.mvo_visible.specs.Versions.{versions_at}
@@ -35,7 +35,7 @@ use Rattle.mvo_representation.specs.Steps.{MayEnd, IsAfterCall}
 use Rattle.mvo_representation.specs.Table.{phases_of, content_shown, place_with, end_awaited, IsShown}
 
 -- What a core has stands for a state that its steps lead to.
-pub record StandsFor (opening : Map) (steps : List Step) (s : State) (states : States)
+pub record VersionsStandFor (opening : Map) (steps : List Step) (s : State) (states : States)
     (slots : Slots) (lists : Lists) (places : Places) : Type 0 where
   pub kept : IsKept opening steps s
   pub versions : AreVersionsOf s (phases_of states) (all_versions slots)
@@ -58,7 +58,7 @@ EachCallKeeps = (opening : Map) (steps : List Step) (s : State) (c : Call) (r : 
 abbrev pub ShowsSnapshot : Type 0
 ShowsSnapshot = (opening : Map) (steps : List Step) (s : State) (states : States) (slots : Slots)
     (lists : Lists) (places : Places) (r : ActiveTx) (k : RowKey)
-    → StandsFor opening steps s states slots lists places → active_of r.id s.active ≡ Some r
+    → VersionsStandFor opening steps s states slots lists places → active_of r.id s.active ≡ Some r
     → content_shown slots (shown_to states r.id r.id (versions_at slots lists k)).version
     ≡ fin.get (snapshot s r.id) k
 
@@ -66,7 +66,7 @@ ShowsSnapshot = (opening : Map) (steps : List Step) (s : State) (states : States
 abbrev pub DependsSo : Type 0
 DependsSo = (opening : Map) (steps : List Step) (s : State) (states : States) (slots : Slots)
     (lists : Lists) (places : Places) (op : Op) (r : ActiveTx) (k : RowKey)
-    → StandsFor opening steps s states slots lists places → active_of r.id s.active ≡ Some r
+    → VersionsStandFor opening steps s states slots lists places → active_of r.id s.active ≡ Some r
     → entry_of op ≡ Key k → dependencies s op r
     ≡ with_open r.depends_on
     (end_awaited states (shown_to states r.id r.id (versions_at slots lists k)).depends_on)
@@ -75,7 +75,7 @@ DependsSo = (opening : Map) (steps : List Step) (s : State) (states : States) (s
 abbrev pub ShownIsThere : Type 0
 ShownIsThere = (opening : Map) (steps : List Step) (s : State) (states : States) (slots : Slots)
     (lists : Lists) (places : Places) (r : ActiveTx) (k : RowKey) (number : VersionNo)
-    → StandsFor opening steps s states slots lists places → active_of r.id s.active ≡ Some r
+    → VersionsStandFor opening steps s states slots lists places → active_of r.id s.active ≡ Some r
     → (shown_to states r.id r.id (versions_at slots lists k)).version ≡ Some number
     → IsShown s states slots r.id k number
 
@@ -83,7 +83,7 @@ ShownIsThere = (opening : Map) (steps : List Step) (s : State) (states : States)
 abbrev pub FreeMayBeEnded : Type 0
 FreeMayBeEnded = (opening : Map) (steps : List Step) (s : State) (states : States) (slots : Slots)
     (lists : Lists) (places : Places) (r : ActiveTx) (k : RowKey) (number : VersionNo)
-    → StandsFor opening steps s states slots lists places → active_of r.id s.active ≡ Some r
+    → VersionsStandFor opening steps s states slots lists places → active_of r.id s.active ≡ Some r
     → (shown : IsShown s states slots r.id k number)
     → cause_of states r.id shown.version.end ≡ None
     → MayEnd s (phases_of states) r.id (all_versions slots) shown.version
@@ -93,7 +93,7 @@ abbrev pub TellsCause : Type 0
 TellsCause = (opening : Map) (steps : List Step) (s : State) (states : States) (slots : Slots)
     (lists : Lists) (places : Places) (r : ActiveTx) (number : VersionNo) (v : Version)
     (stamp : ℕ)
-    → StandsFor opening steps s states slots lists places → active_of r.id s.active ≡ Some r
+    → VersionsStandFor opening steps s states slots lists places → active_of r.id s.active ≡ Some r
     → version_at slots number ≡ Some v
     → net_write v.row.key (history_of_active r.id s.active) ≡ None
     → IsShownAt (ends_of (phases_of states)) r.id v.row.key (all_versions slots) v stamp
@@ -103,7 +103,7 @@ TellsCause = (opening : Map) (steps : List Step) (s : State) (states : States) (
 abbrev pub NamesChange : Type 0
 NamesChange = (opening : Map) (steps : List Step) (s : State) (states : States) (slots : Slots)
     (lists : Lists) (places : Places) (begin end' : ℕ) (entry : Entry)
-    → StandsFor opening steps s states slots lists places → s.start ≤ begin → begin < end'
+    → VersionsStandFor opening steps s states slots lists places → s.start ≤ begin → begin < end'
     → stamp_between begin end' (changes_of states (versions_in slots lists places entry))
     ≡ change_of s.stamped begin end' entry
 
@@ -111,7 +111,7 @@ NamesChange = (opening : Map) (steps : List Step) (s : State) (states : States) 
 abbrev pub RowsArePlaced : Type 0
 RowsArePlaced = (opening : Map) (steps : List Step) (s : State) (states : States) (slots : Slots)
     (lists : Lists) (places : Places) (r : ActiveTx) (k : RowKey) (h : ContentData)
-    → StandsFor opening steps s states slots lists places → active_of r.id s.active ≡ Some r
+    → VersionsStandFor opening steps s states slots lists places → active_of r.id s.active ≡ Some r
     → fin.get (snapshot s r.id) k ≡ Some h → is_some (fin.get places (place_with k h)) ≡ true
 
 -- A scan meets just the keys that count for it.
@@ -119,7 +119,7 @@ abbrev pub MeetsWhatCounts : Type 0
 MeetsWhatCounts = (opening : Map) (steps : List Step) (s : State) (states : States)
     (slots : Slots) (lists : Lists) (places : Places) (r : ActiveTx) (table lo hi : ℕ)
     (q : RowKey)
-    → StandsFor opening steps s states slots lists places → active_of r.id s.active ≡ Some r
+    → VersionsStandFor opening steps s states slots lists places → active_of r.id s.active ≡ Some r
     → is_met (ends_of (phases_of states)) s.start r.id
     (is_row_of (shows (Range table lo hi)) q) (all_versions slots)
     ≡ counts_for (Range table lo hi) q r.id s.base s.stamped

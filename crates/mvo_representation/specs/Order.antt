@@ -12,7 +12,7 @@ use Rattle.mvo_model.specs.Trace.Phase.{Active, Preparing}
 use Rattle.mvo_visible.specs.declared.seen.Seen.{Seen}
 use Rattle.mvo_visible.specs.declared.seen.Seen.TheVariants.{Nothing, Settled, Speculative}
 use Rattle.mvo_visible.specs.Words.{States, names}
-use Rattle.mvo_visible.specs.Versions.{Numbered, versions_at}
+use Rattle.mvo_visible.specs.Versions.{NumberedVersion, versions_at}
 use Rattle.mvo_visible.specs.Fronts.{with_front}
 use Rattle.mvo_representation.specs.Words.{Phases, Ends, ends_of, stamp_in, has_stamp}
 use Rattle.mvo_representation.specs.Table.{phases_of}
@@ -28,14 +28,14 @@ IsUpTo s None = ⊤
 IsUpTo s (Some e) = e ≤ s
 
 -- the stamp of the put, or else that of the removal
-abbrev pub first_stamp : Ends → Version → Option ℕ
-first_stamp ends v = option_or (stamp_in ends v.begin) (stamp_in ends v.end)
+abbrev pub first_change_stamp : Ends → Version → Option ℕ
+first_change_stamp ends v = option_or (stamp_in ends v.begin) (stamp_in ends v.end)
 
 -- behind a put with a stamp no put has a greater one, nor has the removal of a version whose put
 -- has none
 abbrev pub HasFallingPut : Ends → Version → Version → Type 0
 HasFallingPut ends w v =
-    (s : ℕ) → stamp_in ends w.begin ≡ Some s → IsUpTo s (first_stamp ends v)
+    (s : ℕ) → stamp_in ends w.begin ≡ Some s → IsUpTo s (first_change_stamp ends v)
 
 -- up to the start, no removal has a greater one either
 abbrev pub HasFallingRemoval : Ends → ℕ → Version → Version → Type 0
@@ -65,7 +65,7 @@ pub record MayPrecede (start : ℕ) (table : Phases) (w v : Version) : Type 0 wh
   pub writes : (t : ℕ) → table t ≡ Active → WritesInFront (ends_of table) t w v
 
 -- ---- the versions of a key, and of each key
-abbrev pub StandInOrder : ℕ → Phases → List Numbered → Type 0
+abbrev pub StandInOrder : ℕ → Phases → List NumberedVersion → Type 0
 StandInOrder start table vs = EachPair (λ w v. MayPrecede start table w.1 v.1) vs
 
 abbrev pub AllStandInOrder : ℕ → States → Slots → Lists → Type 0
@@ -101,7 +101,7 @@ IsEndedBefore t slots m n =
 
 -- these are the numbers of the versions that t put or ended, in the order of writing as far as it
 -- counts
-pub record IsWritten (t : ℕ) (slots : Slots) (ns : List ℕ) : Type 0 where
+pub record AreWrittenBy (t : ℕ) (slots : Slots) (ns : List ℕ) : Type 0 where
   pub all : (n : ℕ) (v : Version) → version_at slots (number n) ≡ Some v
       → is_written_by t v ≡ true → is_among n ns ≡ true
   pub only :

@@ -15,8 +15,8 @@ use Rattle.mvo_word.specs.declared.held.Held.TheVariants.{At, Infinity}
 use Rattle.mvo_chain.specs.declared.version.Version.{Version}
 use Rattle.mvo_chain.specs.declared.version.VersionNo.{VersionNo}
 use Rattle.mvo_chain.specs.Slots.{Slots, version_at, IsHole, with_room, with_slot, with_change}
-use Rattle.mvo_hash.specs.Lists.{Lists, IsFresh, is_among, number, numbers_of}
-use Rattle.mvo_range.specs.Place.{Map as Places}
+use Rattle.mvo_hash.specs.Lists.{Lists, IsNewNumber, is_among, number, numbers_of}
+use Rattle.mvo_range.specs.Place.{PlaceNumbers as Places}
 use Rattle.mvo_txn.specs.declared.state.TxState.TheVariants.{Active, Preparing, Committed, Aborted}
 use Rattle.mvo_visible.specs.Words.{States, seen_of}
 use Rattle.mvo_visible.specs.Shown.{AllHaveFallingStamps}
@@ -27,14 +27,14 @@ use Rattle.mvo_representation.specs.Versions.{AreVersionsOf}
 use Rattle.mvo_representation.specs.Indexes.{all_versions, HasNumbers}
 use Rattle.mvo_representation.specs.Steps.{MayEnd, IsUnnamed, fresh, ended_by}
 use Rattle.mvo_representation.specs.Table.{phases_of}
-use Rattle.mvo_representation.specs.Laws.{StandsFor}
-use Rattle.mvo_representation.specs.Order.{AllStandInOrder, with_fronts, comes_forward, is_put_by, IsWritten, is_nothing, MayAbort, IsSeenAlike, IsFinished}
+use Rattle.mvo_representation.specs.Laws.{VersionsStandFor}
+use Rattle.mvo_representation.specs.Order.{AllStandInOrder, with_fronts, comes_forward, is_put_by, AreWrittenBy, is_nothing, MayAbort, IsSeenAlike, IsFinished}
 
 -- ---- what follows
 -- Versions that stand in order have falling stamps, as a walk over them asks.
 abbrev pub OrderFalls : Type 0
 OrderFalls = (opening : Map) (steps : List Step) (s : State) (states : States) (slots : Slots)
-    (lists : Lists) (places : Places) → StandsFor opening steps s states slots lists places
+    (lists : Lists) (places : Places) → VersionsStandFor opening steps s states slots lists places
     → AllStandInOrder s.start states slots lists → AllHaveFallingStamps states slots lists
 
 -- What an Active transaction wrote stands in front of each put that is settled below its begin.
@@ -65,8 +65,8 @@ ChangedIsNow = (slots : Slots) (number : VersionNo) (v : Version) (change : Vers
 abbrev pub InsertKeepsOrder : Type 0
 InsertKeepsOrder = (opening : Map) (steps : List Step) (s : State) (states : States)
     (slots slots' : Slots) (lists : Lists) (places : Places) (r : ActiveTx) (row : RowData) (n : ℕ)
-    → StandsFor opening steps s states slots lists places → active_of r.id s.active ≡ Some r
-    → fin.get (snapshot s r.id) row.key ≡ None → IsFresh lists n
+    → VersionsStandFor opening steps s states slots lists places → active_of r.id s.active ≡ Some r
+    → fin.get (snapshot s r.id) row.key ≡ None → IsNewNumber lists n
     → HaveNow slots slots' n (fresh r.id row) → AllStandInOrder s.start states slots lists
     → AllStandInOrder s.start states slots' (with_new lists row.key n)
 
@@ -74,7 +74,7 @@ InsertKeepsOrder = (opening : Map) (steps : List Step) (s : State) (states : Sta
 abbrev pub DeleteKeepsOrder : Type 0
 DeleteKeepsOrder = (opening : Map) (steps : List Step) (s : State) (states : States)
     (slots slots' : Slots) (lists : Lists) (places : Places) (r : ActiveTx) (v : Version) (n : ℕ)
-    → StandsFor opening steps s states slots lists places → active_of r.id s.active ≡ Some r
+    → VersionsStandFor opening steps s states slots lists places → active_of r.id s.active ≡ Some r
     → version_at slots (number n) ≡ Some v
     → MayEnd s (phases_of states) r.id (all_versions slots) v
     → HaveNow slots slots' n (ended_by r.id v) → AllStandInOrder s.start states slots lists
@@ -85,11 +85,11 @@ abbrev pub UpdateKeepsOrder : Type 0
 UpdateKeepsOrder = (opening : Map) (steps : List Step) (s : State) (states : States)
     (slots between slots' : Slots) (lists : Lists) (places : Places) (r : ActiveTx) (v : Version)
     (row : RowData) (n m : ℕ)
-    → StandsFor opening steps s states slots lists places → active_of r.id s.active ≡ Some r
+    → VersionsStandFor opening steps s states slots lists places → active_of r.id s.active ≡ Some r
     → version_at slots (number n) ≡ Some v → row.key ≡ v.row.key
     → MayEnd s (phases_of states) r.id (all_versions slots) v
     → HaveNow slots between n (ended_by r.id v)
-    → IsFresh lists m → HaveNow between slots' m (fresh r.id row)
+    → IsNewNumber lists m → HaveNow between slots' m (fresh r.id row)
     → AllStandInOrder s.start states slots lists
     → AllStandInOrder s.start states slots' (with_new lists row.key m)
 
@@ -99,9 +99,9 @@ UpdateKeepsOrder = (opening : Map) (steps : List Step) (s : State) (states : Sta
 abbrev pub DrawKeepsOrder : Type 0
 DrawKeepsOrder = (opening : Map) (steps : List Step) (s : State) (states states' : States)
     (slots : Slots) (lists : Lists) (places : Places) (t : ℕ) (end' : Stamp) (ns : List ℕ)
-    → StandsFor opening steps s states slots lists places → states t ≡ Some Active
+    → VersionsStandFor opening steps s states slots lists places → states t ≡ Some Active
     → DifferAt t states states' → states' t ≡ Some (Preparing end') → end'.0 ≡ s.clock + 1
-    → IsWritten t slots ns → AllStandInOrder s.start states slots lists
+    → AreWrittenBy t slots ns → AllStandInOrder s.start states slots lists
     → AllStandInOrder s.start states' slots
     (with_fronts (comes_forward (ends_of (phases_of states)) t) slots lists ns)
 
@@ -120,8 +120,8 @@ UnstampedIsUnseen = (states : States) (w : Held)
 abbrev pub AbortBringsOrder : Type 0
 AbortBringsOrder = (opening : Map) (steps : List Step) (s : State) (states states' : States)
     (slots : Slots) (lists : Lists) (places : Places) (t : ℕ) (ns : List ℕ)
-    → StandsFor opening steps s states slots lists places → MayAbort (phases_of states) t
-    → DifferAt t states states' → states' t ≡ Some Aborted → IsWritten t slots ns
+    → VersionsStandFor opening steps s states slots lists places → MayAbort (phases_of states) t
+    → DifferAt t states states' → states' t ≡ Some Aborted → AreWrittenBy t slots ns
     → AllStandInOrder s.start states slots lists
     → AllStandInOrder s.start states' slots (with_fronts (is_put_by t) slots lists ns)
 
@@ -144,7 +144,7 @@ SameStayInOrder = (start : ℕ) (states states' : States) (slots slots' : Slots)
 abbrev pub BeginKeepsOrder : Type 0
 BeginKeepsOrder = (opening : Map) (steps : List Step) (s : State) (states states' : States)
     (slots : Slots) (lists : Lists) (places : Places) (t : ℕ)
-    → StandsFor opening steps s states slots lists places → states t ≡ None
+    → VersionsStandFor opening steps s states slots lists places → states t ≡ None
     → DifferAt t states states' → states' t ≡ Some Active
     → AllStandInOrder s.start states slots lists → AllStandInOrder s.start states' slots lists
 
@@ -166,7 +166,7 @@ LeavingKeepsOrder = (start : ℕ) (states states' : States) (slots : Slots) (lis
 abbrev pub TrimKeepsOrder : Type 0
 TrimKeepsOrder = (opening : Map) (steps : List Step) (s : State) (states : States) (slots : Slots)
     (lists : Lists) (places : Places) (m : ℕ)
-    → StandsFor opening steps s states slots lists places → why_not_trim s m ≡ None
+    → VersionsStandFor opening steps s states slots lists places → why_not_trim s m ≡ None
     → AllStandInOrder s.start states slots lists → AllStandInOrder m states slots lists
 
 -- A version of a key is removed, or the slot of a number that no key has changes.
@@ -177,7 +177,7 @@ RemovalKeepsOrder = (start : ℕ) (states : States) (slots : Slots) (lists : Lis
 
 abbrev pub UnheldStaysInOrder : Type 0
 UnheldStaysInOrder = (start : ℕ) (states : States) (slots slots' : Slots) (lists : Lists) (n : ℕ)
-    → SlotsDifferAt n slots slots' → IsFresh lists n → AllStandInOrder start states slots lists
+    → SlotsDifferAt n slots slots' → IsNewNumber lists n → AllStandInOrder start states slots lists
     → AllStandInOrder start states slots' lists
 
 -- Where each key has one version at most, as when a core opens, they stand in order.
@@ -218,4 +218,4 @@ NumbersAreAmong = (slots : Slots) (lists : Lists) (n : ℕ) (v : Version) → Ha
 -- No key has the number of an empty slot.
 abbrev pub HolesAreFresh : Type 0
 HolesAreFresh = (slots : Slots) (lists : Lists) (n : ℕ) → HasNumbers slots lists
-    → version_at slots (number n) ≡ None → IsFresh lists n
+    → version_at slots (number n) ≡ None → IsNewNumber lists n

@@ -66,7 +66,7 @@ pub data MayEnd (s : State) (table : Phases) (t : ℕ) (vs : List Version)
 
 -- ---- an operation
 -- t ends a version of the row's key, and puts the row
-pub record IsReplaced (s : State) (table : Phases) (t : ℕ) (r : RowData)
+pub record IsVersionReplaced (s : State) (table : Phases) (t : ℕ) (r : RowData)
     (old new : List Version) : Type 0 where
   pub version : Version
   pub key : r.key ≡ version.row.key
@@ -76,7 +76,7 @@ pub record IsReplaced (s : State) (table : Phases) (t : ℕ) (r : RowData)
   pub put : IsOneMore (fresh t r) between new
 
 -- t ends a version of the key
-pub record IsRemoved (s : State) (table : Phases) (t : ℕ) (version : Version)
+pub record IsVersionRemoved (s : State) (table : Phases) (t : ℕ) (version : Version)
     (old new : List Version) : Type 0 where
   pub may : MayEnd s table t old version
   pub ended : IsOneChanged version (ended_by t version) old new
@@ -85,9 +85,9 @@ pub record IsRemoved (s : State) (table : Phases) (t : ℕ) (version : Version)
 abbrev pub IsAfterAnswer : State → Phases → ℕ → Op → AnswerData
     → List Version → List Version → Type 0
 IsAfterAnswer s table t (Insert r) Inserted old new = IsOneMore (fresh t r) old new
-IsAfterAnswer s table t (Update r) Updated old new = IsReplaced s table t r old new
+IsAfterAnswer s table t (Update r) Updated old new = IsVersionReplaced s table t r old new
 IsAfterAnswer s table t (Delete k) Deleted old new =
-    (v : Version) × (v.row.key ≡ k) × IsRemoved s table t v old new
+    (v : Version) × (v.row.key ≡ k) × IsVersionRemoved s table t v old new
 IsAfterAnswer s table t op a old new = new ≡ old
 
 -- ---- a call

@@ -12,7 +12,7 @@ use Rattle.mvo_model.specs.Trace.Phase.{Absent, Active, Preparing, Committed, Ab
 use Rattle.mvo_txn.specs.declared.state.TxState.{TxState}
 use Rattle.mvo_txn.specs.declared.state.TxState.TheVariants as state
 use Rattle.mvo_chain.specs.declared.version.VersionNo.{VersionNo}
-use Rattle.mvo_range.specs.declared.place.Place.{Place}
+use Rattle.mvo_range.specs.declared.sort_place.SortPlace.{SortPlace}
 use Rattle.mvo_chain.specs.Slots.{Slots, version_at}
 use Rattle.mvo_visible.specs.Words.{States}
 use Rattle.mvo_representation.specs.Words.{Phases, ends_of, open_end_in, IsShownAt}
@@ -39,7 +39,7 @@ content_shown slots None = None
 content_shown slots (Some n) = content_at slots n
 
 -- where a row with this content stands in the order of sorts
-abbrev pub place_with : RowKey → ContentData → Place
+abbrev pub place_with : RowKey → ContentData → SortPlace
 place_with k h = record { table = k.table; sort = h.sort; key = k.key }
 
 -- the end of the Preparing transaction that a reader depends on

@@ -59,20 +59,20 @@ abbrev pub AreKnown : State → Phases → List Version → Type 0
 AreKnown s table vs = AllByRecursion (λ v. IsKnown s table v.begin × IsKnown s table v.end) vs
 
 -- the End is the one's just if the one claimed the version that begins at a
-abbrev pub IsClaimed : RowKey → ℕ → (Held → Bool) → List Claim → Held → Type 0
-IsClaimed k a n cs w = n w ≡ has_claim cs k a
+abbrev pub EndIsClaimed : RowKey → ℕ → (Held → Bool) → List Claim → Held → Type 0
+EndIsClaimed k a n cs w = n w ≡ has_claim cs k a
 
 -- of a version that has a stamp and isn't removed with it: who claims it, and no other, is in its
 -- End
-pub record HasClaims (s : State) (ends : Ends) (v : Version) (a : ℕ) : Type 0 where
-  pub active : AllByRecursion (λ r. IsClaimed v.row.key a (names r.id) r.claims v.end) s.active
+pub record EndHasClaims (s : State) (ends : Ends) (v : Version) (a : ℕ) : Type 0 where
+  pub active : AllByRecursion (λ r. EndIsClaimed v.row.key a (names r.id) r.claims v.end) s.active
   pub stamped :
       AllByRecursion
-      (λ x. IsClaimed v.row.key a (has_stamp ends x.end) x.claims v.end) s.stamped
+      (λ x. EndIsClaimed v.row.key a (has_stamp ends x.end) x.claims v.end) s.stamped
 
 abbrev pub HasItsClaims : State → Ends → Version → Type 0
 HasItsClaims s ends v = (a : ℕ) → stamp_in ends v.begin ≡ Some a
-    → is_stamp a (stamp_in ends v.end) ≡ false → HasClaims s ends v a
+    → is_stamp a (stamp_in ends v.end) ≡ false → EndHasClaims s ends v a
 
 -- a removal isn't before the put
 abbrev pub IsForward : Ends → Version → Type 0

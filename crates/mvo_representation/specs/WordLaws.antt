@@ -18,7 +18,7 @@ use Rattle.mvo_chain.specs.declared.version.Version.{Version}
 use Rattle.mvo_chain.specs.declared.version.VersionNo.{VersionNo}
 use Rattle.mvo_chain.specs.Slots.{Slots, version_at}
 use Rattle.mvo_hash.specs.Lists.{Lists, number}
-use Rattle.mvo_range.specs.Place.{Map as Places}
+use Rattle.mvo_range.specs.Place.{PlaceNumbers as Places}
 use Rattle.mvo_visible.specs.Words.{States, names}
 use Rattle.mvo_visible.specs.Laws.{SlotsDifferAt}
 use Rattle.mvo_work.specs.declared.word_place.WordPlace.{WordPlace}
@@ -28,10 +28,10 @@ use Rattle.mvo_representation.specs.Versions.{AreVersionsOf}
 use Rattle.mvo_representation.specs.Indexes.{all_versions}
 use Rattle.mvo_representation.specs.Steps.{MayEnd, IsUnnamed, fresh, ended_by}
 use Rattle.mvo_representation.specs.Table.{phases_of}
-use Rattle.mvo_representation.specs.Laws.{StandsFor}
-use Rattle.mvo_representation.specs.Order.{IsWritten, IsSeenAlike, MayAbort}
+use Rattle.mvo_representation.specs.Laws.{VersionsStandFor}
+use Rattle.mvo_representation.specs.Order.{AreWrittenBy, IsSeenAlike, MayAbort}
 use Rattle.mvo_representation.specs.OrderLaws.{HaveNow}
-use Rattle.mvo_representation.specs.WordLists.{WordLists, HasWordLists, HaveListNow, named, names_at, number_at, finished}
+use Rattle.mvo_representation.specs.WordLists.{WordLists, HasWordLists, HaveListNow, places_naming, names_at, number_at_word, finished}
 
 -- ---- an opening, and a begin
 -- A core that was just opened has no list.
@@ -44,7 +44,7 @@ OpeningHasLists = (rows : Map) (mark : ℕ) (states : States) (slots : Slots)
 abbrev pub BeginKeepsLists : Type 0
 BeginKeepsLists = (opening : Map) (steps : List Step) (s : State) (states : States)
     (slots : Slots) (lists : Lists) (places : Places) (words : WordLists)
-    → StandsFor opening steps s states slots lists places → HasWordLists s slots words
+    → VersionsStandFor opening steps s states slots lists places → HasWordLists s slots words
     → HasWordLists (after_begin s (s.clock + 1)) slots words
 
 -- ---- an operation
@@ -53,7 +53,7 @@ abbrev pub InsertKeepsLists : Type 0
 InsertKeepsLists = (opening : Map) (steps : List Step) (s : State) (states : States)
     (slots slots' : Slots) (lists : Lists) (places : Places) (words words' : WordLists)
     (r : ActiveTx) (row : RowData) (n : ℕ)
-    → StandsFor opening steps s states slots lists places → active_of r.id s.active ≡ Some r
+    → VersionsStandFor opening steps s states slots lists places → active_of r.id s.active ≡ Some r
     → fin.get (snapshot s r.id) row.key ≡ None → version_at slots (number n) ≡ None
     → HaveNow slots slots' n (fresh r.id row)
     → HaveListNow words words' r.id (words r.id ++ Begin (number n) ∷ [])
@@ -65,7 +65,7 @@ abbrev pub DeleteKeepsLists : Type 0
 DeleteKeepsLists = (opening : Map) (steps : List Step) (s : State) (states : States)
     (slots slots' : Slots) (lists : Lists) (places : Places) (words words' : WordLists)
     (r : ActiveTx) (v : Version) (n : ℕ)
-    → StandsFor opening steps s states slots lists places → active_of r.id s.active ≡ Some r
+    → VersionsStandFor opening steps s states slots lists places → active_of r.id s.active ≡ Some r
     → version_at slots (number n) ≡ Some v
     → MayEnd s (phases_of states) r.id (all_versions slots) v
     → HaveNow slots slots' n (ended_by r.id v)
@@ -78,7 +78,7 @@ abbrev pub UpdateKeepsLists : Type 0
 UpdateKeepsLists = (opening : Map) (steps : List Step) (s : State) (states : States)
     (slots between slots' : Slots) (lists : Lists) (places : Places) (words words' : WordLists)
     (r : ActiveTx) (v : Version) (row : RowData) (n m : ℕ)
-    → StandsFor opening steps s states slots lists places → active_of r.id s.active ≡ Some r
+    → VersionsStandFor opening steps s states slots lists places → active_of r.id s.active ≡ Some r
     → version_at slots (number n) ≡ Some v → row.key ≡ v.row.key
     → MayEnd s (phases_of states) r.id (all_versions slots) v
     → HaveNow slots between n (ended_by r.id v)
@@ -93,7 +93,7 @@ abbrev pub AnswerKeepsLists : Type 0
 AnswerKeepsLists = (opening : Map) (steps : List Step) (s : State) (states : States)
     (slots : Slots) (lists : Lists) (places : Places) (words : WordLists) (r : ActiveTx) (op : Op)
     (a : AnswerData)
-    → StandsFor opening steps s states slots lists places → active_of r.id s.active ≡ Some r
+    → VersionsStandFor opening steps s states slots lists places → active_of r.id s.active ≡ Some r
     → write_of op a ≡ None → HasWordLists s slots words
     → HasWordLists (after_answer s r.id op a) slots words
 
@@ -101,7 +101,7 @@ AnswerKeepsLists = (opening : Map) (steps : List Step) (s : State) (states : Sta
 abbrev pub PrecommitKeepsLists : Type 0
 PrecommitKeepsLists = (opening : Map) (steps : List Step) (s : State) (states : States)
     (slots : Slots) (lists : Lists) (places : Places) (words : WordLists) (r : ActiveTx)
-    → StandsFor opening steps s states slots lists places → active_of r.id s.active ≡ Some r
+    → VersionsStandFor opening steps s states slots lists places → active_of r.id s.active ≡ Some r
     → HasWordLists s slots words → HasWordLists (after_prepare s r (s.clock + 1)) slots words
 
 abbrev pub CheckKeepsLists : Type 0
@@ -111,13 +111,13 @@ CheckKeepsLists = (s : State) (slots : Slots) (words : WordLists) (t : ℕ)
 abbrev pub CommitKeepsLists : Type 0
 CommitKeepsLists = (opening : Map) (steps : List Step) (s : State) (states : States)
     (slots : Slots) (lists : Lists) (places : Places) (words : WordLists) (t : ℕ) (x : StampedTx)
-    → StandsFor opening steps s states slots lists places → preparing_of t s.stamped ≡ Some x
+    → VersionsStandFor opening steps s states slots lists places → preparing_of t s.stamped ≡ Some x
     → HasWordLists s slots words → HasWordLists (after_commit s t x.end) slots words
 
 abbrev pub AbortKeepsLists : Type 0
 AbortKeepsLists = (opening : Map) (steps : List Step) (s : State) (states : States)
     (slots : Slots) (lists : Lists) (places : Places) (words : WordLists) (t : ℕ)
-    → StandsFor opening steps s states slots lists places → MayAbort (phases_of states) t
+    → VersionsStandFor opening steps s states slots lists places → MayAbort (phases_of states) t
     → HasWordLists s slots words → HasWordLists (after_abort s t) slots words
 
 -- ---- finishing
@@ -126,7 +126,7 @@ abbrev pub PassingKeepsLists : Type 0
 PassingKeepsLists = (opening : Map) (steps : List Step) (s : State) (states : States)
     (slots : Slots) (lists : Lists) (places : Places) (words words' : WordLists) (u : EndedTx)
     (p : WordPlace) (ps : List WordPlace)
-    → StandsFor opening steps s states slots lists places → ended_of u.id s.ended ≡ Some u
+    → VersionsStandFor opening steps s states slots lists places → ended_of u.id s.ended ≡ Some u
     → words u.id ≡ p ∷ ps → names_at slots u.id p ≡ false → HaveListNow words words' u.id ps
     → HasWordLists s slots words → HasWordLists s slots words'
 
@@ -134,17 +134,17 @@ PassingKeepsLists = (opening : Map) (steps : List Step) (s : State) (states : St
 abbrev pub DoneIsSeen : Type 0
 DoneIsSeen = (s : State) (slots : Slots) (words : WordLists) (u : EndedTx)
     → ended_of u.id s.ended ≡ Some u → HasWordLists s slots words
-    → is_done s u.id ≡ nat_le (length (named slots u.id (words u.id))) 1
+    → is_done s u.id ≡ nat_le (length (places_naming slots u.id (words u.id))) 1
 
 -- The first place names it, and others do: its word is finished, and the place goes.
 abbrev pub FinishKeepsLists : Type 0
 FinishKeepsLists = (opening : Map) (steps : List Step) (s : State) (states : States)
     (slots slots' : Slots) (lists : Lists) (places : Places) (words words' : WordLists)
     (u : EndedTx) (p : WordPlace) (ps : List WordPlace) (v : Version)
-    → StandsFor opening steps s states slots lists places → ended_of u.id s.ended ≡ Some u
-    → words u.id ≡ p ∷ ps → version_at slots (number_at p) ≡ Some v
+    → VersionsStandFor opening steps s states slots lists places → ended_of u.id s.ended ≡ Some u
+    → words u.id ≡ p ∷ ps → version_at slots (number_at_word p) ≡ Some v
     → names_at slots u.id p ≡ true → is_done s u.id ≡ false
-    → HaveNow slots slots' (number_at p).0 (finished (ends_of (phases_of states)) u.id p v)
+    → HaveNow slots slots' (number_at_word p).0 (finished (ends_of (phases_of states)) u.id p v)
     → HaveListNow words words' u.id ps → HasWordLists s slots words
     → HasWordLists (after_finish s u.id) slots' words'
 
@@ -153,57 +153,57 @@ abbrev pub LastIsUnnamed : Type 0
 LastIsUnnamed = (s : State) (states : States) (slots slots' : Slots) (words : WordLists)
     (u : EndedTx) (p : WordPlace) (ps : List WordPlace) (v : Version)
     → ended_of u.id s.ended ≡ Some u → words u.id ≡ p ∷ ps
-    → version_at slots (number_at p) ≡ Some v → names_at slots u.id p ≡ true
+    → version_at slots (number_at_word p) ≡ Some v → names_at slots u.id p ≡ true
     → is_done s u.id ≡ true
-    → HaveNow slots slots' (number_at p).0 (finished (ends_of (phases_of states)) u.id p v)
+    → HaveNow slots slots' (number_at_word p).0 (finished (ends_of (phases_of states)) u.id p v)
     → HasWordLists s slots words → IsUnnamed u.id (all_versions slots')
 
 abbrev pub LastKeepsLists : Type 0
 LastKeepsLists = (opening : Map) (steps : List Step) (s : State) (states : States)
     (slots slots' : Slots) (lists : Lists) (places : Places) (words words' : WordLists)
     (u : EndedTx) (p : WordPlace) (ps : List WordPlace) (v : Version)
-    → StandsFor opening steps s states slots lists places → ended_of u.id s.ended ≡ Some u
-    → words u.id ≡ p ∷ ps → version_at slots (number_at p) ≡ Some v
+    → VersionsStandFor opening steps s states slots lists places → ended_of u.id s.ended ≡ Some u
+    → words u.id ≡ p ∷ ps → version_at slots (number_at_word p) ≡ Some v
     → names_at slots u.id p ≡ true → is_done s u.id ≡ true
-    → HaveNow slots slots' (number_at p).0 (finished (ends_of (phases_of states)) u.id p v)
+    → HaveNow slots slots' (number_at_word p).0 (finished (ends_of (phases_of states)) u.id p v)
     → HaveListNow words words' u.id [] → HasWordLists s slots words
     → HasWordLists (after_finish s u.id) slots' words'
 
 -- No place is left: no word names it, and it is done.
 abbrev pub NoneIsUnnamed : Type 0
 NoneIsUnnamed = (s : State) (slots : Slots) (words : WordLists) (t : ℕ)
-    → named slots t (words t) ≡ [] → HasWordLists s slots words
+    → places_naming slots t (words t) ≡ [] → HasWordLists s slots words
     → IsUnnamed t (all_versions slots)
 
 abbrev pub LeavingKeepsLists : Type 0
 LeavingKeepsLists = (opening : Map) (steps : List Step) (s : State) (states : States)
     (slots : Slots) (lists : Lists) (places : Places) (words words' : WordLists) (u : EndedTx)
-    → StandsFor opening steps s states slots lists places → ended_of u.id s.ended ≡ Some u
-    → named slots u.id (words u.id) ≡ [] → HaveListNow words words' u.id []
+    → VersionsStandFor opening steps s states slots lists places → ended_of u.id s.ended ≡ Some u
+    → places_naming slots u.id (words u.id) ≡ [] → HaveListNow words words' u.id []
     → HasWordLists s slots words → HasWordLists (after_finish s u.id) slots words'
 
 -- Once a word is finished, others see the same, and what the core has stands for the same state.
 abbrev pub FinishedIsAlike : Type 0
 FinishedIsAlike = (opening : Map) (steps : List Step) (s : State) (states : States)
     (slots : Slots) (lists : Lists) (places : Places) (u : EndedTx) (p : WordPlace) (v : Version)
-    → StandsFor opening steps s states slots lists places → ended_of u.id s.ended ≡ Some u
-    → version_at slots (number_at p) ≡ Some v → names_at slots u.id p ≡ true
+    → VersionsStandFor opening steps s states slots lists places → ended_of u.id s.ended ≡ Some u
+    → version_at slots (number_at_word p) ≡ Some v → names_at slots u.id p ≡ true
     → IsSeenAlike states states v (finished (ends_of (phases_of states)) u.id p v)
 
 abbrev pub FinishedStands : Type 0
 FinishedStands = (opening : Map) (steps : List Step) (s : State) (states : States)
     (slots slots' : Slots) (lists : Lists) (places : Places) (u : EndedTx) (p : WordPlace)
     (v : Version)
-    → StandsFor opening steps s states slots lists places → ended_of u.id s.ended ≡ Some u
-    → version_at slots (number_at p) ≡ Some v → names_at slots u.id p ≡ true
-    → HaveNow slots slots' (number_at p).0 (finished (ends_of (phases_of states)) u.id p v)
-    → StandsFor opening steps s states slots' lists places
+    → VersionsStandFor opening steps s states slots lists places → ended_of u.id s.ended ≡ Some u
+    → version_at slots (number_at_word p) ≡ Some v → names_at slots u.id p ≡ true
+    → HaveNow slots slots' (number_at_word p).0 (finished (ends_of (phases_of states)) u.id p v)
+    → VersionsStandFor opening steps s states slots' lists places
 
 -- ---- the tale is trimmed, a group is closed, and a version goes
 abbrev pub TrimKeepsLists : Type 0
 TrimKeepsLists = (opening : Map) (steps : List Step) (s : State) (states : States)
     (slots : Slots) (lists : Lists) (places : Places) (words : WordLists) (m : ℕ)
-    → StandsFor opening steps s states slots lists places → why_not_trim s m ≡ None
+    → VersionsStandFor opening steps s states slots lists places → why_not_trim s m ≡ None
     → HasWordLists s slots words → HasWordLists (after_trim s m) slots words
 
 abbrev pub CloseKeepsLists : Type 0
@@ -230,9 +230,9 @@ RoomKeepsLists = (s : State) (slots slots' : Slots) (words : WordLists)
 abbrev pub ListsAreWritten : Type 0
 ListsAreWritten = (opening : Map) (steps : List Step) (s : State) (states : States)
     (slots : Slots) (lists : Lists) (places : Places) (words : WordLists) (t : ℕ)
-    → StandsFor opening steps s states slots lists places → MayAbort (phases_of states) t
+    → VersionsStandFor opening steps s states slots lists places → MayAbort (phases_of states) t
     → HasWordLists s slots words
-    → IsWritten t slots (map (λ p. (number_at p).0) (words t))
+    → AreWrittenBy t slots (map (λ p. (number_at_word p).0) (words t))
 
 -- Of two versions of a key whose puts have one stamp, one is removed with it, where it is above
 -- the start; and one is removed in any case.

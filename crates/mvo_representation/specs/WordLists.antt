@@ -15,16 +15,16 @@ use Rattle.mvo_visible.specs.Words.{names}
 use Rattle.mvo_work.specs.declared.word_place.WordPlace.{WordPlace}
 use Rattle.mvo_work.specs.declared.word_place.WordPlace.TheVariants.{Begin, End}
 use Rattle.mvo_representation.specs.Words.{Ends, ends_of, stamp_in}
-use Rattle.mvo_representation.specs.Order.{IsWritten, word_of_stamp}
+use Rattle.mvo_representation.specs.Order.{AreWrittenBy, word_of_stamp}
 
 -- ---- places
 -- the places that each transaction has on its list, by its id: none where it isn't in the table
 abbrev pub WordLists : Type 0
 WordLists = ℕ → List WordPlace
 
-abbrev pub number_at : WordPlace → VersionNo
-number_at (Begin n) = n
-number_at (End n) = n
+abbrev pub number_at_word : WordPlace → VersionNo
+number_at_word (Begin n) = n
+number_at_word (End n) = n
 
 abbrev pub is_place : WordPlace → WordPlace → Bool
 is_place (Begin n) (Begin m) = m.0 == n.0
@@ -36,17 +36,17 @@ abbrev pub word_at : WordPlace → Version → Held
 word_at (Begin n) v = v.begin
 word_at (End n) v = v.end
 
-abbrev pub is_named : ℕ → WordPlace → Option Version → Bool
-is_named t p None = false
-is_named t p (Some v) = names t (word_at p v)
+abbrev pub is_named_at : ℕ → WordPlace → Option Version → Bool
+is_named_at t p None = false
+is_named_at t p (Some v) = names t (word_at p v)
 
 -- whether the word at the place names t
 abbrev pub names_at : Slots → ℕ → WordPlace → Bool
-names_at slots t p = is_named t p (version_at slots (number_at p))
+names_at slots t p = is_named_at t p (version_at slots (number_at_word p))
 
 -- the places whose words name t
-abbrev pub named : Slots → ℕ → List WordPlace → List WordPlace
-named slots t ps = filter (names_at slots t) ps
+abbrev pub places_naming : Slots → ℕ → List WordPlace → List WordPlace
+places_naming slots t ps = filter (names_at slots t) ps
 
 -- ---- a word of the state, and where it stands
 -- no put of the key has the claim's origin as its stamp: who put it was aborted
@@ -80,7 +80,7 @@ IsWordOf s slots t (Ended c) (End n) v = IsOfClaim s slots t c v
 -- the place has a version, whose word there names t and is this one
 pub record IsWordAt (s : State) (slots : Slots) (t : ℕ) (w : Word) (p : WordPlace) : Type 0 where
   pub version : Version
-  pub at : version_at slots (number_at p) ≡ Some version
+  pub at : version_at slots (number_at_word p) ≡ Some version
   pub named : names t (word_at p version) ≡ true
   pub is : IsWordOf s slots t w p version
 
@@ -95,7 +95,7 @@ StandAt s slots t ws ps = ⊥
 pub record HasOwnWords (s : State) (slots : Slots) (t : ℕ) (ws : List Word)
     (ps : List WordPlace) : Type 0 where
   pub stand : StandAt s slots t ws ps
-  pub written : IsWritten t slots (map (λ p. (number_at p).0) ps)
+  pub written : AreWrittenBy t slots (map (λ p. (number_at_word p).0) ps)
 
 -- each word that names a transaction is on its list once. Of an ended one the places that name it
 -- have the words that are left
@@ -111,7 +111,7 @@ pub record HasWordLists (s : State) (slots : Slots) (lists : WordLists) : Type 0
       → HasOwnWords s slots x.id (words_of x.history x.claims) (lists x.id)) s.stamped
   pub ended :
       AllByRecursion
-      (λ u. StandAt s slots u.id u.words (named slots u.id (lists u.id))) s.ended
+      (λ u. StandAt s slots u.id u.words (places_naming slots u.id (lists u.id))) s.ended
   pub absent : (t : ℕ) → phase_in s t ≡ Absent → lists t ≡ []
 
 -- ---- changes

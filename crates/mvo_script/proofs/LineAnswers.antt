@@ -14,9 +14,9 @@ use Rattle.mvo_script.specs.Flushing.{IsFlush, IsFlushed}
 use Rattle.mvo_script.specs.Events.{event_by, event_of_line, name_in}
 use Rattle.mvo_script.specs.declared.bound.BoundTx.{BoundTx}
 use Rattle.mvo_script.specs.declared.driver.Driver.{Driver}
-use Rattle.mvo_line.specs.declared.line.Line.{Line}
-use Rattle.mvo_line.specs.declared.line.Line.TheVariants as line
-use Rattle.mvo_line.specs.declared.line.RowText.{RowText}
+use Rattle.mvo_script.specs.declared.line.line.Line.{Line}
+use Rattle.mvo_script.specs.declared.line.line.Line.TheVariants as line
+use Rattle.mvo_script.specs.declared.line.line.RowText.{RowText}
 
 -- ---- what is said of a value that may be none
 

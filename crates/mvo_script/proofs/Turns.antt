@@ -12,8 +12,8 @@ use Rattle.mvo_types.specs.Causes.{when, first_cause}
 use Rattle.mvo_store.specs.Causes.{why_not_take}
 use Rattle.mvo_store.specs.Calls.{StoreCall}
 use Rattle.mvo_store.specs.Calls.StoreCall.{AppendBody as AppendBodyCall, RotateWrite as RotateWriteCall, InstallClose as InstallCloseCall, InstallBody as InstallBodyCall, InstallOpen as InstallOpenCall}
-use Rattle.mvo_store.specs.declared.log_step.LogStep.{LogStep}
-use Rattle.mvo_store.specs.declared.log_step.LogStep.TheVariants.{Take, AppendBody, AppendOpen, RotateWrite, InstallClose, InstallBody, InstallOpen}
+use Rattle.mvo_store.specs.declared.append.log_step.LogStep.{LogStep}
+use Rattle.mvo_store.specs.declared.append.log_step.LogStep.TheVariants.{Take, AppendBody, AppendOpen, RotateWrite, InstallClose, InstallBody, InstallOpen}
 use Rattle.mvo_store.specs.Flushing.{IsTurn, IsAppend, IsRotatedAppend, AreUntilStop, group_append, log_rotation, turn_goes_on}
 use Rattle.mvo_store.specs.Flushing.IsAppend.{AtBody, AtOpen, AtFull}
 use Rattle.mvo_store.specs.Flushing.IsRotatedAppend.{AtRotation, AtAppend}

@@ -21,9 +21,9 @@ use Rattle.mvo_script.specs.Checkpointing.{IsCheckpoint}
 use Rattle.mvo_script.specs.Merging.{merge}
 use Rattle.mvo_script.specs.declared.bound.BoundTx.{BoundTx}
 use Rattle.mvo_script.specs.declared.driver.Driver.{Driver}
-use Rattle.mvo_line.specs.declared.line.Line.{Line}
-use Rattle.mvo_line.specs.declared.line.Line.TheVariants as line
-use Rattle.mvo_line.specs.declared.line.RowText.{RowText}
+use Rattle.mvo_script.specs.declared.line.line.Line.{Line}
+use Rattle.mvo_script.specs.declared.line.line.Line.TheVariants as line
+use Rattle.mvo_script.specs.declared.line.line.RowText.{RowText}
 use Rattle.mvo_store.specs.Seen.{mark_of}
 use Rattle.mvo_script.specs.declared.names.Names.{Names}
 
@@ -49,12 +49,12 @@ NotesEnd old new name (Settled (Committed end')) = BindsEnd old new name end'
 NotesEnd old new name _ = new ≡ old
 
 -- the row that a line gives, with its data
-abbrev pub row_of : RowText → List ℕ → RowData
-row_of text bytes = record { key = text.key; sort = text.sort; bytes = bytes }
+abbrev pub row_of_text : RowText → List ℕ → RowData
+row_of_text text bytes = record { key = text.key; sort = text.sort; bytes = bytes }
 
 abbrev pub IsRowOf : RowText → RowData → Type 0
 IsRowOf text row =
-    (bytes : List ℕ) × (decode_of text.digits.now ≡ Ok bytes) × (row ≡ row_of text bytes)
+    (bytes : List ℕ) × (decode_of text.digits.now ≡ Ok bytes) × (row ≡ row_of_text text bytes)
 
 -- ---- by the steps of the world that the driver makes
 module _ {D : Type 0} (IsStep : WorldData D → Event → Reply → WorldData D → Type 0) where

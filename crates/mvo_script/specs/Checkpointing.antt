@@ -1,6 +1,6 @@
 -- A checkpoint of the oldest sealed segment, from its reading to its installing.
 use Rattle.std.specs.Prelude.{◌≡◌, ◌⊎◌, ℕ, zero, suc}
-use Rattle.mvo_store.specs.declared.progress.Progress.TheVariants.{More}
+use Rattle.mvo_store.specs.declared.jobs.progress.Progress.TheVariants.{More}
 use Rattle.mvo_world.specs.WorldData.{WorldData}
 use Rattle.mvo_world.specs.declared.event.Event.{Event}
 use Rattle.mvo_world.specs.declared.event.Event.TheVariants.{CheckpointRead, CheckpointData, CheckpointDelta}

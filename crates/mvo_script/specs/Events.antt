@@ -3,8 +3,8 @@ use Rattle.std.specs.Prelude.{ℕ, List, Option, Some, None}
 use Rattle.mvo_types.specs.declared.ids.TxId.{TxId}
 use Rattle.mvo_world.specs.declared.event.Event.{Event}
 use Rattle.mvo_world.specs.declared.event.Event.TheVariants as event
-use Rattle.mvo_line.specs.declared.line.Line.{Line}
-use Rattle.mvo_line.specs.declared.line.Line.TheVariants as line
+use Rattle.mvo_script.specs.declared.line.line.Line.{Line}
+use Rattle.mvo_script.specs.declared.line.line.Line.TheVariants as line
 
 -- the name of the transaction that a line asks something of
 abbrev pub name_in : Line → Option (List ℕ)

@@ -1,7 +1,7 @@
 -- What a script begins with.
 use Rattle.std.specs.Prelude.{◌≡◌, [], None}
 use Rattle.std.specs.FinMap as map
-use Rattle.mvo_core.specs.Standing.{OpensAs}
+use Rattle.mvo_core.specs.Standing.{HasOpenedOver}
 use Rattle.mvo_world.specs.WorldData.{WorldData}
 use Rattle.mvo_script.specs.Bound.{BindsNone}
 use Rattle.mvo_store.specs.Seen.{mark_of, pending_of}
@@ -10,7 +10,7 @@ use Rattle.mvo_script.specs.declared.driver.Driver.{Driver}
 -- The clock and the store's mark stand at 0, there are no rows and no transactions, and no group is
 -- closed or taken.
 pub record IsFreshWorld {D : Type 0} (w : WorldData D) : Type 0 where
-  pub core : OpensAs map.empty 0 w.core
+  pub core : HasOpenedOver map.empty 0 w.core
   pub mark : mark_of w.store ≡ 0
   pub ring : w.ring ≡ []
   pub pending : pending_of w.store ≡ None

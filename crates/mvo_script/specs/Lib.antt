@@ -1,3 +1,4 @@
+pub mod line
 pub mod Begun
 pub mod Bound
 pub mod Fresh

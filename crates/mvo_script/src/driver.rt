@@ -6,13 +6,13 @@ use crate::bound::BoundTx;
 use crate::checkpoint::checkpoint;
 use crate::events::{event_by, event_of_line, name_in};
 use crate::flush::flush;
+use crate::line::{Line, RowText, SortRange};
 use crate::merge::merge;
 use crate::names::Names;
 use crate::reply::LineReply;
 use crate::rotate::rotate;
 use mvo_core::{Finishing, Settlement, Validation};
 use mvo_disk::{Disk, MemDisk};
-use mvo_line::{Line, RowText, SortRange};
 use mvo_store::format;
 use mvo_types::{Refusal, Row, Stamp, TxId};
 use mvo_world::{Event, Reply, World};
@@ -62,9 +62,9 @@ impl<D: Disk> Driver<D> {
     ghost use Rattle.mvo_script.specs.Answers.{IsSettleStep, IsStepOf};
     ghost use Rattle.mvo_script.specs.Bound.{bound_by, is_covered, BindsNone};
     ghost use Rattle.mvo_script.specs.Events.{name_in};
-    ghost use Rattle.mvo_line.specs.Forms.{HasForm};
-    ghost use Rattle.mvo_line.specs.Written.{text_of};
-    ghost use Rattle.mvo_line.specs.declared.line.Line.{Line};
+    ghost use Rattle.mvo_script.specs.line.Forms.{HasForm};
+    ghost use Rattle.mvo_script.specs.line.Written.{text_of};
+    ghost use Rattle.mvo_script.specs.declared.line.line.Line.{Line};
     ghost use Rattle.mvo_world.specs.declared.reply.Reply.{Reply};
     ghost use Rattle.mvo_world.specs.Replies.{IsReplyTo};
 

@@ -1,7 +1,7 @@
 ghost use Rattle.std.specs.Prelude.{◌≡◌, option_map};
 ghost use Rattle.mvo_script.specs.Events.{event_by, event_of_line, install_event_of, job_event_of, name_in};
 
-use mvo_line::{Line, SortRange};
+use crate::line::{Line, SortRange};
 use mvo_types::TxId;
 use mvo_world::Event;
 

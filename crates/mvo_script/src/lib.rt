@@ -6,6 +6,7 @@ mod checkpoint;
 mod driver;
 mod events;
 mod flush;
+mod line;
 mod merge;
 mod names;
 mod reply;
@@ -13,6 +14,6 @@ mod rotate;
 mod script;
 
 pub use driver::Driver;
-pub use mvo_line::{Line, MAX_LINE_LEN, RowText, SortRange};
+pub use line::{Line, MAX_LINE_LEN, RowText, SortRange, laws_of_lines};
 pub use reply::LineReply;
 pub use script::{ScriptError, run_over, run_script};

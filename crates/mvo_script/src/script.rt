@@ -1,6 +1,6 @@
 use crate::driver::Driver;
+use crate::line::MAX_LINE_LEN;
 use mvo_disk::Disk;
-use mvo_line::MAX_LINE_LEN;
 use mvo_world::World;
 use std::alloc::Global;
 use std::io::{self, BufRead, BufReader, BufWriter, Read, Write};

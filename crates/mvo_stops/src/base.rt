@@ -1,15 +1,15 @@
 use crate::error::StopsError;
 use crate::recorded::Recorded;
 use crate::replay::make;
-use crate::start::Start;
-use mvo_disk::{Call, MemDisk, Work};
+use crate::script_start::ScriptStart;
+use mvo_disk::{Call, DeviceWork, MemDisk};
 use std::alloc::{AllocError, Global};
 
 /// What the disk held behind some of a script's calls, when all of it was synced. Moments that come
 /// soon behind that are made from here.
 #[derive(Drop)]
 pub struct Base {
-    pub start: Start,
+    pub start: ScriptStart,
     /// So many calls were made.
     pub made: usize,
 }
@@ -20,7 +20,7 @@ impl Base {
         let made = last_synced(recorded, place)?;
         let disk = disk_after(recorded, made)?;
         Ok(Base {
-            start: Start::of(recorded.alloc, &disk)?,
+            start: ScriptStart::of(recorded.alloc, &disk)?,
             made,
         })
     }
@@ -44,13 +44,13 @@ fn last_synced(recorded: &Recorded, place: usize) -> Result<usize, AllocError> {
 /// Notes which files aren't synced after a call.
 fn note(loose: &mut Vec<u16>, call: &Call) -> Result<(), AllocError> {
     match &call.work {
-        Work::Length | Work::Read { .. } => {}
-        Work::Write { .. } | Work::Cut { .. } => {
+        DeviceWork::Length | DeviceWork::Read { .. } => {}
+        DeviceWork::Write { .. } | DeviceWork::Cut { .. } => {
             if !loose.contains(&call.file) {
                 loose.push(call.file)?;
             }
         }
-        Work::Sync => {
+        DeviceWork::Sync => {
             if let Some(at) = loose.iter().position(|file| *file == call.file) {
                 loose.swap_remove(at);
             }

@@ -1,11 +1,11 @@
 //! Looks at all that stops and faults may leave at one call.
 use crate::base::Base;
 use crate::counts::Counts;
-use crate::ended::Ended;
 use crate::error::StopsError;
 use crate::fill::{Fill, Length};
 use crate::image::{Image, images_of};
 use crate::judge::Judge;
+use crate::look_end::LookEnd;
 use crate::loose::loose_after;
 use crate::moment::Moment;
 use crate::recorded::Recorded;
@@ -54,18 +54,18 @@ fn check_end(rt: &(impl Threads + Sync), recorded: &Recorded) -> Result<Found, S
 }
 
 /// What was found up to here.
-fn found_by(judge: &Judge, ended: Result<(), Ended>) -> Result<Found, StopsError> {
+fn found_by(judge: &Judge, ended: Result<(), LookEnd>) -> Result<Found, StopsError> {
     let counts = judge.counts();
     match ended {
         Ok(()) => Ok(Found {
             counts,
             wrong: None,
         }),
-        Err(Ended::Wrong(wrong)) => Ok(Found {
+        Err(LookEnd::Wrong(wrong)) => Ok(Found {
             counts,
             wrong: Some(wrong),
         }),
-        Err(Ended::Error(error)) => Err(error),
+        Err(LookEnd::Error(error)) => Err(error),
     }
 }
 
@@ -74,7 +74,7 @@ fn check_moments(
     judge: &mut Judge,
     recorded: &Recorded,
     place: usize,
-) -> Result<(), Ended> {
+) -> Result<(), LookEnd> {
     let base = Base::before(recorded, place)?;
     check_stopped(rt, judge, &Moment::before(recorded, &base, place))?;
     if let Some(moment) = Moment::within(recorded, &base, place)? {
@@ -112,7 +112,7 @@ fn check_stopped(
     rt: &(impl Threads + Sync),
     judge: &mut Judge,
     moment: &Moment<'_>,
-) -> Result<(), Ended> {
+) -> Result<(), LookEnd> {
     let recorded = moment.recorded;
     for image in images_on(moment, &moment.disk()?)? {
         let mut disk = moment.disk()?;
@@ -134,7 +134,7 @@ fn check_image(
     judge: &mut Judge,
     recorded: &Recorded,
     disk: MemDisk,
-) -> Result<(), Ended> {
+) -> Result<(), LookEnd> {
     let acknowledged = judge.acknowledged();
     let (opened, disk) = judge.open(rt, recorded, disk);
     judge.judge(recorded, opened, acknowledged)?;
@@ -156,14 +156,14 @@ fn cut_short(
     recorded: &Recorded,
     disk: MemDisk,
     place: usize,
-) -> Result<MemDisk, Ended> {
+) -> Result<MemDisk, LookEnd> {
     let mut disk = disk;
     disk.fail_at(place as u64);
     match judge.open(rt, recorded, disk) {
         (Err(Refusal::DiskFault), disk) => Ok(disk),
-        (Err(Refusal::OutOfMemory), _) => Err(Ended::Error(StopsError::OutOfMemory)),
-        (Err(refusal), _) => Err(Ended::Wrong(Wrong::NotOpened(refusal))),
-        (Ok(_), _) => Err(Ended::Wrong(Wrong::FaultMissed)),
+        (Err(Refusal::OutOfMemory), _) => Err(LookEnd::Error(StopsError::OutOfMemory)),
+        (Err(refusal), _) => Err(LookEnd::Wrong(Wrong::NotOpened(refusal))),
+        (Ok(_), _) => Err(LookEnd::Wrong(Wrong::FaultMissed)),
     }
 }
 
@@ -174,7 +174,7 @@ fn open_again(
     recorded: &Recorded,
     disk: MemDisk,
     acknowledged: Stamp,
-) -> Result<MemDisk, Ended> {
+) -> Result<MemDisk, LookEnd> {
     let (opened, disk) = judge.open(rt, recorded, disk);
     judge.judge(recorded, opened, acknowledged)?;
     Ok(disk)
@@ -186,7 +186,7 @@ fn check_standing(
     rt: &(impl Threads + Sync),
     judge: &mut Judge,
     moment: &Moment<'_>,
-) -> Result<(), Ended> {
+) -> Result<(), LookEnd> {
     let recorded = moment.recorded;
     let acknowledged = judge.acknowledged();
     let disk = moment.disk()?;
@@ -209,7 +209,7 @@ fn check_answered(
     moment: &Moment<'_>,
     disk: &MemDisk,
     acknowledged: Stamp,
-) -> Result<(), Ended> {
+) -> Result<(), LookEnd> {
     let recorded = moment.recorded;
     for image in images_on(moment, disk)? {
         let (_, disk) = judge.open(rt, recorded, moment.disk()?);
@@ -227,7 +227,7 @@ fn check_cut(
     moment: &Moment<'_>,
     place: usize,
     acknowledged: Stamp,
-) -> Result<(), Ended> {
+) -> Result<(), LookEnd> {
     let recorded = moment.recorded;
     let disk = cut_short(rt, judge, recorded, moment.disk()?, place)?;
     let disk = left_by_opening(moment, disk)?;

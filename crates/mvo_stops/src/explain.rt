@@ -1,16 +1,16 @@
 //! Says what one call is, and what each image at it opens as.
 use crate::base::Base;
-use crate::ended::Ended;
 use crate::error::StopsError;
 use crate::fill::{Fill, Length};
 use crate::image::{Image, images_of};
 use crate::judge::Judge;
+use crate::look_end::LookEnd;
 use crate::loose::loose_after;
 use crate::moment::Moment;
 use crate::opening::Opened;
 use crate::recorded::Recorded;
 use crate::step::step_of;
-use mvo_disk::{Call, MemDisk, Work};
+use mvo_disk::{Call, DeviceWork, MemDisk};
 use mvo_types::Stamp;
 use std::alloc::AllocError;
 use std::fmt;
@@ -24,11 +24,14 @@ impl fmt::Display for Asked<'_> {
     fn fmt<W: fmt::Write>(&self, f: &mut fmt::Formatter<W>) -> fmt::Result {
         let file = self.0.file;
         match &self.0.work {
-            Work::Length => write!(f, "length of file {file}"),
-            Work::Read { at, len } => write!(f, "read of file {file} at {at}, {len} bytes"),
-            Work::Write { at, len, .. } => write!(f, "write of file {file} at {at}, {len} bytes"),
-            Work::Cut { len, .. } => write!(f, "cut of file {file} to {len} bytes"),
-            Work::Sync => write!(f, "sync of file {file}"),
+            DeviceWork::Length => write!(f, "length of file {file}"),
+            DeviceWork::Read { at, len } => write!(f, "read of file {file} at {at}, {len} bytes"),
+            DeviceWork::Write { at, len, .. } => write!(
+                f,
+                "write of file {file} at {at}, {len} bytes"
+            ),
+            DeviceWork::Cut { len, .. } => write!(f, "cut of file {file} to {len} bytes"),
+            DeviceWork::Sync => write!(f, "sync of file {file}"),
         }
     }
 }
@@ -186,8 +189,8 @@ fn write_one(
     write_opened(text, &opened)?;
     match judge.judge(recorded, opened, acknowledged) {
         Ok(_) => {}
-        Err(Ended::Wrong(wrong)) => write!(text, ", and {wrong}")?,
-        Err(Ended::Error(error)) => return Err(error),
+        Err(LookEnd::Wrong(wrong)) => write!(text, ", and {wrong}")?,
+        Err(LookEnd::Error(error)) => return Err(error),
     }
     writeln!(text)?;
     Ok(())

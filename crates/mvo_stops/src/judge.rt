@@ -6,9 +6,9 @@ ghost use Rattle.mvo_stops.specs.Promise.{rows_of_commits, with_rows};
 
 use crate::commit::Commit;
 use crate::counts::Counts;
-use crate::ended::Ended;
 use crate::error::StopsError;
 use crate::history::History;
+use crate::look_end::LookEnd;
 use crate::opening::{Opened, open};
 use crate::recorded::Recorded;
 use crate::wrong::Wrong;
@@ -81,10 +81,10 @@ impl Judge {
         recorded: &Recorded,
         opened: Opened,
         acknowledged: Stamp,
-    ) -> Result<Stamp, Ended>
+    ) -> Result<Stamp, LookEnd>
         ensures promised { IfOk result (λ m. (rows : Map) × (opened ≡ Ok (rows, m)) ×
             Promises self.old recorded.now acknowledged.0 rows m.0) }
-        ensures wrong { (w : Wrong) → result ≡ Err (Ended.Wrong w) → IfOk opened (λ o.
+        ensures wrong { (w : Wrong) → result ≡ Err (LookEnd.Wrong w) → IfOk opened (λ o.
             ¬ Promises self.old recorded.now acknowledged.0 o.0 o.1.0) }
         ensures looked { LooksAtOne self.old self.new }
     {
@@ -93,9 +93,9 @@ impl Judge {
             Ok((rows, mark)) => self.judge_rows(recorded, rows, mark, acknowledged),
             // No call was made to fail.
             Err(Refusal::OutOfMemory | Refusal::DiskFault) => {
-                Err(Ended::Error(StopsError::OutOfMemory))
+                Err(LookEnd::Error(StopsError::OutOfMemory))
             }
-            Err(refusal) => Err(Ended::Wrong(Wrong::NotOpened(refusal))),
+            Err(refusal) => Err(LookEnd::Wrong(Wrong::NotOpened(refusal))),
         }
     }
 
@@ -106,24 +106,24 @@ impl Judge {
         rows: Rows,
         mark: Stamp,
         acknowledged: Stamp,
-    ) -> Result<Stamp, Ended>
+    ) -> Result<Stamp, LookEnd>
         ensures promised { IfOk result (λ m. (m ≡ mark) ×
             Promises self.now recorded.now acknowledged.0 rows mark.0) }
-        ensures wrong { (w : Wrong) → result ≡ Err (Ended.Wrong w) →
+        ensures wrong { (w : Wrong) → result ≡ Err (LookEnd.Wrong w) →
             ¬ Promises self.now recorded.now acknowledged.0 rows mark.0 }
     {
         if mark.0 < acknowledged.0 {
-            return Err(Ended::Wrong(Wrong::MarkTooLow { mark, acknowledged }));
+            return Err(LookEnd::Wrong(Wrong::MarkTooLow { mark, acknowledged }));
         }
         if self.history.clock().0 < mark.0 {
-            return Err(Ended::Wrong(Wrong::MarkTooHigh(mark)));
+            return Err(LookEnd::Wrong(Wrong::MarkTooHigh(mark)));
         }
         let wanted = rows_of_commits(recorded, self.history.commits(), mark)?;
         let rows = rows.into_rows(recorded.alloc)?;
         if same_rows(&wanted, &rows) {
             Ok(mark)
         } else {
-            Err(Ended::Wrong(Wrong::OtherRows(mark)))
+            Err(LookEnd::Wrong(Wrong::OtherRows(mark)))
         }
     }
 }

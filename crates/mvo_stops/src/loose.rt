@@ -1,6 +1,6 @@
 use crate::fill::{Fill, Length};
-use crate::start::Start;
-use mvo_disk::{Call, Work};
+use crate::script_start::ScriptStart;
+use mvo_disk::{Call, DeviceWork};
 use std::alloc::{AllocError, Global};
 
 /// What was written, from its first place to the one behind its last.
@@ -50,15 +50,15 @@ impl Loose {
     }
 
     /// What a call makes of it.
-    fn call(&mut self, work: &Work) -> Result<(), AllocError> {
+    fn call(&mut self, work: &DeviceWork) -> Result<(), AllocError> {
         match work {
-            Work::Length | Work::Read { .. } => Ok(()),
-            Work::Write { at, bytes, .. } => self.write(*at, bytes),
-            Work::Cut { new_len, .. } => {
+            DeviceWork::Length | DeviceWork::Read { .. } => Ok(()),
+            DeviceWork::Write { at, bytes, .. } => self.write(*at, bytes),
+            DeviceWork::Cut { new_len, .. } => {
                 self.cut(*new_len);
                 Ok(())
             }
-            Work::Sync => {
+            DeviceWork::Sync => {
                 self.sync();
                 Ok(())
             }
@@ -122,10 +122,14 @@ impl Loose {
 }
 
 /// The files that these calls changed on a disk that began so, as they are behind them.
-pub fn loose_after(alloc: Global, start: &Start, calls: &[Call]) -> Result<Vec<Loose>, AllocError> {
+pub fn loose_after(
+    alloc: Global,
+    start: &ScriptStart,
+    calls: &[Call],
+) -> Result<Vec<Loose>, AllocError> {
     let mut files = Vec::new(alloc);
     for call in calls {
-        if !matches!(&call.work, Work::Length | Work::Read { .. }) {
+        if !matches!(&call.work, DeviceWork::Length | DeviceWork::Read { .. }) {
             change(alloc, start, &mut files, call)?;
         }
     }
@@ -135,7 +139,7 @@ pub fn loose_after(alloc: Global, start: &Start, calls: &[Call]) -> Result<Vec<L
 /// Makes a call on one of the files, which joins them where it isn't among them yet.
 fn change(
     alloc: Global,
-    start: &Start,
+    start: &ScriptStart,
     files: &mut Vec<Loose>,
     call: &Call,
 ) -> Result<(), AllocError> {

@@ -3,7 +3,7 @@ use crate::error::StopsError;
 use crate::fill::{Fill, Length};
 use crate::recorded::Recorded;
 use crate::replay::make;
-use mvo_disk::{Call, FILE_COUNT, MemDisk, Work};
+use mvo_disk::{Call, DeviceWork, FILE_COUNT, MemDisk};
 use std::alloc::{AllocError, Global};
 
 /// A moment of a script's run: the calls before one of them are made, and that one in part or not.
@@ -122,19 +122,19 @@ impl<'a> Moment<'a> {
 /// A call that changes a file, as far as it goes before its end.
 fn part_of(alloc: Global, call: &Call) -> Result<Option<Call>, AllocError> {
     match &call.work {
-        Work::Length | Work::Read { .. } | Work::Sync => Ok(None),
-        Work::Write { at, bytes, .. } => {
+        DeviceWork::Length | DeviceWork::Read { .. } | DeviceWork::Sync => Ok(None),
+        DeviceWork::Write { at, bytes, .. } => {
             let bytes = bytes.as_slice().to_vec(alloc)?;
             Ok(Some(write(call.file, *at, bytes)))
         }
-        Work::Cut { new_len, .. } => Ok(Some(cut(call.file, *new_len))),
+        DeviceWork::Cut { new_len, .. } => Ok(Some(cut(call.file, *new_len))),
     }
 }
 
 /// Whether a call leaves a file of this length no longer.
 fn is_within(call: &Call, len: usize) -> bool {
     match &call.work {
-        Work::Write { at, bytes, .. } => at.saturating_add(bytes.len()) <= len,
+        DeviceWork::Write { at, bytes, .. } => at.saturating_add(bytes.len()) <= len,
         _ => true,
     }
 }
@@ -148,16 +148,18 @@ fn failed_part_of(
     len: usize,
 ) -> Result<Option<Call>, AllocError> {
     match &call.work {
-        Work::Length | Work::Read { .. } | Work::Sync => Ok(None),
-        Work::Write { at, bytes, .. } => {
+        DeviceWork::Length | DeviceWork::Read { .. } | DeviceWork::Sync => Ok(None),
+        DeviceWork::Write { at, bytes, .. } => {
             let count = bytes.len().min(len.saturating_sub(*at));
             match left_of(alloc, bytes, fill, count)? {
                 Some(left) => Ok(Some(write(call.file, *at, left))),
                 None => Ok(None),
             }
         }
-        Work::Cut { new_len, .. } if fill == Fill::Written => { Ok(Some(cut(call.file, *new_len))) }
-        Work::Cut { .. } => Ok(None),
+        DeviceWork::Cut { new_len, .. } if fill == Fill::Written => {
+            Ok(Some(cut(call.file, *new_len)))
+        }
+        DeviceWork::Cut { .. } => Ok(None),
     }
 }
 
@@ -187,7 +189,7 @@ fn write(file: u16, at: usize, bytes: Vec<u8>) -> Call {
     let len = bytes.len();
     Call {
         file,
-        work: Work::Write { at, len, bytes },
+        work: DeviceWork::Write { at, len, bytes },
         failed: false,
     }
 }
@@ -195,7 +197,7 @@ fn write(file: u16, at: usize, bytes: Vec<u8>) -> Call {
 fn cut(file: u16, len: usize) -> Call {
     Call {
         file,
-        work: Work::Cut { len, new_len: len },
+        work: DeviceWork::Cut { len, new_len: len },
         failed: false,
     }
 }

@@ -2,8 +2,8 @@ use crate::error::StopsError;
 use crate::opening::open;
 use crate::replay::make;
 use crate::run::{Ran, driver_over, run_lines};
-use crate::start::Start;
-use mvo_disk::{Call, MemDisk, Work};
+use crate::script_start::ScriptStart;
+use mvo_disk::{Call, DeviceWork, MemDisk};
 use mvo_script::Driver;
 use mvo_types::Row;
 use std::alloc::{AllocError, Global};
@@ -13,7 +13,7 @@ use std::thread::Threads;
 pub struct Recorded {
     pub(crate) alloc: Global,
     pub(crate) seed: u64,
-    pub(crate) start: Start,
+    pub(crate) start: ScriptStart,
     pub(crate) lines: Vec<Vec<u8>>,
     /// The rows that it starts from.
     pub(crate) rows: Vec<Row>,
@@ -52,7 +52,7 @@ impl Recorded {
         rt: &(impl Threads + Sync),
         alloc: Global,
         seed: u64,
-        start: Start,
+        start: ScriptStart,
         lines: Vec<Vec<u8>>,
     ) -> Result<Recorded, StopsError> {
         let (rows, opening) = opened_start(rt, alloc, seed, &start)?;
@@ -86,7 +86,7 @@ impl Recorded {
     pub fn forget_sync(&mut self, number: usize) -> Result<bool, AllocError> {
         let place = number.wrapping_sub(1);
         let is_sync = match self.calls().get(place) {
-            Some(call) => matches!(&call.work, Work::Sync),
+            Some(call) => matches!(&call.work, DeviceWork::Sync),
             None => false,
         };
         if is_sync {
@@ -168,7 +168,7 @@ fn opened_start(
     rt: &(impl Threads + Sync),
     alloc: Global,
     seed: u64,
-    start: &Start,
+    start: &ScriptStart,
 ) -> Result<(Vec<Row>, usize), StopsError> {
     let (opened, disk) = open(rt, alloc, seed, start.disk()?);
     match opened {
@@ -182,7 +182,7 @@ fn run_whole(
     rt: &(impl Threads + Sync),
     alloc: Global,
     seed: u64,
-    start: &Start,
+    start: &ScriptStart,
     lines: &[Vec<u8>],
 ) -> Result<MemDisk, StopsError> {
     let ran = run_lines(rt, alloc, seed, start.disk()?, lines)?;

@@ -1,6 +1,6 @@
 //! Makes calls of the device again, on a disk in memory.
 use crate::error::StopsError;
-use mvo_disk::{Call, Disk, FILE_COUNT, FileImage, MemDisk, Work};
+use mvo_disk::{Call, DeviceWork, Disk, FILE_COUNT, FileImage, MemDisk};
 
 /// Writes a file that is empty, and syncs it.
 pub fn write_whole(disk: &mut MemDisk, image: &FileImage) -> Result<(), StopsError> {
@@ -18,11 +18,11 @@ pub fn make(disk: &mut MemDisk, call: &Call) -> Result<(), StopsError> {
     }
     let len = disk.bytes(call.file).len();
     match &call.work {
-        Work::Length | Work::Read { .. } => {}
-        Work::Write { at, bytes, .. } if *at <= len => disk.write_at(call.file, *at, bytes)?,
-        Work::Cut { new_len, .. } if *new_len <= len => disk.cut(call.file, *new_len)?,
-        Work::Sync => disk.sync(call.file)?,
-        Work::Write { .. } | Work::Cut { .. } => return Err(StopsError::NotAnImage),
+        DeviceWork::Length | DeviceWork::Read { .. } => {}
+        DeviceWork::Write { at, bytes, .. } if *at <= len => disk.write_at(call.file, *at, bytes)?,
+        DeviceWork::Cut { new_len, .. } if *new_len <= len => disk.cut(call.file, *new_len)?,
+        DeviceWork::Sync => disk.sync(call.file)?,
+        DeviceWork::Write { .. } | DeviceWork::Cut { .. } => return Err(StopsError::NotAnImage),
     }
     Ok(())
 }

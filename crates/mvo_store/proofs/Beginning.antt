@@ -5,13 +5,13 @@ use Rattle.std.proofs.lemmas.Bool.{or_parts, eqb-true}
 use Rattle.mvo_pair.specs.declared.pair.Pair.{Pair}
 use Rattle.mvo_manifest.specs.Data.{ManifestData}
 use Rattle.mvo_places.specs.Places.{PlaceTable}
-use Rattle.mvo_store.specs.declared.checkpointing.Checkpointing.{Checkpointing}
-use Rattle.mvo_store.specs.declared.merging.Merging.{Merging}
-use Rattle.mvo_store.specs.declared.jobs.Jobs.TheVariants.{Beside}
+use Rattle.mvo_store.specs.declared.checkpoint.checkpointing.Checkpointing.{Checkpointing}
+use Rattle.mvo_store.specs.declared.merge.merging.Merging.{Merging}
+use Rattle.mvo_store.specs.declared.jobs.jobs.Jobs.TheVariants.{Beside}
 use Rattle.mvo_store.specs.Jobs.{Job, jobs_of, job_takes_file, checkpoint_pair, merge_pair}
 use Rattle.mvo_store.specs.Jobs.Job.{Checkpoint, Merge}
 use Rattle.mvo_store.specs.Files.{files_taken, IsLeastFree}
-use Rattle.mvo_store.specs.Standing.{ShareNone, HasRoom}
+use Rattle.mvo_store.specs.Standing.{ShareNone, JobsHaveRoom}
 use Rattle.mvo_store.proofs.Logged.{free_untaken}
 
 -- ---- the files
@@ -60,6 +60,6 @@ module _ (P : Job → Type 0) where
   with_merge_all (Some c) g now all = (all.0, (now, tt))
 
 -- a merge needs no room
-pub merge_room : (places : PlaceTable) (g : Option Merging) → HasRoom places (Beside None g)
+pub merge_room : (places : PlaceTable) (g : Option Merging) → JobsHaveRoom places (Beside None g)
 merge_room places None = tt
 merge_room places (Some g) = (tt, tt)

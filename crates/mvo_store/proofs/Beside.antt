@@ -11,21 +11,21 @@ use Rattle.mvo_recovery.specs.Settled.{IsSettled, other_slot}
 use Rattle.mvo_recovery.proofs.Named.{named_is_no_slot, pairs_named, slot_below}
 use Rattle.mvo_recovery.proofs.Pairs.{delta_among}
 use Rattle.mvo_recovery.proofs.Framed.{files_stay_others}
-use Rattle.mvo_beside.specs.Seen.{CountsStay}
-use Rattle.mvo_beside.proofs.Seen.{seen_stays, seen_where_counts_stay, seen_beside_install, stays_unnamed}
-use Rattle.mvo_store.specs.declared.install.Install.{Install as InstallData}
+use Rattle.mvo_recovery.specs.beside.Seen.{CountsStay}
+use Rattle.mvo_recovery.proofs.beside.Seen.{seen_stays, seen_where_counts_stay, seen_beside_install, stays_unnamed}
+use Rattle.mvo_store.specs.declared.install.install.Install.{Install as InstallData}
 use Rattle.mvo_store.specs.declared.limits.TheConstants.{MAX_GENERATION}
-use Rattle.mvo_store.specs.declared.due.Due.{Due}
-use Rattle.mvo_store.specs.declared.due.Due.TheVariants.{Install}
-use Rattle.mvo_store.specs.declared.checkpoint_stage.CheckpointStage.{CheckpointStage}
-use Rattle.mvo_store.specs.declared.checkpoint_stage.CheckpointStage.TheVariants.{Data as AtData, Delta as AtDelta, Install as AtInstall}
-use Rattle.mvo_store.specs.declared.merge_stage.MergeStage.{MergeStage}
-use Rattle.mvo_store.specs.declared.merge_stage.MergeStage.TheVariants.{Data as MergeAtData, Delta as MergeAtDelta}
-use Rattle.mvo_store.specs.declared.checkpointing.Checkpointing.{Checkpointing}
-use Rattle.mvo_store.specs.declared.merging.Merging.{Merging}
-use Rattle.mvo_store.specs.declared.seen.Seen.{Seen}
-use Rattle.mvo_store.specs.declared.jobs.Jobs.{Jobs}
-use Rattle.mvo_store.specs.declared.jobs.Jobs.TheVariants.{Rotation as RotationAlone, Merge as MergeAlone, Beside}
+use Rattle.mvo_store.specs.declared.jobs.due.Due.{Due}
+use Rattle.mvo_store.specs.declared.jobs.due.Due.TheVariants.{Install}
+use Rattle.mvo_store.specs.declared.checkpoint.stage.CheckpointStage.{CheckpointStage}
+use Rattle.mvo_store.specs.declared.checkpoint.stage.CheckpointStage.TheVariants.{Data as AtData, Delta as AtDelta, Install as AtInstall}
+use Rattle.mvo_store.specs.declared.merge.stage.MergeStage.{MergeStage}
+use Rattle.mvo_store.specs.declared.merge.stage.MergeStage.TheVariants.{Data as MergeAtData, Delta as MergeAtDelta}
+use Rattle.mvo_store.specs.declared.checkpoint.checkpointing.Checkpointing.{Checkpointing}
+use Rattle.mvo_store.specs.declared.merge.merging.Merging.{Merging}
+use Rattle.mvo_store.specs.declared.merge.seen_pairs.SeenPairs.{SeenPairs}
+use Rattle.mvo_store.specs.declared.jobs.jobs.Jobs.{Jobs}
+use Rattle.mvo_store.specs.declared.jobs.jobs.Jobs.TheVariants.{Rotation as RotationAlone, Merge as MergeAlone, Beside}
 use Rattle.mvo_store.specs.Checkpoint.{gained, made_of, IsCheckpointInto}
 use Rattle.mvo_store.specs.Merging.{seen_with, IsMergeWritten}
 use Rattle.mvo_store.specs.Jobs.{Job, due_of, merge_due_of, step_due, is_step_of, first_due, job_due, is_of_merge, job_takes_file}
@@ -40,7 +40,7 @@ use Rattle.mvo_store.proofs.Working.{IsOfPair, RestsOn, IsNew, written_of_pair, 
 -- how it stands among those that run
 pub data IsDueIn (step : Due) : Jobs → Job → Type 0 where
   TheRotation : (fresh : Segment) (i : InstallData) → Install i.step ≡ step → IsDueIn step (RotationAlone fresh i) (Rotation fresh i)
-  TheMerge : (seen : Seen) (i : InstallData) → Install i.step ≡ step → IsDueIn step (MergeAlone seen i) (MergeInstall seen i)
+  TheMerge : (seen : SeenPairs) (i : InstallData) → Install i.step ≡ step → IsDueIn step (MergeAlone seen i) (MergeInstall seen i)
   TheCheckpoint : (c : Checkpointing) (g : Option Merging) → due_of c.stage ≡ step → IsDueIn step (Beside (Some c) g) (Checkpoint c)
   OfMerge : (c : Option Checkpointing) (g : Merging) → merge_due_of g.stage ≡ step → IsDueIn step (Beside c (Some g)) (Merge g)
 
@@ -107,7 +107,7 @@ module _ (old new : Image) (may_old may_new : ℕ → List ℕ → Type 0) (m : 
 
   module _ (file : ℕ) (rest : OthersStay file old new may_old may_new) where
     -- what it has written is another file
-    merge_written_beside : (g : Seen) (stage : MergeStage) → g.pair.data_file ≢ file → IsMergeWritten old may_old g stage → IsMergeWritten new may_new g stage
+    merge_written_beside : (g : SeenPairs) (stage : MergeStage) → g.pair.data_file ≢ file → IsMergeWritten old may_old g stage → IsMergeWritten new may_new g stage
     merge_written_beside g MergeAtData ne has = tt
     merge_written_beside g MergeAtDelta ne has = records_framed old new may_old may_new (λ n. n ≢ file) (files_stay_others old new may_old may_new (λ n. n ≢ file) file (λ no. no refl) rest) g.pair g.made.records ne has
 

@@ -12,7 +12,7 @@ use Rattle.mvo_format.specs.declared.format.TheConstants.{FIRST_FORMAT}
 use Rattle.mvo_format.specs.declared.header.TheConstants.{VERSION}
 use Rattle.mvo_pair.specs.declared.pair.Pair.{Pair}
 use Rattle.mvo_pair.specs.Data.{EntryData}
-use Rattle.mvo_pair.specs.Files.{AreNumbers, HasNumbers, delta_bytes}
+use Rattle.mvo_pair.specs.Files.{AreNumbers, HasDeadNumbers, delta_bytes}
 use Rattle.mvo_pair.specs.Late.{AreThoseFrom}
 use Rattle.mvo_pair.specs.Writing.{IsWriteRefusal, IsStop, CountsFaults, place_behind}
 use Rattle.mvo_pair.proofs.Appends.{length-delta}
@@ -23,19 +23,19 @@ use Rattle.mvo_merge.specs.Merged.{merged as records_of, RenumberingData, renumb
 use Rattle.mvo_merge.proofs.Late.{gives_numbers}
 use Rattle.mvo_recovery.specs.Parts.{Parts}
 use Rattle.mvo_recovery.specs.Settled.{IsSettled}
-use Rattle.mvo_recovery.specs.Merging.{MergeData, merged}
-use Rattle.mvo_recovery.proofs.Merged.{named_merged, manifest_merged}
+use Rattle.mvo_recovery.specs.Merging.{MergeData, merged_manifest}
+use Rattle.mvo_recovery.proofs.Merged.{named_merged, manifest_merged, rise_merged}
 use Rattle.mvo_recovery.proofs.Pairs.{few_records, delta_named}
 use Rattle.mvo_recovery.proofs.Gained.{counted_of}
-use Rattle.mvo_beside.specs.Seen.{SeenData, grown, WasSeen, pairs_now, NumbersNow}
-use Rattle.mvo_beside.proofs.Seen.{left_now, right_now, in_left, in_right}
-use Rattle.mvo_beside.proofs.Two.{rise_one, few_one, has_first, has_second}
-use Rattle.mvo_beside.proofs.Ready.{are_left, are_right, few_late}
-use Rattle.mvo_store.specs.declared.step.Step.TheVariants.{Close}
-use Rattle.mvo_store.specs.declared.merge_stage.MergeStage.{MergeStage}
-use Rattle.mvo_store.specs.declared.merge_stage.MergeStage.TheVariants.{Delta as MergeAtDelta}
-use Rattle.mvo_store.specs.declared.merging.Merging.{Merging}
-use Rattle.mvo_store.specs.declared.seen.Seen.{Seen}
+use Rattle.mvo_recovery.specs.beside.Seen.{SeenData, grown, WasSeen, pairs_now, NumbersNow}
+use Rattle.mvo_recovery.proofs.beside.Seen.{left_now, right_now, in_left, in_right}
+use Rattle.mvo_recovery.proofs.beside.Two.{few_one, has_first, has_second}
+use Rattle.mvo_recovery.proofs.beside.Ready.{are_left, are_right, few_late}
+use Rattle.mvo_store.specs.declared.install.install_step.InstallStep.TheVariants.{Close}
+use Rattle.mvo_store.specs.declared.merge.stage.MergeStage.{MergeStage}
+use Rattle.mvo_store.specs.declared.merge.stage.MergeStage.TheVariants.{Delta as MergeAtDelta}
+use Rattle.mvo_store.specs.declared.merge.merging.Merging.{Merging}
+use Rattle.mvo_store.specs.declared.merge.seen_pairs.SeenPairs.{SeenPairs}
 use Rattle.mvo_store.specs.Merging.{first_two, neighbours_at, merged_at, with_late, pair_with, late_of, StandStill, MayBecome, seen_with, IsMerging, IsMergeWritten, AreLateNow, IsMergeReady}
 use Rattle.mvo_store.specs.Jobs.{merge_due_of, step_due}
 use Rattle.mvo_store.specs.Jobs.Job.{Merge, MergeInstall}
@@ -62,7 +62,7 @@ module _ (content : Image) (m : ManifestData) (saw : SeenData) (seen : WasSeen F
   seen_there = ap (neighbours_at saw.place) seen.pairs ∙ ap first_two (drop_at seen.before (first_now ∷ second_now ∷ seen.behind) saw.place seen.at)
 
   -- so does the one pair
-  pub merged_there : (p : Pair) → merged_at m saw.place p ≡ merged m (pairs_now seen p)
+  pub merged_there : (p : Pair) → merged_at m saw.place p ≡ merged_manifest m (pairs_now seen p)
   merged_there p =
       let two : List Pair = first_now ∷ second_now ∷ [] in
       let front : take saw.place m.pairs ≡ seen.before = ap (λ (ps : List Pair). take saw.place ps) seen.pairs ∙ take_at seen.before (two ++ seen.behind) saw.place seen.at in
@@ -75,7 +75,7 @@ module _ (content : Image) (m : ManifestData) (saw : SeenData) (seen : WasSeen F
 -- the delta file of a pair has room for the numbers that count
 pub counted_start : (content : Image) (may : ℕ → List ℕ → Type 0) (m : ManifestData) (x : Parts) → IsSettled FIRST_FORMAT content may m x → (p : Pair) → Contains m.pairs p → place_behind p.entries ≤ length (content p.delta_file)
 counted_start content may m x settled p in_pairs =
-    let has : (ns : List ℕ) × HasNumbers VERSION p.records p.entries ns (content p.delta_file) = counted_of FIRST_FORMAT content may m x settled p in_pairs x.lives m.pairs settled.installed.parts.live in_pairs in
+    let has : (ns : List ℕ) × HasDeadNumbers VERSION p.records p.entries ns (content p.delta_file) = counted_of FIRST_FORMAT content may m x settled p in_pairs x.lives m.pairs settled.installed.parts.live in_pairs in
     omega (arith, ap (λ (l : List ℕ). length l) has.1.whole, length-append (delta_bytes VERSION has.0) has.1.rest, length-delta VERSION has.0 p.entries has.1.counted)
 
 -- the neighbours at a place are among the pairs
@@ -87,7 +87,7 @@ module _ (m : ManifestData) (place : ℕ) (p q : Pair) (two : neighbours_at plac
   second_there = subst (λ (ps : List Pair). Contains ps q) (sym (two_stand m.pairs place p q two)) (has_second (take place m.pairs) (drop (place + 2) m.pairs) p q)
 
 -- they stand as they stood, and more of their numbers may count
-module _ (m : ManifestData) (s : Seen) (still : StandStill m s) (p q : Pair) (two : neighbours_at s.place m.pairs ≡ Some (p, q)) where
+module _ (m : ManifestData) (s : SeenPairs) (still : StandStill m s) (p q : Pair) (two : neighbours_at s.place m.pairs ≡ Some (p, q)) where
   still_two : ◌≡◌ {A = Pair × Pair} (p, q) (grown still.more_left s.left, grown still.more_right s.right)
   still_two = let e : ◌≡◌ {A = Option (Pair × Pair)} (Some (p, q)) (Some (grown still.more_left s.left, grown still.more_right s.right)) = sym two ∙ still.two in cc
 
@@ -98,12 +98,12 @@ module _ (m : ManifestData) (s : Seen) (still : StandStill m s) (p q : Pair) (tw
   right_counts = omega (arith, ap (λ (t : Pair × Pair). t.1.entries) still_two)
 
 -- they are there
-pub some_there : (m : ManifestData) (s : Seen) → StandStill m s → neighbours_at s.place m.pairs ≢ None
+pub some_there : (m : ManifestData) (s : SeenPairs) → StandStill m s → neighbours_at s.place m.pairs ≢ None
 some_there m s still e = absurd (cc (sym still.two ∙ e))
 
 -- ---- the numbers that came late
 
-module _ (content : Image) (may : ℕ → List ℕ → Type 0) (m : ManifestData) (x : Parts) (settled : IsSettled FIRST_FORMAT content may m x) (s : Seen) (has : IsMerging content m s) where
+module _ (content : Image) (may : ℕ → List ℕ → Type 0) (m : ManifestData) (x : Parts) (settled : IsSettled FIRST_FORMAT content may m x) (s : SeenPairs) (has : IsMerging content m s) where
   abbrev saw : SeenData
   saw = seen_with s has.live_left has.live_right
 
@@ -113,7 +113,7 @@ module _ (content : Image) (may : ℕ → List ℕ → Type 0) (m : ManifestData
   -- those that count now
   numbers_now : NumbersNow FIRST_FORMAT content m saw has.seen
   numbers_now =
-      let counted : (p : Pair) → Contains m.pairs p → (ns : List ℕ) × HasNumbers VERSION p.records p.entries ns (content p.delta_file) =
+      let counted : (p : Pair) → Contains m.pairs p → (ns : List ℕ) × HasDeadNumbers VERSION p.records p.entries ns (content p.delta_file) =
       λ p in_pairs. counted_of FIRST_FORMAT content may m x settled p in_pairs x.lives m.pairs settled.installed.parts.live in_pairs in
       let left = counted (left_now FIRST_FORMAT content m saw has.seen) (in_left FIRST_FORMAT content m saw has.seen) in
       let right = counted (right_now FIRST_FORMAT content m saw has.seen) (in_right FIRST_FORMAT content m saw has.seen) in
@@ -162,7 +162,7 @@ module _ (content : Image) (may : ℕ → List ℕ → Type 0) (m : ManifestData
         subst (λ (l : List ℕ). AreNumbers s.pair.records l) (sym late_same) (subst (λ k. AreNumbers k (renumbered renumbering late_left late_right)) count (gives_numbers has.live_left has.live_right late_left late_right from_left from_right))
 
 -- they are the same where the manifest's files stay
-late_stay : (old new : Image) (m : ManifestData) (s : Seen) (left right : List ℕ) → IsManifest m → ((n : ℕ) → Contains (named m) n → new n ≡ old n) → AreLateNow old m s left right → AreLateNow new m s left right
+late_stay : (old new : Image) (m : ManifestData) (s : SeenPairs) (left right : List ℕ) → IsManifest m → ((n : ℕ) → Contains (named m) n → new n ≡ old n) → AreLateNow old m s left right → AreLateNow new m s left right
 late_stay old new m s left right is same are = record {
   first = are.first;
   second = are.second;
@@ -327,7 +327,7 @@ module _ {D : Type 0} (d : Ghosts D) (old mid new : D) (m : ManifestData) (g : M
 
 -- ---- the manifest
 
-module _ (m : ManifestData) (is : IsManifest m) (s : Seen) (still : StandStill m s) (may : MayBecome m s) where
+module _ (m : ManifestData) (is : IsManifest m) (s : SeenPairs) (still : StandStill m s) (may : MayBecome m s) where
   abbrev two_are : MergeData
   two_are = record {
     before = take s.place m.pairs;
@@ -346,7 +346,7 @@ module _ (m : ManifestData) (is : IsManifest m) (s : Seen) (still : StandStill m
       let back = drop (s.place + 2) m.pairs in
       omega (arith, ap (λ (ps : List Pair). length ps) pairs_are, length-append front (two_are.left ∷ two_are.right ∷ back), length-take s.place m.pairs, length-drop (s.place + 2) m.pairs)
 
-  without_late : IsManifest (merged m two_are)
+  without_late : IsManifest (merged_manifest m two_are)
   without_late = manifest_merged m two_are pairs_are s.made.records (record {
     generation = omega (arith, may.generation);
     lo = may.lo;
@@ -366,13 +366,13 @@ module _ (m : ManifestData) (is : IsManifest m) (s : Seen) (still : StandStill m
   manifest_end late few =
       let c : MergeData = record two_are { pair = with_late late s.pair } in
       let rules = without_late.rules in
-      let same_named : named (merged m two_are) ≡ named (merged m c) = named_merged m two_are pairs_are ∙ sym (named_merged m c pairs_are) in
+      let same_named : named (merged_manifest m two_are) ≡ named (merged_manifest m c) = named_merged m two_are pairs_are ∙ sym (named_merged m c pairs_are) in
       record {
         rules = record {
           pairs = omega (arith, length-append c.before (c.pair ∷ c.behind), length-append c.before (two_are.pair ∷ c.behind), rules.pairs);
           some = rules.some;
           segments = rules.segments;
-          rise = rise_one 0 m.checkpoint_mark c.before c.behind c.left c.right c.pair may.lo may.hi may.few (subst (λ (ps : List Pair). PairsRise 0 ps m.checkpoint_mark) pairs_are is.rules.rise);
+          rise = rise_merged 0 m.checkpoint_mark c.before c.behind c.left c.right c.pair may.lo may.hi may.few (subst (λ (ps : List Pair). PairsRise 0 ps m.checkpoint_mark) pairs_are is.rules.rise);
           files = subst (λ (ns : List ℕ). All IsFile ns) same_named rules.files;
           different = subst (λ (ns : List ℕ). AllPairs (λ x y. x ≢ y) ns) same_named rules.different;
         };

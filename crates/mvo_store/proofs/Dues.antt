@@ -21,7 +21,7 @@ use Rattle.mvo_pair.specs.Data.{EntryData}
 use Rattle.mvo_pair.specs.declared.pair.Pair.{Pair}
 use Rattle.mvo_manifest.specs.Data.{ManifestData}
 use Rattle.mvo_manifest.specs.Rules.{IsFile}
-use Rattle.mvo_places.specs.Places.{PlaceTable, ArePlaces, file_of, taken_over}
+use Rattle.mvo_places.specs.Places.{PlaceTable, ArePlaces, file_of, taken_places}
 use Rattle.mvo_ckpt.specs.Writes.{records_of, gone_of}
 use Rattle.mvo_ckpt.proofs.Taking.{places_taken_over}
 use Rattle.mvo_merge.specs.Merged.{merged as records_merged}
@@ -30,35 +30,35 @@ use Rattle.mvo_merge.proofs.Kept.{own_keys}
 use Rattle.mvo_load.proofs.Pairing.{data_files_differ}
 use Rattle.mvo_recovery.specs.Parts.{IsLastFile, Parts}
 use Rattle.mvo_recovery.specs.Settled.{IsSettled, other_slot}
-use Rattle.mvo_recovery.specs.Checkpoint.{NewNumbers, raise, lives_after, checkpointed, checkpointed_parts}
-use Rattle.mvo_recovery.specs.Merging.{merged}
-use Rattle.mvo_beside.specs.Seen.{pairs_now}
-use Rattle.mvo_beside.proofs.Proved.{places_beside}
+use Rattle.mvo_recovery.specs.Checkpoint.{NewNumbers, raise, lives_after_checkpoint, checkpointed, checkpointed_parts}
+use Rattle.mvo_recovery.specs.Merging.{merged_manifest}
+use Rattle.mvo_recovery.specs.beside.Seen.{pairs_now}
+use Rattle.mvo_recovery.proofs.beside.Proved.{places_beside}
 use Rattle.mvo_recovery.proofs.Named.{slot_below, last_named, named_is_no_slot, last_once}
 use Rattle.mvo_recovery.proofs.Checkpointed.{last_stays, last_after}
 use Rattle.mvo_recovery.proofs.Installed.{after_install as settled_after}
-use Rattle.mvo_recovery.proofs.Beside.{rotated_last}
-use Rattle.mvo_store.specs.declared.step.Step.TheVariants.{Close, Open}
-use Rattle.mvo_store.specs.declared.due.Due.{Due}
-use Rattle.mvo_store.specs.declared.due.Due.TheVariants.{MergeDelta, Install}
-use Rattle.mvo_store.specs.declared.jobs.Jobs.{Jobs}
-use Rattle.mvo_store.specs.declared.jobs.Jobs.TheVariants.{Rotation as RotationAlone, Merge as MergeAlone, Beside}
+use Rattle.mvo_recovery.proofs.Rotating.{rotated_last}
+use Rattle.mvo_store.specs.declared.install.install_step.InstallStep.TheVariants.{Close, Open}
+use Rattle.mvo_store.specs.declared.jobs.due.Due.{Due}
+use Rattle.mvo_store.specs.declared.jobs.due.Due.TheVariants.{MergeDelta, Install}
+use Rattle.mvo_store.specs.declared.jobs.jobs.Jobs.{Jobs}
+use Rattle.mvo_store.specs.declared.jobs.jobs.Jobs.TheVariants.{Rotation as RotationAlone, Merge as MergeAlone, Beside}
 use Rattle.mvo_store.specs.StoreData.{StoreData, opening}
 use Rattle.mvo_store.specs.Causes.{why_not_due}
-use Rattle.mvo_store.specs.Jobs.{Job, has_rotation, step_due, merge_due_of, job_due, is_due, stage_behind, with_step, after_step, next_installed, after_install}
+use Rattle.mvo_store.specs.Jobs.{Job, has_rotation, step_due, merge_due_of, job_due, is_step_due, stage_behind, with_step, after_step, next_installed, after_install}
 use Rattle.mvo_store.specs.Jobs.Job.{Rotation, Checkpoint, Merge, MergeInstall}
-use Rattle.mvo_store.specs.Standing.{IsRunning, HaveJobs, ShareNone, HasRoom, JobHasRoom, IsUp, MayBeLeft, HasSlots, HasBody, HasWork, MayTakeOver, HaveKeys}
-use Rattle.mvo_store.specs.Safe.{IsWithin, IsSafeWork, AreSafe, HasNext, IsSafe, IsSound}
+use Rattle.mvo_store.specs.Standing.{IsRunning, HaveJobs, ShareNone, JobsHaveRoom, JobHasRoom, IsUp, MayBeLeft, HasSlots, HasBody, HasWork, MayTakeOver, HaveKeys}
+use Rattle.mvo_store.specs.Safe.{IsWithin, IsSafeWork, AreSafe, HasNext, IsSafe, IsStoreSound}
 use Rattle.mvo_store.specs.Writing.{StandsWith, StillGives, IsFileDue, IsFileAt, IsMergeFileAt, WritesFile, WritesFor, HasMadeStep, TakesMemory, IsStepRefusal, IsOpened}
-use Rattle.mvo_store.specs.Calls.{call_of, why_not, MayMeet, Makes, HasStepped, IsFileOf, IsFileOfJob, MayTouch, KeepsOthers, IsStoreStep, rows_after}
-use Rattle.mvo_store.specs.declared.install.Install.{Install as InstallData}
-use Rattle.mvo_store.specs.declared.checkpoint_stage.CheckpointStage.TheVariants.{Data as AtData, Delta as AtDelta, Install as AtInstall}
-use Rattle.mvo_store.specs.declared.checkpoint_stage.CheckpointStage.{CheckpointStage}
-use Rattle.mvo_store.specs.declared.merge_stage.MergeStage.{MergeStage}
-use Rattle.mvo_store.specs.declared.merge_stage.MergeStage.TheVariants.{Data as MergeAtData, Delta as MergeAtDelta}
-use Rattle.mvo_store.specs.declared.merging.Merging.{Merging}
-use Rattle.mvo_store.specs.declared.checkpointing.Checkpointing.{Checkpointing}
-use Rattle.mvo_store.specs.declared.seen.Seen.{Seen}
+use Rattle.mvo_store.specs.Calls.{call_of, why_not_store, MayMeet, Makes, HasStepped, IsFileOf, IsFileOfJob, MayTouch, KeepsOthers, IsStoreStep, rows_behind}
+use Rattle.mvo_store.specs.declared.install.install.Install.{Install as InstallData}
+use Rattle.mvo_store.specs.declared.checkpoint.stage.CheckpointStage.TheVariants.{Data as AtData, Delta as AtDelta, Install as AtInstall}
+use Rattle.mvo_store.specs.declared.checkpoint.stage.CheckpointStage.{CheckpointStage}
+use Rattle.mvo_store.specs.declared.merge.stage.MergeStage.{MergeStage}
+use Rattle.mvo_store.specs.declared.merge.stage.MergeStage.TheVariants.{Data as MergeAtData, Delta as MergeAtDelta}
+use Rattle.mvo_store.specs.declared.merge.merging.Merging.{Merging}
+use Rattle.mvo_store.specs.declared.checkpoint.checkpointing.Checkpointing.{Checkpointing}
+use Rattle.mvo_store.specs.declared.merge.seen_pairs.SeenPairs.{SeenPairs}
 use Rattle.mvo_store.specs.Checkpoint.{gained, made_of, IsCheckpointInto}
 use Rattle.mvo_store.specs.Merging.{seen_with, pair_with, IsMergeReady}
 use Rattle.mvo_store.specs.Steps.{manifest_after, places_after, segment_after}
@@ -93,7 +93,7 @@ abbrev pub IsPlain : Due → Type 0
 IsPlain step = (step ≢ MergeDelta) × (step ≢ Install Open)
 
 -- each such call is a step of a job
-pub why_of : {D : Type 0} (s : StoreData D) (step : Due) → IsPlain step → why_not s (call_of step) ≡ why_not_due step s
+pub why_of : {D : Type 0} (s : StoreData D) (step : Due) → IsPlain step → why_not_store s (call_of step) ≡ why_not_due step s
 why_of s (Install Open) other = absurd (other.1 refl)
 why_of s MergeDelta other = absurd (other.0 refl)
 why_of s step other = refl
@@ -109,18 +109,18 @@ module _ {D : Type 0} (d : Ghosts D) (old new : StoreData D) where
   due_file step n h = h
 
 -- and keeps the rows
-pub rows_of : {D A : Type 0} (s : StoreData D) (a : A) (step : Due) (rows : Map) → rows_after {A = A} s (call_of step) (Ok a) rows ≡ rows
+pub rows_of : {D A : Type 0} (s : StoreData D) (a : A) (step : Due) (rows : Map) → rows_behind {A = A} s (call_of step) (Ok a) rows ≡ rows
 rows_of s a (Install Close) rows = refl
 rows_of s a step rows = refl
 
-pub begins_due : {D : Type 0} (d : Ghosts D) (s t : StoreData D) (step : Due) → IsPlain step → s ≡ t → why_not_due step t ≡ None → (s.down ≡ false → IsSound d s) → Begins d s (call_of step)
+pub begins_due : {D : Type 0} (d : Ghosts D) (s t : StoreData D) (step : Due) → IsPlain step → s ≡ t → why_not_due step t ≡ None → (s.down ≡ false → IsStoreSound d s) → Begins d s (call_of step)
 begins_due d s t step other same none = begins d s t (call_of step) same (why_of t step other ∙ none)
 
-pub due_in : {D : Type 0} (s : StoreData D) (step : Due) → IsPlain step → why_not s (call_of step) ≡ None → is_due step s.jobs ≡ true
+pub due_in : {D : Type 0} (s : StoreData D) (step : Due) → IsPlain step → why_not_store s (call_of step) ≡ None → is_step_due step s.jobs ≡ true
 due_in s step other none = may_step step s (sym (why_of s step other) ∙ none)
 
 -- the job whose step it is
-pub due_job : {D : Type 0} (s : StoreData D) (step : Due) → IsPlain step → why_not s (call_of step) ≡ None → (j : Job) × (job_due step s.jobs ≡ Some j)
+pub due_job : {D : Type 0} (s : StoreData D) (step : Due) → IsPlain step → why_not_store s (call_of step) ≡ None → (j : Job) × (job_due step s.jobs ≡ Some j)
 due_job s step other none = some_due step s.jobs (due_in s step other none)
 
 pub memory_of : (step : Due) → TakesMemory step → MayMeet (call_of step) OutOfMemory
@@ -209,7 +209,7 @@ opened_jobs m (TheCheckpoint c (Some g) at) all apart = (merge_safe_after m c g 
 opened_jobs m (OfMerge c g at) all apart = never_opens g.stage at
 
 -- and need no room
-opened_room : (places : PlaceTable) (jobs : Jobs) → HasRoom places (after_install jobs)
+opened_room : (places : PlaceTable) (jobs : Jobs) → JobsHaveRoom places (after_install jobs)
 opened_room places (RotationAlone fresh i) = tt
 opened_room places (MergeAlone seen i) = tt
 opened_room places (Beside c None) = tt
@@ -297,12 +297,12 @@ module _ {D : Type 0} (d : Ghosts D) (s : StoreData D) (step : Due) (j : Job) (i
     step_refused {A} only_now counts_now b was file e refused false fault other =
         let left = memory_left d.fault_count s.disk new e other refused.refusal in
         let memory : MayMeet (call_of step) e = subst (MayMeet (call_of step)) (sym left.0) (memory_of step (subst TakesMemory (step_is due_here) (refused.memory left.0))) in
-        other_step d only_now s (record s { disk = new; down = false }) (call_of step) e (as_it_was left.1 b.up) other (λ is. subst IsMisread left.0 is) (err_is d A (call_of step) (why_not s (call_of step)) e b.none memory)
+        other_step d only_now s (record s { disk = new; down = false }) (call_of step) e (as_it_was left.1 b.up) other (λ is. subst IsMisread left.0 is) (err_is d A (call_of step) (why_not_store s (call_of step)) e b.none memory)
 
     -- the store stays as it stood, unless the disk met a fault
-    pub refused_sound : IsSound d s → (due : Due) (e : Refusal) → IsStepRefusal d.fault_count due s.disk new e → s.down ≡ false → (b : Bool) → OnFalse b (e ≢ DiskFault) → b ≡ false → IsSound d (record s { disk = new; down = b })
+    pub refused_sound : IsStoreSound d s → (due : Due) (e : Refusal) → IsStepRefusal d.fault_count due s.disk new e → s.down ≡ false → (b : Bool) → OnFalse b (e ≢ DiskFault) → b ≡ false → IsStoreSound d (record s { disk = new; down = b })
     refused_sound sound due e refused up true other is = absurd (cc is)
-    refused_sound sound due e refused up false other is = subst (λ (t : StoreData D). IsSound d t) (sym (as_it_was (memory_left d.fault_count s.disk new e other refused.refusal).1 up)) sound
+    refused_sound sound due e refused up false other is = subst (λ (t : StoreData D). IsStoreSound d t) (sym (as_it_was (memory_left d.fault_count s.disk new e other refused.refusal).1 up)) sound
 
 -- raised counts leave the data files
 files_stay : (new : NewNumbers) (ps : List Pair) → map file_of (map (raise new) ps) ≡ map file_of ps
@@ -336,7 +336,7 @@ module _ {D : Type 0} (d : Ghosts D) (s : StoreData D) (rows : Map) (up : IsUp d
         (subst (λ k. OthersStay k (d.content s.disk) (d.content new) (d.may_leave s.disk) (d.may_leave new)) at rest) is.durable next i.parts one_more i.ready is.has
 
     -- the store is up with it, with these places and this segment
-    with_next : (next : ManifestData) (i : Installs (d.content s.disk) (d.may_leave s.disk) up.parts next) (places : PlaceTable) (segment : Segment) (jobs : Jobs) → HaveJobs (d.content new) (d.may_leave new) next i.parts jobs → ShareNone jobs → HasRoom places jobs → IsSettled FIRST_FORMAT (d.content new) (d.may_leave new) next i.parts → IsLastFile next segment.file
+    with_next : (next : ManifestData) (i : Installs (d.content s.disk) (d.may_leave s.disk) up.parts next) (places : PlaceTable) (segment : Segment) (jobs : Jobs) → HaveJobs (d.content new) (d.may_leave new) next i.parts jobs → ShareNone jobs → JobsHaveRoom places jobs → IsSettled FIRST_FORMAT (d.content new) (d.may_leave new) next i.parts → IsLastFile next segment.file
         → segment.gate ≡ gate_of i.parts.last → segment.gate < MAX_SEGMENT_LEN → (s.written ≡ true → HasBody i.parts s.pending segment.gate segment.next (d.content new segment.file)) → ArePlaces next.pairs i.parts.lives places.at
         → IsUp d (record s { disk = new; manifest = next; places = places; segment = segment; jobs = jobs }) rows
     with_next next i places segment jobs runs apart room settled last gate few written are =
@@ -345,7 +345,7 @@ module _ {D : Type 0} (d : Ghosts D) (s : StoreData D) (rows : Map) (up : IsUp d
         search (rules, arith)
 
     -- the segment that took frames takes them then
-    installed_up : (next : ManifestData) (i : Installs (d.content s.disk) (d.may_leave s.disk) up.parts next) (places : PlaceTable) (jobs : Jobs) → HaveJobs (d.content new) (d.may_leave new) next i.parts jobs → ShareNone jobs → HasRoom places jobs → IsSettled FIRST_FORMAT (d.content new) (d.may_leave new) next i.parts
+    installed_up : (next : ManifestData) (i : Installs (d.content s.disk) (d.may_leave s.disk) up.parts next) (places : PlaceTable) (jobs : Jobs) → HaveJobs (d.content new) (d.may_leave new) next i.parts jobs → ShareNone jobs → JobsHaveRoom places jobs → IsSettled FIRST_FORMAT (d.content new) (d.may_leave new) next i.parts
         → i.parts.middle ≡ up.parts.middle → i.parts.last ≡ up.parts.last → IsLastFile next s.segment.file → ArePlaces next.pairs i.parts.lives places.at
         → IsUp d (record s { disk = new; manifest = next; places = places; jobs = jobs }) rows
     installed_up next i places jobs runs apart room settled same_middle same_last last = with_next next i places s.segment jobs runs apart room settled last (up.gate ∙ ap gate_of (sym same_last)) up.few
@@ -354,7 +354,7 @@ module _ {D : Type 0} (d : Ghosts D) (s : StoreData D) (rows : Map) (up : IsUp d
     -- the places then
     checkpoint_places : (c : Checkpointing) (places : PlaceTable) → (has : IsCheckpointInto (d.content s.disk) m up.parts c.pair c.made c.next)
         → IsSettled FIRST_FORMAT (d.content new) (d.may_leave new) c.next (checkpointed_parts m up.parts (made_of c.pair c.made has.segment) has.log.others)
-        → places.at ≡ taken_over c.pair.data_file c.made.records c.made.gone s.places.at → ArePlaces c.next.pairs (lives_after m up.parts (made_of c.pair c.made has.segment)) places.at
+        → places.at ≡ taken_places c.pair.data_file c.made.records c.made.gone s.places.at → ArePlaces c.next.pairs (lives_after_checkpoint m up.parts (made_of c.pair c.made has.segment)) places.at
     checkpoint_places c places has settled are =
         let made = has.made_is in
         let gs = has.segment.groups in
@@ -363,23 +363,23 @@ module _ {D : Type 0} (d : Ghosts D) (s : StoreData D) (rows : Map) (up : IsUp d
         let same : map file_of (map (raise (gained c.made.deltas)) m.pairs) ≡ map file_of m.pairs = files_stay (gained c.made.deltas) m.pairs in
         let apart : IsDistinct nat_eq (map file_of (map (raise (gained c.made.deltas)) m.pairs ++ c.pair ∷ [])) = subst (λ (n : ManifestData). IsDistinct nat_eq (map file_of n.pairs)) has.next_is (data_files_differ c.next settled.installed.own.is) in
         let taken = places_taken_over gs m.pairs (map (raise (gained c.made.deltas)) m.pairs) up.parts.lives old_at c.pair up.places same apart in
-        let at_is : places.at ≡ taken_over file (records_of gs) (gone_of gs) old_at = are ∙ ap (λ (es : List EntryData). taken_over file es c.made.gone old_at) made.records ∙ ap (λ (ks : List RowKey). taken_over file (records_of gs) ks old_at) made.gone in
+        let at_is : places.at ≡ taken_places file (records_of gs) (gone_of gs) old_at = are ∙ ap (λ (es : List EntryData). taken_places file es c.made.gone old_at) made.records ∙ ap (λ (ks : List RowKey). taken_places file (records_of gs) ks old_at) made.gone in
         rw (at_is, made.lives, has.next_is) taken
 
-    merge_places : (g : Seen) (next : ManifestData) (places : PlaceTable) → (is : IsMergeReady (d.content s.disk) (d.may_leave s.disk) m g next)
+    merge_places : (g : SeenPairs) (next : ManifestData) (places : PlaceTable) → (is : IsMergeReady (d.content s.disk) (d.may_leave s.disk) m g next)
         → IsSettled FIRST_FORMAT (d.content new) (d.may_leave new) next (merged_parts_now (d.content s.disk) (d.may_leave s.disk) m up.parts g next is)
         → places.at ≡ moved g.left.data_file g.right.data_file g.pair.data_file g.made.records s.places.at → ArePlaces next.pairs (merged_parts_now (d.content s.disk) (d.may_leave s.disk) m up.parts g next is).lives places.at
     merge_places g next places is settled to =
         let merge = is.merge in
         let saw = seen_with g merge.live_left merge.live_right in
-        let differ : IsDistinct nat_eq (map file_of (merged m (pairs_now merge.seen (pair_with g is.late))).pairs) = subst (λ (n : ManifestData). IsDistinct nat_eq (map file_of n.pairs)) is.next_is (data_files_differ next settled.installed.own.is) in
+        let differ : IsDistinct nat_eq (map file_of (merged_manifest m (pairs_now merge.seen (pair_with g is.late))).pairs) = subst (λ (n : ManifestData). IsDistinct nat_eq (map file_of n.pairs)) is.next_is (data_files_differ next settled.installed.own.is) in
         let now = places_beside FIRST_FORMAT (d.content s.disk) m up.parts saw (pair_with g is.late) merge.seen is.now s.places.at small up.settled.installed.own.is up.settled.installed.parts.live differ up.places in
         let at_is : places.at ≡ moved g.left.data_file g.right.data_file g.pair.data_file (records_merged merge.live_left merge.live_right) s.places.at = to ∙ ap (λ (es : List EntryData). moved g.left.data_file g.right.data_file g.pair.data_file es s.places.at) merge.records in
         rw (at_is, is.next_is) now
 
     -- THE STORE IS UP WITH IT, and with the jobs that run on.
     open_up : {j : Job} {i : InstallData} → Installing j i → HasWork (d.content s.disk) (d.may_leave s.disk) m up.parts j → (places : PlaceTable) → IsOpened d new m (manifest_after j m) → places.at ≡ places_after j s.places.at → (is_rotation j ≡ true → s.written ≡ false)
-        → (jobs : Jobs) → ((y : Parts) → HaveJobs (d.content new) (d.may_leave new) (manifest_after j m) y jobs) → ShareNone jobs → HasRoom places jobs
+        → (jobs : Jobs) → ((y : Parts) → HaveJobs (d.content new) (d.may_leave new) (manifest_after j m) y jobs) → ShareNone jobs → JobsHaveRoom places jobs
         → IsUp d (record s { disk = new; manifest = manifest_after j m; places = places; segment = segment_after j s.segment; jobs = jobs }) rows
     open_up (OfRotation fresh k) has places opened to free jobs runs apart room =
         let i = installs (d.content s.disk) (d.may_leave s.disk) m up.parts up.settled (OfRotation fresh k) has in

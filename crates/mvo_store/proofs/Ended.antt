@@ -10,21 +10,21 @@ use Rattle.mvo_pair.specs.Writing.{IsStop, CountsFaults}
 use Rattle.mvo_manifest.specs.Data.{ManifestData}
 use Rattle.mvo_load.specs.Read.{IsMisread}
 use Rattle.mvo_recovery.specs.Parts.{IsLastFile}
-use Rattle.mvo_store.specs.declared.due.Due.TheVariants.{MergeDelta, Install}
-use Rattle.mvo_store.specs.declared.step.Step.TheVariants.{Close, Open}
-use Rattle.mvo_store.specs.declared.merge_stage.MergeStage.{MergeStage}
-use Rattle.mvo_store.specs.declared.merge_stage.MergeStage.TheVariants.{Data as MergeAtData, Delta as MergeAtDelta}
-use Rattle.mvo_store.specs.declared.merging.Merging.{Merging}
-use Rattle.mvo_store.specs.declared.jobs.Jobs.{Jobs}
-use Rattle.mvo_store.specs.declared.jobs.Jobs.TheVariants.{Merge as MergeAlone, Beside}
+use Rattle.mvo_store.specs.declared.jobs.due.Due.TheVariants.{MergeDelta, Install}
+use Rattle.mvo_store.specs.declared.install.install_step.InstallStep.TheVariants.{Close, Open}
+use Rattle.mvo_store.specs.declared.merge.stage.MergeStage.{MergeStage}
+use Rattle.mvo_store.specs.declared.merge.stage.MergeStage.TheVariants.{Data as MergeAtData, Delta as MergeAtDelta}
+use Rattle.mvo_store.specs.declared.merge.merging.Merging.{Merging}
+use Rattle.mvo_store.specs.declared.jobs.jobs.Jobs.{Jobs}
+use Rattle.mvo_store.specs.declared.jobs.jobs.Jobs.TheVariants.{Merge as MergeAlone, Beside}
 use Rattle.mvo_store.specs.StoreData.{StoreData}
 use Rattle.mvo_store.specs.Causes.{why_not_merge_delta}
 use Rattle.mvo_store.specs.Merging.{merged_at, pair_with}
 use Rattle.mvo_store.specs.Jobs.{merge_due_of, step_number, step_due, job_due, with_manifest}
 use Rattle.mvo_store.specs.Jobs.Job.{Merge, MergeInstall}
-use Rattle.mvo_store.specs.Safe.{IsSafeMerge, AreSafe, IsSafe, IsSound}
+use Rattle.mvo_store.specs.Safe.{IsSafeMerge, AreSafe, IsSafe, IsStoreSound}
 use Rattle.mvo_store.specs.Standing.{IsUp}
-use Rattle.mvo_store.specs.Writing.{IsFileDue, IsMergeFileAt, StandsFor, WritesFile, IsEndOf}
+use Rattle.mvo_store.specs.Writing.{IsFileDue, IsMergeFileAt, JobStandsFor, WritesFile, IsEndOf}
 use Rattle.mvo_store.specs.Calls.{IsMergeEnded, IsStoreStep}
 use Rattle.mvo_store.specs.Calls.StoreCall.{MergeDelta as EndMerge}
 use Rattle.mvo_store.proofs.Keeping.{CountsNow, Begins, begins, may_end, slots_as, stays_up, stays_safe, looked_safe, fault_step, misread_step, looked_step, done_step}
@@ -44,7 +44,7 @@ pub record EndsAlone {D : Type 0} (d : Ghosts D) (s : StoreData D) : Type 0 wher
   pub is : s.jobs ≡ Beside None (Some merge)
   pub at : merge.stage ≡ MergeAtDelta
 
-module _ {D : Type 0} (d : Ghosts D) (s t : StoreData D) (same : s ≡ t) (none : why_not_merge_delta t ≡ None) (invariant : s.down ≡ false → IsSound d s) where
+module _ {D : Type 0} (d : Ghosts D) (s t : StoreData D) (same : s ≡ t) (none : why_not_merge_delta t ≡ None) (invariant : s.down ≡ false → IsStoreSound d s) where
   pub begun : Begins d s EndMerge
   begun = begins d s t EndMerge same none invariant
 
@@ -72,7 +72,7 @@ module _ {D : Type 0} {d : Ghosts D} {s : StoreData D} (b : EndsAlone d s) where
   pub safe_here : IsSafeMerge s.manifest g
   safe_here = (subst (λ (k : Jobs). AreSafe s.manifest k) b.is b.begins.sound.safe.jobs).0
 
-  pub stands_here : IsHonest (d.moment s.disk) → StandsFor d s.disk s.manifest (Merge g)
+  pub stands_here : IsHonest (d.moment s.disk) → JobStandsFor d s.disk s.manifest (Merge g)
   stands_here honest = let now = b.begins.sound.up honest in (now.1.parts, stands_of d s MergeDelta (Merge g) last_due now.0 now.1)
 
   -- it opens no gate
@@ -108,8 +108,8 @@ module _ {D : Type 0} {d : Ghosts D} {s : StoreData D} (b : EndsAlone d s) where
       ended_safe = stays_safe b.begins.sound.safe new s.places alone (record { pair = safe_here.pair; next_is = ap (λ (n : ManifestData). n.generation) e.ended.next_is }, tt) tt (tt, tt) e.count
 
       -- THE STORE IS SOUND WITH THE MERGE'S MANIFEST.
-      pub ended_sound : IsSound d (record s { disk = new; jobs = with_manifest next s.jobs })
-      ended_sound = subst (λ (k : Jobs). IsSound d (record s { disk = new; jobs = k })) (sym jobs_are) (record {
+      pub ended_sound : IsStoreSound d (record s { disk = new; jobs = with_manifest next s.jobs })
+      ended_sound = subst (λ (k : Jobs). IsStoreSound d (record s { disk = new; jobs = k })) (sym jobs_are) (record {
         safe = ended_safe;
         up = λ honest. let now = b.begins.sound.up (e.honest honest) in (now.0, ended_up honest now.0 now.1);
       })
@@ -170,12 +170,12 @@ module _ {D : Type 0} {d : Ghosts D} {s : StoreData D} (b : EndsAlone d s) where
           go false ne is = subst (λ (t : StoreData D). IsStoreStep {A = Unit {0}} d s EndMerge (Err refusal) t) (same false (sym b.begins.up)) (at_memory is)
 
       -- the store stands as it did, unless it is down
-      pub end_still : OnFalse down (refusal ≡ OutOfMemory) → down ≡ false → IsSound d (record s { disk = new; down = down })
+      pub end_still : OnFalse down (refusal ≡ OutOfMemory) → down ≡ false → IsStoreSound d (record s { disk = new; down = down })
       end_still = go down
         where
-          go : (t : Bool) → OnFalse t (refusal ≡ OutOfMemory) → t ≡ false → IsSound d (record s { disk = new; down = t })
+          go : (t : Bool) → OnFalse t (refusal ≡ OutOfMemory) → t ≡ false → IsStoreSound d (record s { disk = new; down = t })
           go true is up = absurd (cc up)
-          go false is up = subst (λ (t : StoreData D). IsSound d t) (ap (λ (k : Bool). record s { disk = new; down = k }) b.begins.up) (record {
+          go false is up = subst (λ (t : StoreData D). IsStoreSound d t) (ap (λ (k : Bool). record s { disk = new; down = k }) b.begins.up) (record {
             safe = looked_safe b.begins.sound.safe new (no_fault is);
             up = λ honest. let now = b.begins.sound.up (e.honest honest) in (now.0, looked_same b.begins new (e.memory is) (no_fault is) now.0 now.1);
           })

@@ -14,24 +14,24 @@ use Rattle.mvo_recovery.specs.Parts.{Parts}
 use Rattle.mvo_recovery.specs.Settled.{IsSettled, IsUsed, GivesParts}
 use Rattle.mvo_recovery.proofs.Framed.{settled_gives, within_unused}
 use Rattle.mvo_load.specs.Read.{IsMisread}
-use Rattle.mvo_store.specs.declared.jobs.Jobs.{Jobs}
+use Rattle.mvo_store.specs.declared.jobs.jobs.Jobs.{Jobs}
 use Rattle.mvo_store.specs.StoreData.{StoreData, opening}
-use Rattle.mvo_store.specs.Standing.{IsUp, HasBody, HaveJobs, ShareNone, HasRoom, Gives, GivesOr, HasSlots, MayBeLeft, KeepsRows, IsKeeping, Keeps}
+use Rattle.mvo_store.specs.Standing.{IsUp, HasBody, HaveJobs, ShareNone, JobsHaveRoom, Gives, GivesOr, HasSlots, MayBeLeft, KeepsRows, IsKeeping, KeepsAllRows}
 use Rattle.mvo_store.specs.Writing.{StillGives}
-use Rattle.mvo_store.specs.Safe.{IsSafe, AreSafe, IsSound}
+use Rattle.mvo_store.specs.Safe.{IsSafe, AreSafe, IsStoreSound}
 use Rattle.mvo_types.specs.declared.limits.TheConstants.{MAX_SEGMENTS}
 use Rattle.mvo_types.specs.declared.refusal.Refusal.{Refusal}
 use Rattle.mvo_types.specs.declared.refusal.Refusal.TheVariants.{DiskFault, OutOfMemory}
 use Rattle.mvo_format.specs.declared.header.TheConstants.{HEADER_LEN}
 use Rattle.mvo_store.specs.declared.limits.TheConstants.{MAX_GENERATION}
-use Rattle.mvo_store.specs.declared.step.Step.TheVariants.{Open}
-use Rattle.mvo_store.specs.declared.due.Due.{Due}
-use Rattle.mvo_store.specs.declared.due.Due.TheVariants.{MergeDelta, Install}
+use Rattle.mvo_store.specs.declared.install.install_step.InstallStep.TheVariants.{Open}
+use Rattle.mvo_store.specs.declared.jobs.due.Due.{Due}
+use Rattle.mvo_store.specs.declared.jobs.due.Due.TheVariants.{MergeDelta, Install}
 use Rattle.mvo_store.specs.Causes.{why_not_take, why_not_rotate, why_not_checkpoint, why_not_merge, why_not_due, why_not_merge_delta, why_not_install_open}
-use Rattle.mvo_store.specs.Jobs.{keeps_all_out, keeps_checkpoint_out, keeps_merge_out, has_checkpoint, has_rotation, is_due}
+use Rattle.mvo_store.specs.Jobs.{keeps_all_out, keeps_checkpoint_out, keeps_merge_out, has_checkpoint, has_rotation, is_step_due}
 use Rattle.mvo_store.specs.Planning.{MayReadCheckpoint}
 use Rattle.mvo_store.specs.MergeReading.{MayReadMerge}
-use Rattle.mvo_store.specs.Calls.{StoreCall, why_not, MayMeet, IsRefused, Makes, HasNoFault, LeftBy, LeftByMemory, MayTouch, KeepsOthers, IsStoreStep, rows_after}
+use Rattle.mvo_store.specs.Calls.{StoreCall, why_not_store, MayMeet, IsRefused, Makes, HasNoFault, LeftByRefusal, LeftByMemory, MayTouch, KeepsOthers, IsStoreStep, rows_behind}
 use Rattle.mvo_store.specs.Calls.StoreCall.{Take, AppendOpen, CheckpointRead, MergeRead, MergeDelta as MergeDeltaCall}
 
 -- ---- the slots
@@ -125,7 +125,7 @@ module _ {D : Type 0} (d : Ghosts D) where
 
     -- Its disk, its places and its jobs are others: the last segment stays, and the jobs stand.
     pub stays_up : (new : D) (places : PlaceTable) (jobs : Jobs) → IsSettled FIRST_FORMAT (d.content new) (d.may_leave new) s.manifest up.parts → d.content new s.segment.file ≡ d.content s.disk s.segment.file
-        → HaveJobs (d.content new) (d.may_leave new) s.manifest up.parts jobs → ShareNone jobs → places.at ≡ s.places.at → HasRoom places jobs → d.fault_count new ≡ d.fault_count s.disk → IsUp d (record s { disk = new; places = places; jobs = jobs }) rows
+        → HaveJobs (d.content new) (d.may_leave new) s.manifest up.parts jobs → ShareNone jobs → places.at ≡ s.places.at → JobsHaveRoom places jobs → d.fault_count new ≡ d.fault_count s.disk → IsUp d (record s { disk = new; places = places; jobs = jobs }) rows
     stays_up new places jobs settled last stands apart same room count =
         let written : s.written ≡ true → HasBody up.parts s.pending s.segment.gate s.segment.next (d.content new s.segment.file) = λ e. subst (λ (c : List ℕ). HasBody up.parts s.pending s.segment.gate s.segment.next c) (sym last) (up.written e) in
         let are : ArePlaces s.manifest.pairs up.parts.lives places.at = subst (λ (at : PlaceMap). ArePlaces s.manifest.pairs up.parts.lives at) (sym same) up.places in
@@ -134,7 +134,7 @@ module _ {D : Type 0} (d : Ghosts D) where
   -- ---- a step
 
   -- nothing changes
-  pub refused_keeps : OnlyNow → (s : StoreData D) → Keeps d s s
+  pub refused_keeps : OnlyNow → (s : StoreData D) → KeepsAllRows d s s
   refused_keeps only_now s = record {
     any_moment = λ rows k. started d.moment d.left_since s.disk (MayBeLeft rows s.mark (opening s)) (λ image left. k.images image (only_now s.disk image left));
     keeps = λ rows k. k;
@@ -145,7 +145,7 @@ module _ {D : Type 0} (d : Ghosts D) where
   still_leaves only_now s rows up slots = started d.moment d.left_since s.disk (MayBeLeft rows s.mark (opening s)) (λ image left. now_left s rows up slots image (only_now s.disk image left))
 
   -- a call of the device failed
-  pub fault_keeps : CountsNow → (s : StoreData D) (disk : D) → s.down ≡ false → AllLeave s disk → Keeps d s (record s { disk = disk; down = true })
+  pub fault_keeps : CountsNow → (s : StoreData D) (disk : D) → s.down ≡ false → AllLeave s disk → KeepsAllRows d s (record s { disk = disk; down = true })
   fault_keeps counts_now s disk is moments = record {
     any_moment = λ rows k. moments rows (k.up is).0 (k.up is).1;
     keeps = λ rows k. record {
@@ -164,25 +164,25 @@ module _ {D : Type 0} (d : Ghosts D) where
   }
 
 -- the store is up
-up_of : {D : Type 0} (s : StoreData D) (call : StoreCall) → why_not s call ≡ None → s.down ≡ false
+up_of : {D : Type 0} (s : StoreData D) (call : StoreCall) → why_not_store s call ≡ None → s.down ≡ false
 up_of s (Take g) e = grind arith
 up_of s call e = grind arith
 
 -- no cause is a fault or what was misread
-cause_apart : {D : Type 0} (s : StoreData D) (call : StoreCall) (cause : Refusal) → why_not s call ≡ Some cause → (cause ≢ DiskFault) × (IsMisread cause → ⊥)
+cause_apart : {D : Type 0} (s : StoreData D) (call : StoreCall) (cause : Refusal) → why_not_store s call ≡ Some cause → (cause ≢ DiskFault) × (IsMisread cause → ⊥)
 cause_apart s (Take g) cause is = grind arith
 cause_apart s call cause is = grind arith
 
 -- a step of a job may be made
-pub may_step : {D : Type 0} (step : Due) (s : StoreData D) → why_not_due step s ≡ None → is_due step s.jobs ≡ true
+pub may_step : {D : Type 0} (step : Due) (s : StoreData D) → why_not_due step s ≡ None → is_step_due step s.jobs ≡ true
 may_step step s e = grind arith
 
 -- the gate of a manifest may be opened
-pub may_open : {D : Type 0} (s : StoreData D) → why_not_install_open s ≡ None → (is_due (Install Open) s.jobs ≡ true) × ((s.written && has_rotation s.jobs) ≡ false)
+pub may_open : {D : Type 0} (s : StoreData D) → why_not_install_open s ≡ None → (is_step_due (Install Open) s.jobs ≡ true) × ((s.written && has_rotation s.jobs) ≡ false)
 may_open s e = grind arith
 
 -- the last file of a merge may be written
-pub may_end : {D : Type 0} (s : StoreData D) → why_not_merge_delta s ≡ None → (is_due MergeDelta s.jobs ≡ true) × (has_checkpoint s.jobs ≡ false)
+pub may_end : {D : Type 0} (s : StoreData D) → why_not_merge_delta s ≡ None → (is_step_due MergeDelta s.jobs ≡ true) × (has_checkpoint s.jobs ≡ false)
 may_end s e = grind arith
 
 -- no job keeps one out that begins
@@ -212,7 +212,7 @@ pub may_merge_at : {D : Type 0} (place : ℕ) (s : StoreData D) → why_not_merg
 may_merge_at place s e = grind arith
 
 -- a refusal keeps the rows as they are
-err_keeps : {D : Type 0} (A : Type 0) (d : Ghosts D) (old new : StoreData D) (call : StoreCall) (e : Refusal) → Keeps d old new → IsKeeping d (rows_after {A = A} old call (Err e)) old new
+err_keeps : {D : Type 0} (A : Type 0) (d : Ghosts D) (old new : StoreData D) (call : StoreCall) (e : Refusal) → KeepsAllRows d old new → IsKeeping d (rows_behind {A = A} old call (Err e)) old new
 err_keeps A d old new AppendOpen e h = h
 err_keeps A d old new call e h = h
 
@@ -224,7 +224,7 @@ module _ {D : Type 0} (d : Ghosts D) where
   same_left call s = refl
 
   -- nothing changes
-  left_same : (call : StoreCall) (e : Refusal) (s : StoreData D) → e ≢ DiskFault → (IsMisread e → ⊥) → LeftBy d call e s s
+  left_same : (call : StoreCall) (e : Refusal) (s : StoreData D) → e ≢ DiskFault → (IsMisread e → ⊥) → LeftByRefusal d call e s s
   left_same call e s ne never = record { fault = λ is. absurd (ne is); memory = λ is. same_left call s; misread = λ is. absurd (never is); other = λ f m n. refl }
 
   -- ---- the files
@@ -245,14 +245,14 @@ module _ {D : Type 0} (d : Ghosts D) where
   -- ---- a call that no cause refuses, of a store that is up
 
   pub record Begins (s : StoreData D) (call : StoreCall) : Type 0 where
-    pub none : why_not s call ≡ None
+    pub none : why_not_store s call ≡ None
     pub up : s.down ≡ false
-    pub sound : IsSound d s
+    pub sound : IsStoreSound d s
 
   -- so it is, where a store's value is known and its invariant
-  pub begins : (s t : StoreData D) (call : StoreCall) → s ≡ t → why_not t call ≡ None → (s.down ≡ false → IsSound d s) → Begins s call
+  pub begins : (s t : StoreData D) (call : StoreCall) → s ≡ t → why_not_store t call ≡ None → (s.down ≡ false → IsStoreSound d s) → Begins s call
   begins s t call same none invariant =
-      let here = subst (λ (u : StoreData D). why_not u call ≡ None) (sym same) none in
+      let here = subst (λ (u : StoreData D). why_not_store u call ≡ None) (sym same) none in
       record { none = here; up = up_of s call here; sound = invariant (up_of s call here) }
 
   -- ---- each way
@@ -260,35 +260,35 @@ module _ {D : Type 0} (d : Ghosts D) where
   pub err_is : (A : Type 0) (call : StoreCall) (why : Option Refusal) (e : Refusal) → why ≡ None → MayMeet call e → IsRefused {A = A} call why (Err e)
   err_is A call why e none may = subst (λ (o : Option Refusal). IsRefused {A = A} call o (Err e)) (sym none) may
 
-  err_step : {A : Type 0} (s t : StoreData D) (call : StoreCall) (e : Refusal) → IsRefused {A = A} call (why_not s call) (Err e) → LeftBy d call e s t → (IsHonest (d.moment t.disk) → IsHonest (d.moment s.disk)) → (IsHonest (d.moment t.disk) → Keeps d s t) → KeepsOthers d call s t → IsStoreStep {A = A} d s call (Err e) t
+  err_step : {A : Type 0} (s t : StoreData D) (call : StoreCall) (e : Refusal) → IsRefused {A = A} call (why_not_store s call) (Err e) → LeftByRefusal d call e s t → (IsHonest (d.moment t.disk) → IsHonest (d.moment s.disk)) → (IsHonest (d.moment t.disk) → KeepsAllRows d s t) → KeepsOthers d call s t → IsStoreStep {A = A} d s call (Err e) t
   err_step {A} s t call e refused left was keeps others = record { comes = record { refused = refused; made = tt; left = left }; honest = was; keeps = λ honest. err_keeps A d s t call e (keeps honest); others = others }
 
   -- it is refused, and nothing has changed
-  pub other_step : {A : Type 0} → OnlyNow d → (s t : StoreData D) (call : StoreCall) (e : Refusal) → t ≡ s → e ≢ DiskFault → (IsMisread e → ⊥) → IsRefused {A = A} call (why_not s call) (Err e) → IsStoreStep {A = A} d s call (Err e) t
+  pub other_step : {A : Type 0} → OnlyNow d → (s t : StoreData D) (call : StoreCall) (e : Refusal) → t ≡ s → e ≢ DiskFault → (IsMisread e → ⊥) → IsRefused {A = A} call (why_not_store s call) (Err e) → IsStoreStep {A = A} d s call (Err e) t
   other_step {A} only_now s t call e same ne never refused = subst (λ (u : StoreData D). IsStoreStep {A = A} d s call (Err e) u) (sym same) (err_step s s call e refused (left_same call e s ne never) (λ h. h) (λ _. refused_keeps d only_now s) (same_others call s))
 
   -- so where a cause stands
-  pub refused_step : {A : Type 0} → OnlyNow d → (s : StoreData D) (call : StoreCall) (cause : Refusal) → why_not s call ≡ Some cause → IsStoreStep {A = A} d s call (Err cause) s
+  pub refused_step : {A : Type 0} → OnlyNow d → (s : StoreData D) (call : StoreCall) (cause : Refusal) → why_not_store s call ≡ Some cause → IsStoreStep {A = A} d s call (Err cause) s
   refused_step {A} only_now s call cause is =
       let apart = cause_apart s call cause is in
       other_step only_now s s call cause refl apart.0 apart.1 (subst (λ (o : Option Refusal). IsRefused {A = A} call o (Err cause)) (sym is) refl)
 
   -- and where memory is refused first
-  pub memory_step : {A : Type 0} → OnlyNow d → (s : StoreData D) (call : StoreCall) → why_not s call ≡ None → MayMeet call OutOfMemory → IsStoreStep {A = A} d s call (Err OutOfMemory) s
-  memory_step {A} only_now s call none may = other_step only_now s s call OutOfMemory refl (λ e. cc) (λ never. never) (err_is A call (why_not s call) OutOfMemory none may)
+  pub memory_step : {A : Type 0} → OnlyNow d → (s : StoreData D) (call : StoreCall) → why_not_store s call ≡ None → MayMeet call OutOfMemory → IsStoreStep {A = A} d s call (Err OutOfMemory) s
+  memory_step {A} only_now s call none may = other_step only_now s s call OutOfMemory refl (λ e. cc) (λ never. never) (err_is A call (why_not_store s call) OutOfMemory none may)
 
 module _ {D : Type 0} {d : Ghosts D} {s : StoreData D} {call : StoreCall} (b : Begins d s call) where
   -- the disk met a fault
   pub fault_step : {A : Type 0} → CountsNow d → (disk : D) (e : Refusal) → e ≡ DiskFault → MayMeet call DiskFault → d.fault_count disk ≡ d.fault_count s.disk + 1 → (IsHonest (d.moment disk) → IsHonest (d.moment s.disk)) → (IsHonest (d.moment disk) → AllLeave d s disk) → KeepsOthers d call s (record s { disk = disk; down = true })
       → IsStoreStep {A = A} d s call (Err e) (record s { disk = disk; down = true })
   fault_step {A} counts_now disk e at may count was leaves others = subst (λ (r : Refusal). IsStoreStep {A = A} d s call (Err r) (record s { disk = disk; down = true })) (sym at)
-      (err_step d s (record s { disk = disk; down = true }) call DiskFault (err_is d A call (why_not s call) DiskFault b.none may)
+      (err_step d s (record s { disk = disk; down = true }) call DiskFault (err_is d A call (why_not_store s call) DiskFault b.none may)
       (record { fault = λ is. record { after = refl; count = count }; memory = λ is. absurd (cc is); misread = λ never. absurd never; other = λ ne m n. absurd (ne refl) }) was (λ honest. fault_keeps d counts_now s disk b.up (leaves honest)) others)
 
   -- what was read breaks a rule
   pub misread_step : {A : Type 0} (disk : D) (e : Refusal) → IsMisread e → MayMeet call e → d.fault_count disk ≡ d.fault_count s.disk → (IsHonest (d.moment disk) → ⊥) → KeepsOthers d call s (record s { disk = disk; down = true })
       → IsStoreStep {A = A} d s call (Err e) (record s { disk = disk; down = true })
-  misread_step {A} disk e is may count lied others = err_step d s (record s { disk = disk; down = true }) call e (err_is d A call (why_not s call) e b.none may)
+  misread_step {A} disk e is may count lied others = err_step d s (record s { disk = disk; down = true }) call e (err_is d A call (why_not_store s call) e b.none may)
       (record {
         fault = λ at. absurd (subst IsMisread at is);
         memory = λ at. absurd (subst IsMisread at is);
@@ -298,26 +298,26 @@ module _ {D : Type 0} {d : Ghosts D} {s : StoreData D} {call : StoreCall} (b : B
 
   module _ (t : StoreData D) (was : IsHonest (d.moment t.disk) → IsHonest (d.moment s.disk)) (leaves : IsHonest (d.moment t.disk) → AllLeave d s t.disk) (slots : IsHonest (d.moment t.disk) → (rows : Map) → IsUp d s rows → HasSlots (d.content s.disk) → HasSlots (d.content t.disk)) (others : KeepsOthers d call s t) where
     -- the call does what it is for
-    pub done_step : {A : Type 0} (a : A) → Makes d call s t → HasNoFault d s t → (IsHonest (d.moment t.disk) → (rows : Map) → IsUp d s rows → IsUp d t (rows_after {A = A} s call (Ok a) rows)) → IsStoreStep d s call (Ok a) t
+    pub done_step : {A : Type 0} (a : A) → Makes d call s t → HasNoFault d s t → (IsHonest (d.moment t.disk) → (rows : Map) → IsUp d s rows → IsUp d t (rows_behind {A = A} s call (Ok a) rows)) → IsStoreStep d s call (Ok a) t
     done_step {A} a makes no_fault ups =
-        let refused : IsRefused {A = A} call (why_not s call) (Ok a) = subst (λ (o : Option Refusal). IsRefused {A = A} call o (Ok a)) (sym b.none) tt in
+        let refused : IsRefused {A = A} call (why_not_store s call) (Ok a) = subst (λ (o : Option Refusal). IsRefused {A = A} call o (Ok a)) (sym b.none) tt in
         record {
           comes = record { refused = refused; made = record { makes = makes; no_fault = no_fault }; left = tt };
           honest = was;
-          keeps = λ honest. step_keeps d (rows_after {A = A} s call (Ok a)) s t b.up (leaves honest) (ups honest) (slots honest);
+          keeps = λ honest. step_keeps d (rows_behind {A = A} s call (Ok a)) s t b.up (leaves honest) (ups honest) (slots honest);
           others = others;
         }
 
     -- it has looked at the disk before memory is refused
     pub looked_step : {A : Type 0} → MayMeet call OutOfMemory → LeftByMemory d call s t → (IsHonest (d.moment t.disk) → (rows : Map) → IsUp d s rows → IsUp d t rows) → IsStoreStep {A = A} d s call (Err OutOfMemory) t
-    looked_step {A} may left ups = err_step d s t call OutOfMemory (err_is d A call (why_not s call) OutOfMemory b.none may)
+    looked_step {A} may left ups = err_step d s t call OutOfMemory (err_is d A call (why_not_store s call) OutOfMemory b.none may)
         (record { fault = λ is. absurd (cc is); memory = λ _. left; misread = λ never. absurd never; other = λ _ ne n. absurd (ne refl) }) was (λ honest. step_keeps d (λ rows. rows) s t b.up (leaves honest) (ups honest) (slots honest)) others
 
 -- ---- what safety needs
 
 module _ {D : Type 0} {d : Ghosts D} {s : StoreData D} (safe : IsSafe d s) where
   -- the disk, the places and the jobs are others
-  pub stays_safe : (new : D) (places : PlaceTable) (jobs : Jobs) → AreSafe s.manifest jobs → ShareNone jobs → HasRoom places jobs → d.fault_count new ≡ d.fault_count s.disk → IsSafe d (record s { disk = new; places = places; jobs = jobs })
+  pub stays_safe : (new : D) (places : PlaceTable) (jobs : Jobs) → AreSafe s.manifest jobs → ShareNone jobs → JobsHaveRoom places jobs → d.fault_count new ≡ d.fault_count s.disk → IsSafe d (record s { disk = new; places = places; jobs = jobs })
   stays_safe new places jobs is apart room count = record {
     file = safe.file;
     few = safe.few;

@@ -18,13 +18,13 @@ use Rattle.mvo_manifest.specs.Data.{ManifestData}
 use Rattle.mvo_places.specs.Places.{PlaceTable}
 use Rattle.mvo_recovery.specs.Settled.{other_slot, IsUsed, FilesStay}
 use Rattle.mvo_recovery.proofs.Named.{slot_below, last_used}
-use Rattle.mvo_store.specs.declared.jobs.Jobs.{Jobs}
+use Rattle.mvo_store.specs.declared.jobs.jobs.Jobs.{Jobs}
 use Rattle.mvo_store.specs.StoreData.{StoreData, opening}
 use Rattle.mvo_store.specs.Jobs.{Job, jobs_of, job_takes_file}
 use Rattle.mvo_store.specs.Jobs.Job.{Rotation, Checkpoint, Merge, MergeInstall}
-use Rattle.mvo_store.specs.Standing.{HaveJobs, ShareNone, HasRoom, IsUp, MayBeLeft, HasSlots, HasWork}
-use Rattle.mvo_store.specs.Safe.{IsSound}
-use Rattle.mvo_store.specs.Calls.{MayMeet, Makes, IsStoreStep, rows_after, StoreCall, HasNoFault, LeftByMemory}
+use Rattle.mvo_store.specs.Standing.{HaveJobs, ShareNone, JobsHaveRoom, IsUp, MayBeLeft, HasSlots, HasWork}
+use Rattle.mvo_store.specs.Safe.{IsStoreSound}
+use Rattle.mvo_store.specs.Calls.{MayMeet, Makes, IsStoreStep, rows_behind, StoreCall, HasNoFault, LeftByMemory}
 use Rattle.mvo_store.proofs.Keeping.{stays_up, AllLeave, CountsNow, slots_as, now_left, touched_left, Begins, fault_step, misread_step, all_others, done_step, looked_step, looked_safe}
 use Rattle.mvo_store.proofs.Checkpoints.{stop_or_misread}
 use Rattle.mvo_store.proofs.Working.{IsOfPair, RestsOn, jobs_framed, each_job, each_follows, written_of_pair, merged_of_pair}
@@ -42,7 +42,7 @@ misread_count before now e is count = absurd is
 
 module _ {D : Type 0} {d : Ghosts D} {s : StoreData D} {call : StoreCall} (b : Begins d s call) (new : D) (rest : AllStay (d.content s.disk) (d.content new) (d.may_leave s.disk) (d.may_leave new)) where
   -- the store stays up, whatever jobs run then
-  pub looked_up : (rows : Map) (up : IsUp d s rows) (places : PlaceTable) (jobs : Jobs) → places.at ≡ s.places.at → HasRoom places jobs → HaveJobs (d.content s.disk) (d.may_leave s.disk) s.manifest up.parts jobs → ShareNone jobs → d.fault_count new ≡ d.fault_count s.disk
+  pub looked_up : (rows : Map) (up : IsUp d s rows) (places : PlaceTable) (jobs : Jobs) → places.at ≡ s.places.at → JobsHaveRoom places jobs → HaveJobs (d.content s.disk) (d.may_leave s.disk) s.manifest up.parts jobs → ShareNone jobs → d.fault_count new ≡ d.fault_count s.disk
       → IsUp d (record s { disk = new; places = places; jobs = jobs }) rows
   looked_up rows up places jobs same room has apart = stays_up d s rows up new places jobs (settled_all (d.content s.disk) (d.content new) (d.may_leave s.disk) (d.may_leave new) FIRST_FORMAT s.manifest up.parts rest up.settled) (rest.content s.segment.file)
       (jobs_framed (d.content s.disk) (d.content new) (d.may_leave s.disk) (d.may_leave new) s.manifest up.settled.installed.own.is up.parts up.settled.installed.parts up.parts.last (λ some. some) (jobs_of jobs)
@@ -55,7 +55,7 @@ module _ {D : Type 0} {d : Ghosts D} {s : StoreData D} {call : StoreCall} (b : B
 
   module _ (any_moment : LeavesOnly d.moment d.left_since s.disk new (AllOf (d.may_leave s.disk))) where
     -- it is sound still, with the jobs that run
-    pub still_sound : d.fault_count new ≡ d.fault_count s.disk → IsSound d (record s { disk = new })
+    pub still_sound : d.fault_count new ≡ d.fault_count s.disk → IsStoreSound d (record s { disk = new })
     still_sound count = record {
       safe = looked_safe b.sound.safe new count;
       up = λ honest. let now = b.sound.up (any_moment.later.honest honest) in (now.0, looked_same count now.0 now.1);
@@ -93,12 +93,12 @@ module _ {D : Type 0} {d : Ghosts D} {s : StoreData D} {call : StoreCall} (b : B
         subst (λ (k : Refusal). IsStoreStep {A = A} d s call (Err k) (record s { disk = new; down = false })) (sym is)
         (subst (λ (t : StoreData D). IsStoreStep {A = A} d s call (Err OutOfMemory) t) (ap (λ (b : Bool). record s { disk = new; down = b }) b.up) (looked_memory memory left (subst (λ (k : Refusal). CountsFaults {X = Unit {0}} (d.fault_count s.disk) (d.fault_count new) (Err k)) is count)))
 
-    pub refused_still : (e : Refusal) → CountsFaults {X = Unit {0}} (d.fault_count s.disk) (d.fault_count new) (Err e) → (down : Bool) → OnFalse down (e ≡ OutOfMemory) → down ≡ false → IsSound d (record s { disk = new; down = down })
+    pub refused_still : (e : Refusal) → CountsFaults {X = Unit {0}} (d.fault_count s.disk) (d.fault_count new) (Err e) → (down : Bool) → OnFalse down (e ≡ OutOfMemory) → down ≡ false → IsStoreSound d (record s { disk = new; down = down })
     refused_still e count true is up = absurd (cc up)
-    refused_still e count false is up = subst (λ (t : StoreData D). IsSound d t) (ap (λ (b : Bool). record s { disk = new; down = b }) b.up) (still_sound (subst (λ (k : Refusal). CountsFaults {X = Unit {0}} (d.fault_count s.disk) (d.fault_count new) (Err k)) is count))
+    refused_still e count false is up = subst (λ (t : StoreData D). IsStoreSound d t) (ap (λ (b : Bool). record s { disk = new; down = b }) b.up) (still_sound (subst (λ (k : Refusal). CountsFaults {X = Unit {0}} (d.fault_count s.disk) (d.fault_count new) (Err k)) is count))
 
     module _ (places : PlaceTable) (jobs : Jobs) where
-      pub looked_done : {A : Type 0} (a : A) → Makes d call s (record s { disk = new; places = places; jobs = jobs }) → d.fault_count new ≡ d.fault_count s.disk → (IsHonest (d.moment new) → (rows : Map) → IsUp d s rows → IsUp d (record s { disk = new; places = places; jobs = jobs }) (rows_after {A = A} s call (Ok a) rows))
+      pub looked_done : {A : Type 0} (a : A) → Makes d call s (record s { disk = new; places = places; jobs = jobs }) → d.fault_count new ≡ d.fault_count s.disk → (IsHonest (d.moment new) → (rows : Map) → IsUp d s rows → IsUp d (record s { disk = new; places = places; jobs = jobs }) (rows_behind {A = A} s call (Ok a) rows))
           → IsStoreStep d s call (Ok a) (record s { disk = new; places = places; jobs = jobs })
       looked_done a = done_step b (record s { disk = new; places = places; jobs = jobs }) any_moment.later.honest (λ _. looks_leave) (λ _ rows up. looks_slots) (all_others d call s (record s { disk = new; places = places; jobs = jobs }) rest) a
 

@@ -11,26 +11,26 @@ use Rattle.mvo_pair.specs.declared.pair.Pair.{Pair}
 use Rattle.mvo_manifest.specs.Data.{ManifestData}
 use Rattle.mvo_places.specs.Places.{PlaceMap, PlaceTable}
 use Rattle.mvo_recovery.specs.Parts.{Parts}
-use Rattle.mvo_store.specs.declared.due.Due.{Due}
-use Rattle.mvo_store.specs.declared.due.Due.TheVariants.{Install}
-use Rattle.mvo_store.specs.declared.step.Step.TheVariants.{Open}
-use Rattle.mvo_store.specs.declared.jobs.Jobs.{Jobs}
-use Rattle.mvo_store.specs.declared.jobs.Jobs.TheVariants.{Beside}
-use Rattle.mvo_store.specs.declared.checkpointing.Checkpointing.{Checkpointing}
-use Rattle.mvo_store.specs.declared.merging.Merging.{Merging}
+use Rattle.mvo_store.specs.declared.jobs.due.Due.{Due}
+use Rattle.mvo_store.specs.declared.jobs.due.Due.TheVariants.{Install}
+use Rattle.mvo_store.specs.declared.install.install_step.InstallStep.TheVariants.{Open}
+use Rattle.mvo_store.specs.declared.jobs.jobs.Jobs.{Jobs}
+use Rattle.mvo_store.specs.declared.jobs.jobs.Jobs.TheVariants.{Beside}
+use Rattle.mvo_store.specs.declared.checkpoint.checkpointing.Checkpointing.{Checkpointing}
+use Rattle.mvo_store.specs.declared.merge.merging.Merging.{Merging}
 use Rattle.mvo_store.specs.StoreData.{StoreData}
 use Rattle.mvo_store.specs.Causes.{why_not_due, why_not_install_open}
 use Rattle.mvo_store.specs.Files.{files_taken}
 use Rattle.mvo_store.specs.Merging.{seen_with, pair_with}
-use Rattle.mvo_store.specs.Jobs.{Job, job_due, is_due, step_due, after_step, with_step, with_checkpoint, with_merge, next_installed, after_install, has_rotation, merge_pair, checkpoint_pair}
+use Rattle.mvo_store.specs.Jobs.{Job, job_due, is_step_due, step_due, after_step, with_step, with_checkpoint, with_merge, next_installed, after_install, has_rotation, merge_pair, checkpoint_pair}
 use Rattle.mvo_store.specs.Planning.{IsNewCheckpoint, IsReadCheckpoint}
 use Rattle.mvo_store.specs.MergePlanning.{IsNewMerge}
 use Rattle.mvo_store.specs.MergeReading.{IsReadMerge}
-use Rattle.mvo_store.specs.Safe.{IsSafeCheckpoint, IsSafeMerge, IsSafeWork, AreSafe, IsSafe, IsSound}
-use Rattle.mvo_store.specs.Standing.{IsRunning, HasWork, HaveJobs, ShareNone, HasRoom, JobHasRoom, IsUp, MayTakeOverOf, HaveKeysOf}
+use Rattle.mvo_store.specs.Safe.{IsSafeCheckpoint, IsSafeMerge, IsSafeWork, AreSafe, IsSafe, IsStoreSound}
+use Rattle.mvo_store.specs.Standing.{IsRunning, HasWork, HaveJobs, ShareNone, JobsHaveRoom, JobHasRoom, IsUp, MayTakeOverOf, HaveKeysOf}
 use Rattle.mvo_store.specs.Steps.{manifest_after, places_after, manifest_by, segment_by, places_by, IsNextBy, IsNextOf, IsCheckpointOf, IsMergeOf}
-use Rattle.mvo_store.specs.Writing.{StandsFor, IsJobStep, IsDueStep}
-use Rattle.mvo_store.specs.Calls.{StoreCall, call_of, why_not, IsRefused, IsReadToCheckpoint, IsReadToMerge, IsStoreStep}
+use Rattle.mvo_store.specs.Writing.{JobStandsFor, IsJobStep, IsDueStep}
+use Rattle.mvo_store.specs.Calls.{StoreCall, call_of, why_not_store, IsRefused, IsReadToCheckpoint, IsReadToMerge, IsStoreStep}
 use Rattle.mvo_store.specs.Calls.StoreCall.{InstallOpen, CheckpointRead, CheckpointDelta, MergeRead}
 use Rattle.mvo_store.proofs.Keeping.{OnlyNow, CountsNow, Begins, begins, may_open, none_keeps_checkpoint, none_keeps_merge, stays_safe, fault_step, done_step}
 use Rattle.mvo_store.proofs.Beside.{IsDueIn, due_in_jobs}
@@ -50,14 +50,14 @@ pub record IsDueAt {D : Type 0} (d : Ghosts D) (s : StoreData D) (call : StoreCa
   pub is : job_due step s.jobs ≡ Some job
 
 -- so it is of a step other than the last file of a merge and the opening of a gate
-pub due_at : {D : Type 0} (d : Ghosts D) (s t : StoreData D) (step : Due) → IsPlain step → s ≡ t → why_not_due step t ≡ None → (s.down ≡ false → IsSound d s) → IsDueAt d s (call_of step) step
+pub due_at : {D : Type 0} (d : Ghosts D) (s t : StoreData D) (step : Due) → IsPlain step → s ≡ t → why_not_due step t ≡ None → (s.down ≡ false → IsStoreSound d s) → IsDueAt d s (call_of step) step
 due_at d s t step plain same none invariant =
     let b = begins_due d s t step plain same none invariant in
     let j = due_job s step plain b.none in
     record { begins = b; job = j.0; is = j.1 }
 
 -- and of the opening of a gate
-pub open_at : {D : Type 0} (d : Ghosts D) (s t : StoreData D) → s ≡ t → why_not_install_open t ≡ None → (s.down ≡ false → IsSound d s) → IsDueAt d s InstallOpen (Install Open)
+pub open_at : {D : Type 0} (d : Ghosts D) (s t : StoreData D) → s ≡ t → why_not_install_open t ≡ None → (s.down ≡ false → IsStoreSound d s) → IsDueAt d s InstallOpen (Install Open)
 open_at d s t same none invariant =
     let b = begins d s t InstallOpen same none invariant in
     let j = some_due (Install Open) s.jobs (may_open s b.none).0 in
@@ -68,13 +68,13 @@ module _ {D : Type 0} {d : Ghosts D} {s : StoreData D} {call : StoreCall} {step 
   pub due_here : IsDueIn step s.jobs b.job
   due_here = due_in_jobs step s.jobs b.job b.is
 
-  pub is_due_here : is_due step s.jobs ≡ true
+  pub is_due_here : is_step_due step s.jobs ≡ true
   is_due_here = ap is_some b.is
 
-  pub stands_here : IsHonest (d.moment s.disk) → IfSome (job_due step s.jobs) (StandsFor d s.disk s.manifest)
+  pub stands_here : IsHonest (d.moment s.disk) → IfSome (job_due step s.jobs) (JobStandsFor d s.disk s.manifest)
   stands_here honest =
       let now = b.begins.sound.up honest in
-      subst (λ (o : Option Job). IfSome o (StandsFor d s.disk s.manifest)) (sym b.is) (now.1.parts, stands_of d s step b.job b.is now.0 now.1)
+      subst (λ (o : Option Job). IfSome o (JobStandsFor d s.disk s.manifest)) (sym b.is) (now.1.parts, stands_of d s step b.job b.is now.0 now.1)
 
   -- what writing its file came to
   written_here : (new : D) (result : Result (Unit {0}) Refusal) → IsDueStep d s.disk new s.manifest (job_due step s.jobs) result → IsJobStep d s.disk new s.manifest b.job result
@@ -92,7 +92,7 @@ module _ {D : Type 0} {d : Ghosts D} {s : StoreData D} {step : Due} (plain : IsP
     up_so = step_up d s step b.job b.is new e.writes e.makes plain.1 e.count
 
     -- THE STORE IS SOUND WITH THE STEP BEHIND IT.
-    pub due_sound : IsSound d stepped
+    pub due_sound : IsStoreSound d stepped
     due_sound = record {
       safe = stepped_safe b.begins.sound.safe (due_here b) new e.count;
       up = λ honest. let now = b.begins.sound.up (e.honest honest) in (now.0, up_so honest now.0 now.1);
@@ -110,7 +110,7 @@ module _ {D : Type 0} {d : Ghosts D} {s : StoreData D} {step : Due} (plain : IsP
     pub due_refused : OnlyNow d → CountsNow d → OnTrue down (refusal ≡ DiskFault) → IsStoreStep {A = Unit {0}} d s (call_of step) (Err refusal) (record s { disk = new; down = down })
     due_refused only_now counts_now fault = step_refused d s step b.job b.is new r.writes only_now counts_now b.begins r.honest (r.file (safe_work b.begins.sound.safe (due_here b))) refusal r.refused down fault other
 
-    pub due_refused_sound : down ≡ false → IsSound d (record s { disk = new; down = down })
+    pub due_refused_sound : down ≡ false → IsStoreSound d (record s { disk = new; down = down })
     due_refused_sound is = refused_sound d s step b.job b.is new r.writes b.begins.sound (step_due b.job) refusal r.refused b.begins.up down other is
 
 -- a refusal, whatever the call would have answered
@@ -120,7 +120,7 @@ refused_as A B call (Some cause) e h = let same : cause ≡ e = cc h in subst (�
 
 pub delta_refused : {D : Type 0} (A : Type 0) (d : Ghosts D) (old new : StoreData D) (e : Refusal) → IsStoreStep {A = Unit {0}} d old CheckpointDelta (Err e) new → IsStoreStep {A = A} d old CheckpointDelta (Err e) new
 delta_refused A d old new e h = record {
-  comes = record { refused = refused_as (Unit {0}) A CheckpointDelta (why_not old CheckpointDelta) e h.comes.refused; made = tt; left = h.comes.left };
+  comes = record { refused = refused_as (Unit {0}) A CheckpointDelta (why_not_store old CheckpointDelta) e h.comes.refused; made = tt; left = h.comes.left };
   honest = h.honest;
   keeps = h.keeps;
   others = h.others;
@@ -178,7 +178,7 @@ module _ {D : Type 0} {d : Ghosts D} {s : StoreData D} (b : IsDueAt d s InstallO
           (next_by (d.content s.disk) (d.may_leave s.disk) s.manifest up.parts (due_here b) (safe_work b.begins.sound.safe (due_here b)) (stands_of d s (Install Open) b.job b.is rows up).job.work)
 
       -- THE STORE IS SOUND WITH THE NEXT MANIFEST.
-      pub open_sound : IsSound d opened
+      pub open_sound : IsStoreSound d opened
       open_sound = record {
         safe = subst (λ (o : Option Job). IsSafe d (with_next o)) (sym next_is) (opened_safe b.begins.sound.safe (due_here b) new places free i.count);
         up = λ honest. let now = b.begins.sound.up (i.honest honest) in (now.0, open_up honest now.0 now.1);
@@ -227,7 +227,7 @@ module _ {D : Type 0} {d : Ghosts D} {s : StoreData D} (b : Begins d s Checkpoin
   apart : ShareNone now_run
   apart = checkpoint_shares_none s.manifest c g to_here.plan.data_file to_here.plan.delta_file
 
-  have_room : HasRoom places now_run
+  have_room : JobsHaveRoom places now_run
   have_room = with_checkpoint_all (JobHasRoom places) c g room (merge_room places g)
 
   are_safe : AreSafe s.manifest now_run
@@ -238,8 +238,8 @@ module _ {D : Type 0} {d : Ghosts D} {s : StoreData D} (b : Begins d s Checkpoin
       (with_checkpoint_all (IsRunning (d.content s.disk) (d.may_leave s.disk) s.manifest up.parts) c g (stands honest up.parts up.settled up.places) (subst (HaveJobs (d.content s.disk) (d.may_leave s.disk) s.manifest up.parts) merge_here.1 up.jobs)) apart count
 
   -- THE STORE IS SOUND WITH THE CHECKPOINT.
-  pub checkpoint_sound : IsSound d (read (with_checkpoint c s.jobs))
-  checkpoint_sound = subst (λ (k : Jobs). IsSound d (read k)) jobs_are (record {
+  pub checkpoint_sound : IsStoreSound d (read (with_checkpoint c s.jobs))
+  checkpoint_sound = subst (λ (k : Jobs). IsStoreSound d (read k)) jobs_are (record {
     safe = stays_safe b.sound.safe new places now_run are_safe apart have_room count;
     up = λ honest. let now = b.sound.up (any_moment.later.honest honest) in (now.0, read_up honest now.0 now.1);
   })
@@ -279,20 +279,20 @@ module _ {D : Type 0} {d : Ghosts D} {s : StoreData D} {place : ℕ} (b : Begins
   both_apart : ShareNone both_run
   both_apart = merge_shares_none s.manifest c g to_both.plan.data_file to_both.plan.delta_file
 
-  both_room : HasRoom s.places (Beside c None) → HasRoom s.places both_run
+  both_room : JobsHaveRoom s.places (Beside c None) → JobsHaveRoom s.places both_run
   both_room has = with_merge_all (JobHasRoom s.places) c g tt has
 
   both_safe : AreSafe s.manifest both_run
   both_safe = with_merge_all (IsSafeWork s.manifest) c g safe (subst (AreSafe s.manifest) checkpoint_here.1 b.sound.safe.jobs)
 
   merge_up : IsHonest (d.moment new) → (rows : Map) → IsUp d s rows → IsUp d (merging both_run) rows
-  merge_up honest rows up = looked_up b new rest rows up s.places both_run refl (both_room (subst (HasRoom s.places) checkpoint_here.1 up.room_for))
+  merge_up honest rows up = looked_up b new rest rows up s.places both_run refl (both_room (subst (JobsHaveRoom s.places) checkpoint_here.1 up.room_for))
       (with_merge_all (IsRunning (d.content s.disk) (d.may_leave s.disk) s.manifest up.parts) c g (stands honest up.parts s.places.at up.settled up.places) (subst (HaveJobs (d.content s.disk) (d.may_leave s.disk) s.manifest up.parts) checkpoint_here.1 up.jobs)) both_apart count
 
   -- THE STORE IS SOUND WITH THE MERGE.
-  pub merge_sound : IsSound d (merging (with_merge g s.jobs))
-  merge_sound = subst (λ (k : Jobs). IsSound d (merging k)) both_are (record {
-    safe = stays_safe b.sound.safe new s.places both_run both_safe both_apart (both_room (subst (HasRoom s.places) checkpoint_here.1 b.sound.safe.room_for)) count;
+  pub merge_sound : IsStoreSound d (merging (with_merge g s.jobs))
+  merge_sound = subst (λ (k : Jobs). IsStoreSound d (merging k)) both_are (record {
+    safe = stays_safe b.sound.safe new s.places both_run both_safe both_apart (both_room (subst (JobsHaveRoom s.places) checkpoint_here.1 b.sound.safe.room_for)) count;
     up = λ honest. let now = b.sound.up (any_moment.later.honest honest) in (now.0, merge_up honest now.0 now.1);
   })
 

@@ -9,14 +9,14 @@ use Rattle.mvo_format.specs.declared.header.TheConstants.{HEADER_LEN, VERSION}
 use Rattle.mvo_frame.specs.Frames.{Frames, sized, mark_after}
 use Rattle.mvo_pair.specs.declared.pair.Pair.{Pair}
 use Rattle.mvo_manifest.specs.Rules.{PairsRise, IsManifest, IsFile}
-use Rattle.mvo_image.specs.Opens.{Outcome}
-use Rattle.mvo_image.specs.Gives.{HaveGroups}
-use Rattle.mvo_image.specs.Files.{SegmentSays}
+use Rattle.mvo_recovery.specs.image.Opens.{OpeningOutcome}
+use Rattle.mvo_recovery.specs.image.Gives.{HaveGroups}
+use Rattle.mvo_recovery.specs.image.Files.{SegmentSays}
 use Rattle.mvo_store.specs.Standing.{Gives, IsUp, HasSlots, MayBeLeft, KeepsRows}
 use Rattle.mvo_types.specs.declared.refusal.Refusal.{Refusal}
 use Rattle.mvo_types.specs.declared.refusal.Refusal.TheVariants.{ClockSpent, AlreadyFormatted}
 use Rattle.mvo_disk.specs.declared.disk.Disk.{Ghosts}
-use Rattle.mvo_image.proofs.Opening.{exact}
+use Rattle.mvo_recovery.proofs.image.Opening.{exact}
 use Rattle.mvo_recovery.proofs.Opened.{gives_installed, newest_stands}
 use Rattle.mvo_store.specs.Opening.{IsAnswer, IsNotOpened, IsNotOfFiles, HasSynced}
 use Rattle.std.proofs.lemmas.Bool.{lt-leb}
@@ -28,7 +28,7 @@ use Rattle.mvo_format.specs.Found.{header}
 use Rattle.mvo_frame.specs.declared.magic.TheConstants.{MAGIC}
 use Rattle.mvo_manifest.specs.Data.{ManifestData, named}
 use Rattle.mvo_manifest.specs.Slots.{IsShut, IsOpen}
-use Rattle.mvo_image.specs.Rows.{rows_of, after_groups}
+use Rattle.mvo_places.specs.Rows.{rows_of, after_groups}
 use Rattle.mvo_places.specs.Places.{PlaceTable}
 use Rattle.mvo_load.specs.Loaded.{SealedSays, IsLoaded}
 use Rattle.mvo_load.specs.Parts.{HavePlaces}
@@ -66,7 +66,7 @@ gives_stamp image rows mark h =
     after_segments image h.manifest.segments h.manifest.checkpoint_mark h.groups mark (after_pairs 0 h.manifest.pairs h.manifest.checkpoint_mark (omega arith) is.rules.rise) h.have
 
 -- what an image gives is the one answer of opening it
-same_outcome : (content : Image) (out : Outcome) → IsAnswer content out → (rows : Map) (mark : ℕ) → Gives rows mark content → ◌≡◌ {A = Outcome} (Ok (rows, mark)) out
+same_outcome : (content : Image) (out : OpeningOutcome) → IsAnswer content out → (rows : Map) (mark : ℕ) → Gives rows mark content → ◌≡◌ {A = OpeningOutcome} (Ok (rows, mark)) out
 same_outcome content out answer rows mark gives = answer.1 (Ok (rows, mark)) ((exact FIRST_FORMAT content rows mark).1 gives)
 
 -- so it is the rows and the mark that were answered

@@ -1,9 +1,9 @@
 -- The steps of the jobs, by their numbers.
 use Rattle.std.proofs.Common.{◌≡◌, ℕ, eqb, true, [], ◌∷◌, get_or, refl, sym, ap, ◌∙◌}
 use Rattle.std.proofs.lemmas.Bool.{eqb-true}
-use Rattle.mvo_store.specs.declared.due.Due.{Due}
-use Rattle.mvo_store.specs.declared.due.Due.TheVariants.{Data, Delta, MergeData, MergeDelta, Install}
-use Rattle.mvo_store.specs.declared.step.Step.TheVariants.{Close, Body, Open}
+use Rattle.mvo_store.specs.declared.jobs.due.Due.{Due}
+use Rattle.mvo_store.specs.declared.jobs.due.Due.TheVariants.{Data, Delta, MergeData, MergeDelta, Install}
+use Rattle.mvo_store.specs.declared.install.install_step.InstallStep.TheVariants.{Close, Body, Open}
 use Rattle.mvo_store.specs.Jobs.{step_number}
 
 numbered : ℕ → Due

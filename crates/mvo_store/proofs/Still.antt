@@ -8,9 +8,9 @@ use Rattle.std.proofs.lemmas.List.Folds.{list_any-append}
 use Rattle.mvo_pair.specs.declared.pair.Pair.{Pair}
 use Rattle.mvo_manifest.specs.Data.{ManifestData, pair_files}
 use Rattle.mvo_recovery.specs.Checkpoint.{NewNumbers, raise}
-use Rattle.mvo_beside.specs.Seen.{grown}
-use Rattle.mvo_store.specs.declared.checkpointing.Checkpointing.{Checkpointing}
-use Rattle.mvo_store.specs.declared.merging.Merging.{Merging}
+use Rattle.mvo_recovery.specs.beside.Seen.{grown}
+use Rattle.mvo_store.specs.declared.checkpoint.checkpointing.Checkpointing.{Checkpointing}
+use Rattle.mvo_store.specs.declared.merge.merging.Merging.{Merging}
 use Rattle.mvo_store.specs.Checkpoint.{gained, next_of}
 use Rattle.mvo_store.specs.Files.{is_named}
 use Rattle.mvo_store.specs.Jobs.{job_takes_file}

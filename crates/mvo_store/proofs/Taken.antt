@@ -7,8 +7,8 @@ use Rattle.mvo_disk.specs.declared.disk.Disk.{Ghosts}
 use Rattle.mvo_disk.specs.Disk.{IsHonest}
 use Rattle.mvo_load.specs.Read.{IsMisread}
 use Rattle.mvo_store.specs.StoreData.{StoreData}
-use Rattle.mvo_store.specs.Standing.{Keeps}
-use Rattle.mvo_store.specs.Calls.{StoreCall, Makes, IsFault, LeftByMemory, LeftBy, ComesTo, IsStoreStep, IsRefused, why_not, without_group}
+use Rattle.mvo_store.specs.Standing.{KeepsAllRows}
+use Rattle.mvo_store.specs.Calls.{StoreCall, Makes, IsFault, LeftByMemory, LeftByRefusal, ComesTo, IsStoreStep, IsRefused, why_not_store, without_group}
 use Rattle.mvo_store.specs.Causes.{why_not_take}
 use Rattle.mvo_group.specs.Data.{GroupData}
 use Rattle.mvo_store.specs.Calls.StoreCall.{Take, AppendOpen, CheckpointRead}
@@ -27,7 +27,7 @@ left_other : {D : Type 0} (d : Ghosts D) (call : StoreCall) (e : Refusal) (old n
 left_other d CheckpointRead e old new fault memory other = grind arith
 left_other d call e old new fault memory other = grind arith
 
-pub left_taken : {D : Type 0} (d : Ghosts D) (call : StoreCall) (e : Refusal) (old new : StoreData D) → LeftBy d call e old new → KeepsTaken old new
+pub left_taken : {D : Type 0} (d : Ghosts D) (call : StoreCall) (e : Refusal) (old new : StoreData D) → LeftByRefusal d call e old new → KeepsTaken old new
 left_taken {D} d call e old new h =
     ⊎_elim (λ is. let after = (h.misread is).after in record { mark = ap (λ (s : StoreData D). s.mark) after; pending = ap (λ (s : StoreData D). s.pending) after })
     (λ never. left_other d call e old new h.fault h.memory (λ f m. h.other f m never)) (misread_or e)
@@ -50,13 +50,13 @@ quiet_taken d old call (Err e) new quiet h = left_taken d call e old new h.left
 
 -- ---- the rows behind it
 -- a quiet call keeps the rows
-pub quiet_rows : {D A : Type 0} (d : Ghosts D) (old : StoreData D) (call : StoreCall) (result : Result A Refusal) (new : StoreData D) → IsQuiet call → IsStoreStep d old call result new → IsHonest (d.moment new.disk) → Keeps d old new
+pub quiet_rows : {D A : Type 0} (d : Ghosts D) (old : StoreData D) (call : StoreCall) (result : Result A Refusal) (new : StoreData D) → IsQuiet call → IsStoreStep d old call result new → IsHonest (d.moment new.disk) → KeepsAllRows d old new
 quiet_rows d old (Take g) result new quiet h = absurd quiet
 quiet_rows d old AppendOpen result new quiet h = absurd quiet
 quiet_rows d old call result new quiet h = h.keeps
 
 -- so does a refused one
-pub refused_rows : {D : Type 0} (A : Type 0) (d : Ghosts D) (old : StoreData D) (call : StoreCall) (e : Refusal) (new : StoreData D) → IsStoreStep {A = A} d old call (Err e) new → IsHonest (d.moment new.disk) → Keeps d old new
+pub refused_rows : {D : Type 0} (A : Type 0) (d : Ghosts D) (old : StoreData D) (call : StoreCall) (e : Refusal) (new : StoreData D) → IsStoreStep {A = A} d old call (Err e) new → IsHonest (d.moment new.disk) → KeepsAllRows d old new
 refused_rows A d old AppendOpen e new h = h.keeps
 refused_rows A d old call e new h = h.keeps
 
@@ -64,14 +64,14 @@ refused_rows A d old call e new h = h.keeps
 
 pub accepted_by : {D A : Type 0} (d : Ghosts D) (old : StoreData D) (call : StoreCall) (a : A) (new : StoreData D) → ComesTo d old call (Ok a) new → ComesTo {A = Unit {0}} d old call (Ok tt) new
 accepted_by d old call a new h =
-    let refused : IsRefused {A = Unit {0}} call (why_not old call) (Ok tt) = grind (arith, h.refused) in search rules
+    let refused : IsRefused {A = Unit {0}} call (why_not_store old call) (Ok tt) = grind (arith, h.refused) in search rules
 
 pub refused_by : {D : Type 0} (A : Type 0) (d : Ghosts D) (old : StoreData D) (call : StoreCall) (e : Refusal) (new : StoreData D) → ComesTo {A = A} d old call (Err e) new → ComesTo {A = Unit {0}} d old call (Err e) new
 refused_by A d old call e new h =
-    let refused : IsRefused {A = Unit {0}} call (why_not old call) (Err e) = grind (arith, h.refused) in search rules
+    let refused : IsRefused {A = Unit {0}} call (why_not_store old call) (Err e) = grind (arith, h.refused) in search rules
 
 -- where no cause stands, a group isn't given back
-pub never_back : {D : Type 0} (A : Type 0) (s : StoreData D) (g : GroupData) (e : Refusal) → why_not_take s ≡ None → IsRefused {A = A} (Take g) (why_not s (Take g)) (Err e) → ⊥
+pub never_back : {D : Type 0} (A : Type 0) (s : StoreData D) (g : GroupData) (e : Refusal) → why_not_take s ≡ None → IsRefused {A = A} (Take g) (why_not_store s (Take g)) (Err e) → ⊥
 never_back A s g e none h = subst (λ (o : Option Refusal). IsRefused {A = A} (Take g) o (Err e)) none h
 
 -- so it is taken

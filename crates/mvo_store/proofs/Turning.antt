@@ -2,23 +2,23 @@
 use Rattle.std.proofs.Common.{◌≡◌, Bool, true, false, cond, [], ◌∷◌, Option, Some, None, refl, sym, ap, subst, ◌∙◌}
 use Rattle.std.specs.Prelude.{is_some}
 use Rattle.std.specs.List.{AllByRecursion}
-use Rattle.mvo_store.specs.declared.due.Due.{Due}
-use Rattle.mvo_store.specs.declared.due.Due.TheVariants.{MergeDelta, Install}
-use Rattle.mvo_store.specs.declared.step.Step.{Step}
-use Rattle.mvo_store.specs.declared.checkpoint_stage.CheckpointStage.{CheckpointStage}
-use Rattle.mvo_store.specs.declared.checkpoint_stage.CheckpointStage.TheVariants.{Data as AtData, Delta as AtDelta, Install as AtInstall}
-use Rattle.mvo_store.specs.declared.checkpointing.Checkpointing.{Checkpointing}
-use Rattle.mvo_store.specs.declared.merging.Merging.{Merging}
-use Rattle.mvo_store.specs.declared.jobs.Jobs.{Jobs}
-use Rattle.mvo_store.specs.declared.jobs.Jobs.TheVariants.{Rotation as RotationAlone, Merge as MergeAlone, Beside}
-use Rattle.mvo_store.specs.Jobs.{is_step_of, first_due, Job, no_jobs, jobs_of, keeps_all_out, keeps_checkpoint_out, keeps_merge_out, has_checkpoint, due_of, merge_due_of, step_due, job_due, is_due, is_of_merge, with_step, after_step, checkpoint_by, merge_by, checkpoint_behind, with_data_file, after_install}
+use Rattle.mvo_store.specs.declared.jobs.due.Due.{Due}
+use Rattle.mvo_store.specs.declared.jobs.due.Due.TheVariants.{MergeDelta, Install}
+use Rattle.mvo_store.specs.declared.install.install_step.InstallStep.{InstallStep}
+use Rattle.mvo_store.specs.declared.checkpoint.stage.CheckpointStage.{CheckpointStage}
+use Rattle.mvo_store.specs.declared.checkpoint.stage.CheckpointStage.TheVariants.{Data as AtData, Delta as AtDelta, Install as AtInstall}
+use Rattle.mvo_store.specs.declared.checkpoint.checkpointing.Checkpointing.{Checkpointing}
+use Rattle.mvo_store.specs.declared.merge.merging.Merging.{Merging}
+use Rattle.mvo_store.specs.declared.jobs.jobs.Jobs.{Jobs}
+use Rattle.mvo_store.specs.declared.jobs.jobs.Jobs.TheVariants.{Rotation as RotationAlone, Merge as MergeAlone, Beside}
+use Rattle.mvo_store.specs.Jobs.{is_step_of, first_due, Job, no_jobs, jobs_of, keeps_all_out, keeps_checkpoint_out, keeps_merge_out, has_checkpoint, due_of, merge_due_of, step_due, job_due, is_step_due, is_of_merge, with_step, after_step, checkpoint_by, merge_by, checkpoint_behind, with_data_file, after_install}
 use Rattle.mvo_store.specs.Jobs.Job.{Checkpoint, Merge}
 use Rattle.mvo_store.specs.Standing.{ShareNone}
 use Rattle.mvo_store.proofs.Beside.{IsDueIn, due_in_jobs, checkpoint_step, merge_step}
 use Rattle.mvo_store.proofs.Beside.IsDueIn.{TheRotation, TheMerge, TheCheckpoint, OfMerge}
 
 -- a job is there whose step is due
-pub some_due : (step : Due) (jobs : Jobs) → is_due step jobs ≡ true → (j : Job) × (job_due step jobs ≡ Some j)
+pub some_due : (step : Due) (jobs : Jobs) → is_step_due step jobs ≡ true → (j : Job) × (job_due step jobs ≡ Some j)
 some_due step jobs is = go (job_due step jobs) refl is
   where
     go : (o : Option Job) → job_due step jobs ≡ o → is_some o ≡ true → (j : Job) × (job_due step jobs ≡ Some j)
@@ -100,7 +100,7 @@ begins_beside_checkpoint (Beside c None) e = (c, refl)
 begins_beside_checkpoint (Beside c (Some g)) e = absurd (cc e)
 
 -- the last file of a merge is written where no checkpoint runs
-pub ends_alone : (jobs : Jobs) → is_due MergeDelta jobs ≡ true → has_checkpoint jobs ≡ false → (g : Merging) × (jobs ≡ Beside None (Some g)) × (merge_due_of g.stage ≡ MergeDelta)
+pub ends_alone : (jobs : Jobs) → is_step_due MergeDelta jobs ≡ true → has_checkpoint jobs ≡ false → (g : Merging) × (jobs ≡ Beside None (Some g)) × (merge_due_of g.stage ≡ MergeDelta)
 ends_alone jobs due none = let j = some_due MergeDelta jobs due in go (due_in_jobs MergeDelta jobs j.0 j.1) none
   where
     no_step : {A : Type 0} (stage : CheckpointStage) → due_of stage ≡ MergeDelta → A
@@ -129,11 +129,11 @@ alone_due step k e = go (is_step_of step k) e
 not_of_merge : {A : Type 0} (stage : CheckpointStage) (step : Due) → is_of_merge step ≡ true → due_of stage ≡ step → A
 not_of_merge stage step is at = absurd (cc (sym is ∙ checkpoint_step stage step at))
 
-not_install : {A : Type 0} (k : Step) (step : Due) → is_of_merge step ≡ true → Install k ≡ step → A
+not_install : {A : Type 0} (k : InstallStep) (step : Due) → is_of_merge step ≡ true → Install k ≡ step → A
 not_install k step is at = absurd (cc (sym is ∙ ap is_of_merge (sym at)))
 
 -- that of a merge, where its step is due
-pub merge_due : (step : Due) (c : Option Checkpointing) (g : Merging) → is_of_merge step ≡ true → is_due step (Beside c (Some g)) ≡ true → (job_due step (Beside c (Some g)) ≡ Some (Merge g)) × (merge_due_of g.stage ≡ step)
+pub merge_due : (step : Due) (c : Option Checkpointing) (g : Merging) → is_of_merge step ≡ true → is_step_due step (Beside c (Some g)) ≡ true → (job_due step (Beside c (Some g)) ≡ Some (Merge g)) × (merge_due_of g.stage ≡ step)
 merge_due step c g of_merge due = let j = some_due step (Beside c (Some g)) due in go (due_in_jobs step (Beside c (Some g)) j.0 j.1) j.1 refl
   where
     go : {jobs : Jobs} {j : Job} → IsDueIn step jobs j → job_due step (Beside c (Some g)) ≡ Some j → jobs ≡ Beside c (Some g) → (job_due step (Beside c (Some g)) ≡ Some (Merge g)) × (merge_due_of g.stage ≡ step)
@@ -143,7 +143,7 @@ merge_due step c g of_merge due = let j = some_due step (Beside c (Some g)) due 
     go (OfMerge k h at) is e = let same : h ≡ g = cc e in (is ∙ ap (λ (m : Merging). Some (Merge m)) same, ap (λ (m : Merging). merge_due_of m.stage) (sym same) ∙ at)
 
 -- that of a checkpoint, where the step isn't one of a merge
-pub checkpoint_due : (step : Due) (c : Option Checkpointing) (g : Option Merging) → is_of_merge step ≡ false → is_due step (Beside c g) ≡ true → (k : Checkpointing) × (c ≡ Some k) × (job_due step (Beside c g) ≡ Some (Checkpoint k))
+pub checkpoint_due : (step : Due) (c : Option Checkpointing) (g : Option Merging) → is_of_merge step ≡ false → is_step_due step (Beside c g) ≡ true → (k : Checkpointing) × (c ≡ Some k) × (job_due step (Beside c g) ≡ Some (Checkpoint k))
 checkpoint_due step c g other due = let j = some_due step (Beside c g) due in go (due_in_jobs step (Beside c g) j.0 j.1) j.1 refl
   where
     go : {jobs : Jobs} {j : Job} → IsDueIn step jobs j → job_due step (Beside c g) ≡ Some j → jobs ≡ Beside c g → (k : Checkpointing) × (c ≡ Some k) × (job_due step (Beside c g) ≡ Some (Checkpoint k))

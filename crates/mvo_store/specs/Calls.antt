@@ -11,14 +11,14 @@ use Rattle.mvo_format.specs.declared.header.TheConstants.{VERSION}
 use Rattle.mvo_pair.specs.Files.{delta_bytes}
 use Rattle.mvo_manifest.specs.Data.{ManifestData}
 use Rattle.mvo_load.specs.Read.{IsMisread}
-use Rattle.mvo_store.specs.declared.due.Due.{Due}
-use Rattle.mvo_store.specs.declared.due.Due.TheVariants.{Data, Delta, Install}
-use Rattle.mvo_store.specs.declared.due.Due.TheVariants.{MergeData as DataOfMerge}
-use Rattle.mvo_store.specs.declared.due.Due.TheVariants.{MergeDelta as DeltaOfMerge}
-use Rattle.mvo_store.specs.declared.step.Step.TheVariants.{Close, Body, Open}
-use Rattle.mvo_store.specs.declared.jobs.Jobs.TheVariants.{Beside}
-use Rattle.mvo_store.specs.declared.merging.Merging.{Merging}
-use Rattle.mvo_store.specs.declared.progress.Progress.{Progress}
+use Rattle.mvo_store.specs.declared.jobs.due.Due.{Due}
+use Rattle.mvo_store.specs.declared.jobs.due.Due.TheVariants.{Data, Delta, Install}
+use Rattle.mvo_store.specs.declared.jobs.due.Due.TheVariants.{MergeData as DataOfMerge}
+use Rattle.mvo_store.specs.declared.jobs.due.Due.TheVariants.{MergeDelta as DeltaOfMerge}
+use Rattle.mvo_store.specs.declared.install.install_step.InstallStep.TheVariants.{Close, Body, Open}
+use Rattle.mvo_store.specs.declared.jobs.jobs.Jobs.TheVariants.{Beside}
+use Rattle.mvo_store.specs.declared.merge.merging.Merging.{Merging}
+use Rattle.mvo_store.specs.declared.jobs.progress.Progress.{Progress}
 use Rattle.mvo_store.specs.StoreData.{StoreData}
 use Rattle.mvo_store.specs.Standing.{IsKeeping, after_taken}
 use Rattle.mvo_store.specs.Causes.{why_not_take, why_not_append_body, why_not_append_open}
@@ -26,7 +26,7 @@ use Rattle.mvo_store.specs.Causes.{why_not_rotate, why_not_checkpoint, why_not_m
 use Rattle.mvo_store.specs.Causes.{why_not_due, why_not_merge_delta, why_not_install_open}
 use Rattle.mvo_store.specs.Causes.{why_not_reclaim}
 use Rattle.mvo_store.specs.Jobs.{Job, no_jobs, job_due, with_step, with_manifest, progress_of}
-use Rattle.mvo_store.specs.Steps.{IsRotationOf, IsCheckpointOf, IsMergeOf, IsInstalled}
+use Rattle.mvo_store.specs.Steps.{IsRotationOf, IsCheckpointOf, IsMergeOf, HasInstalledNext}
 use Rattle.mvo_store.specs.Files.{IsLeastFree}
 use Rattle.mvo_store.specs.Merging.{merged_at, pair_with}
 use Rattle.mvo_store.specs.Writing.{IsFileDue, AreLateEntries}
@@ -61,21 +61,21 @@ call_of (Install Open) = InstallOpen
 -- ---- when it is refused
 
 -- the first refusal of the call's list whose test is true
-abbrev pub why_not : {D : Type 0} → StoreData D → StoreCall → Option Refusal
-why_not s (Take g) = why_not_take s
-why_not s AppendBody = why_not_append_body s
-why_not s AppendOpen = why_not_append_open s
-why_not s RotateWrite = why_not_rotate s
-why_not s CheckpointRead = why_not_checkpoint s
-why_not s CheckpointData = why_not_due Data s
-why_not s CheckpointDelta = why_not_due Delta s
-why_not s (MergeRead place) = why_not_merge place s
-why_not s MergeData = why_not_due DataOfMerge s
-why_not s MergeDelta = why_not_merge_delta s
-why_not s InstallClose = why_not_due (Install Close) s
-why_not s InstallBody = why_not_due (Install Body) s
-why_not s InstallOpen = why_not_install_open s
-why_not s Reclaim = why_not_reclaim s
+abbrev pub why_not_store : {D : Type 0} → StoreData D → StoreCall → Option Refusal
+why_not_store s (Take g) = why_not_take s
+why_not_store s AppendBody = why_not_append_body s
+why_not_store s AppendOpen = why_not_append_open s
+why_not_store s RotateWrite = why_not_rotate s
+why_not_store s CheckpointRead = why_not_checkpoint s
+why_not_store s CheckpointData = why_not_due Data s
+why_not_store s CheckpointDelta = why_not_due Delta s
+why_not_store s (MergeRead place) = why_not_merge place s
+why_not_store s MergeData = why_not_due DataOfMerge s
+why_not_store s MergeDelta = why_not_merge_delta s
+why_not_store s InstallClose = why_not_due (Install Close) s
+why_not_store s InstallBody = why_not_due (Install Body) s
+why_not_store s InstallOpen = why_not_install_open s
+why_not_store s Reclaim = why_not_reclaim s
 
 -- What may refuse it where no cause stands: want of memory and a fault of the disk. Opening or
 -- closing a gate and emptying a file take no memory, and taking a group asks for neither. What is
@@ -133,7 +133,7 @@ abbrev pub HasNewJobs : {D : Type 0} → StoreData D → StoreData D → Type 0
 HasNewJobs old new = new ≡ record old { disk = new.disk; jobs = new.jobs }
 
 -- a rotation runs, and nothing of it is installed yet
-pub record IsRotated {D : Type 0} (old new : StoreData D) : Type 0 where
+pub record HasBegunRotation {D : Type 0} (old new : StoreData D) : Type 0 where
   pub none : old.jobs ≡ no_jobs
   pub rotation : IsRotationOf old.manifest new.jobs
   pub after : HasNewJobs old new
@@ -180,7 +180,7 @@ abbrev pub Makes : {D : Type 0} → Ghosts D → StoreCall → StoreData D → S
 Makes d (Take g) old new = new ≡ record old { pending = Some g }
 Makes d AppendBody old new = IsBodyWritten old new
 Makes d AppendOpen old new = IsDurable old new
-Makes d RotateWrite old new = IsRotated old new
+Makes d RotateWrite old new = HasBegunRotation old new
 Makes d CheckpointRead old new = IsReadToCheckpoint d old new
 Makes d CheckpointData old new = HasStepped Data old new
 Makes d CheckpointDelta old new = HasStepped Delta old new
@@ -189,7 +189,7 @@ Makes d MergeData old new = HasStepped DataOfMerge old new
 Makes d MergeDelta old new = IsMergeEnded d old new
 Makes d InstallClose old new = HasStepped (Install Close) old new
 Makes d InstallBody old new = HasStepped (Install Body) old new
-Makes d InstallOpen old new = IsInstalled (IsHonest (d.moment new.disk)) old new
+Makes d InstallOpen old new = HasInstalledNext (IsHonest (d.moment new.disk)) old new
 Makes d Reclaim old new = new ≡ record old { disk = new.disk }
 
 -- so it does, and no call of the device failed
@@ -239,7 +239,7 @@ pub record HasMisread {D : Type 0} (d : Ghosts D) (old new : StoreData D) : Type
   pub lied : IsHonest (d.moment new.disk) → ⊥
 
 -- nothing changes, but after a fault and what was misread
-pub record LeftBy {D : Type 0} (d : Ghosts D) (call : StoreCall) (e : Refusal)
+pub record LeftByRefusal {D : Type 0} (d : Ghosts D) (call : StoreCall) (e : Refusal)
     (old new : StoreData D) : Type 0 where
   pub fault : e ≡ DiskFault → IsFault d old new
   pub memory : e ≡ OutOfMemory → LeftByMemory d call old new
@@ -252,14 +252,14 @@ pub record LeftBy {D : Type 0} (d : Ghosts D) (call : StoreCall) (e : Refusal)
 -- of the store what it is for, and refused it leaves it.
 pub record ComesTo {D A : Type 0} (d : Ghosts D) (old : StoreData D) (call : StoreCall)
     (result : Result A Refusal) (new : StoreData D) : Type 0 where
-  pub refused : IsRefused call (why_not old call) result
+  pub refused : IsRefused call (why_not_store old call) result
   pub made : OnOk result (IsMade d call old new)
-  pub left : IfErr result (λ e. LeftBy d call e old new)
+  pub left : IfErr result (λ e. LeftByRefusal d call e old new)
 
 -- the rows behind it: a group that became durable is among them
-abbrev pub rows_after : {D A : Type 0} → StoreData D → StoreCall → Result A Refusal → Map → Map
-rows_after s AppendOpen (Ok a) rows = after_taken rows s.pending
-rows_after s call result rows = rows
+abbrev pub rows_behind : {D A : Type 0} → StoreData D → StoreCall → Result A Refusal → Map → Map
+rows_behind s AppendOpen (Ok a) rows = after_taken rows s.pending
+rows_behind s call result rows = rows
 
 -- ---- the files
 
@@ -317,5 +317,5 @@ pub record IsStoreStep {D A : Type 0} (d : Ghosts D) (old : StoreData D) (call :
     (result : Result A Refusal) (new : StoreData D) : Type 0 where
   pub comes : ComesTo d old call result new
   pub honest : IsHonest (d.moment new.disk) → IsHonest (d.moment old.disk)
-  pub keeps : IsHonest (d.moment new.disk) → IsKeeping d (rows_after old call result) old new
+  pub keeps : IsHonest (d.moment new.disk) → IsKeeping d (rows_behind old call result) old new
   pub others : KeepsOthers d call old new

@@ -2,10 +2,10 @@
 use Rattle.std.specs.Prelude.{◌≡◌, ◌≢◌, ◌⊎◌, Bool, true, false, List, [], ◌∷◌, Result, Ok, Err}
 use Rattle.mvo_types.specs.declared.refusal.Refusal.{Refusal}
 use Rattle.mvo_types.specs.declared.refusal.Refusal.TheVariants.{Busy, NothingToDo, SegmentFull}
-use Rattle.mvo_store.specs.declared.log_step.LogStep.{LogStep}
-use Rattle.mvo_store.specs.declared.log_step.LogStep.TheVariants.{Take, AppendBody, AppendOpen}
-use Rattle.mvo_store.specs.declared.log_step.LogStep.TheVariants.{RotateWrite}
-use Rattle.mvo_store.specs.declared.log_step.LogStep.TheVariants.{InstallClose, InstallBody, InstallOpen}
+use Rattle.mvo_store.specs.declared.append.log_step.LogStep.{LogStep}
+use Rattle.mvo_store.specs.declared.append.log_step.LogStep.TheVariants.{Take, AppendBody, AppendOpen}
+use Rattle.mvo_store.specs.declared.append.log_step.LogStep.TheVariants.{RotateWrite}
+use Rattle.mvo_store.specs.declared.append.log_step.LogStep.TheVariants.{InstallClose, InstallBody, InstallOpen}
 
 -- Each refusal stops a turn, but these: a group is pending already; its body is written already. A
 -- segment that is full is no end of it either: `IsAppend` says what comes then.

@@ -4,22 +4,22 @@ use Rattle.std.specs.List.{list_any}
 use Rattle.mvo_frame.specs.declared.segment.Segment.{Segment}
 use Rattle.mvo_pair.specs.declared.pair.Pair.{Pair}
 use Rattle.mvo_manifest.specs.Data.{ManifestData}
-use Rattle.mvo_store.specs.declared.step.Step.{Step}
-use Rattle.mvo_store.specs.declared.step.Step.TheVariants.{Close, Body, Open}
-use Rattle.mvo_store.specs.declared.install.Install.{Install as InstallData}
-use Rattle.mvo_store.specs.declared.checkpoint_stage.CheckpointStage.{CheckpointStage}
-use Rattle.mvo_store.specs.declared.checkpoint_stage.CheckpointStage.TheVariants.{Data as AtData, Delta as AtDelta, Install as AtInstall}
-use Rattle.mvo_store.specs.declared.checkpointing.Checkpointing.{Checkpointing}
-use Rattle.mvo_store.specs.declared.merge_stage.MergeStage.{MergeStage}
-use Rattle.mvo_store.specs.declared.merge_stage.MergeStage.TheVariants.{Data as MergeAtData, Delta as MergeAtDelta}
-use Rattle.mvo_store.specs.declared.merging.Merging.{Merging}
-use Rattle.mvo_store.specs.declared.seen.Seen.{Seen}
-use Rattle.mvo_store.specs.declared.due.Due.{Due}
-use Rattle.mvo_store.specs.declared.due.Due.TheVariants.{Data, Delta, MergeData, MergeDelta, Install}
-use Rattle.mvo_store.specs.declared.progress.Progress.{Progress}
-use Rattle.mvo_store.specs.declared.progress.Progress.TheVariants.{More, Ready}
-use Rattle.mvo_store.specs.declared.jobs.Jobs.{Jobs}
-use Rattle.mvo_store.specs.declared.jobs.Jobs.TheVariants.{Rotation as RotationAlone, Merge as MergeAlone, Beside}
+use Rattle.mvo_store.specs.declared.install.install_step.InstallStep.{InstallStep}
+use Rattle.mvo_store.specs.declared.install.install_step.InstallStep.TheVariants.{Close, Body, Open}
+use Rattle.mvo_store.specs.declared.install.install.Install.{Install as InstallData}
+use Rattle.mvo_store.specs.declared.checkpoint.stage.CheckpointStage.{CheckpointStage}
+use Rattle.mvo_store.specs.declared.checkpoint.stage.CheckpointStage.TheVariants.{Data as AtData, Delta as AtDelta, Install as AtInstall}
+use Rattle.mvo_store.specs.declared.checkpoint.checkpointing.Checkpointing.{Checkpointing}
+use Rattle.mvo_store.specs.declared.merge.stage.MergeStage.{MergeStage}
+use Rattle.mvo_store.specs.declared.merge.stage.MergeStage.TheVariants.{Data as MergeAtData, Delta as MergeAtDelta}
+use Rattle.mvo_store.specs.declared.merge.merging.Merging.{Merging}
+use Rattle.mvo_store.specs.declared.merge.seen_pairs.SeenPairs.{SeenPairs}
+use Rattle.mvo_store.specs.declared.jobs.due.Due.{Due}
+use Rattle.mvo_store.specs.declared.jobs.due.Due.TheVariants.{Data, Delta, MergeData, MergeDelta, Install}
+use Rattle.mvo_store.specs.declared.jobs.progress.Progress.{Progress}
+use Rattle.mvo_store.specs.declared.jobs.progress.Progress.TheVariants.{More, Ready}
+use Rattle.mvo_store.specs.declared.jobs.jobs.Jobs.{Jobs}
+use Rattle.mvo_store.specs.declared.jobs.jobs.Jobs.TheVariants.{Rotation as RotationAlone, Merge as MergeAlone, Beside}
 
 -- ---- those that run
 
@@ -28,7 +28,7 @@ pub data Job : Type 0 where
   Rotation : (fresh : Segment) → InstallData → Job
   Checkpoint : Checkpointing → Job
   Merge : Merging → Job
-  MergeInstall : Seen → InstallData → Job
+  MergeInstall : SeenPairs → InstallData → Job
 
 abbrev pub no_jobs : Jobs
 no_jobs = Beside None None
@@ -115,8 +115,8 @@ abbrev pub job_due : Due → Jobs → Option Job
 job_due step jobs = first_due step (jobs_of jobs)
 
 -- this step of a job that runs is the next
-abbrev pub is_due : Due → Jobs → Bool
-is_due step jobs = is_some (job_due step jobs)
+abbrev pub is_step_due : Due → Jobs → Bool
+is_step_due step jobs = is_some (job_due step jobs)
 
 -- ---- what is installed
 
@@ -178,7 +178,7 @@ with_merge g jobs = jobs
 -- ---- what a step makes of them
 
 -- Opening the gate is the last.
-abbrev pub next_step : Step → Step
+abbrev pub next_step : InstallStep → InstallStep
 next_step Close = Body
 next_step Body = Open
 next_step Open = Open

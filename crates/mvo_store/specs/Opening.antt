@@ -7,8 +7,8 @@ use Rattle.mvo_disk.specs.Disk.{Image, Only, AllOf, LeavesOnly, IsHonest}
 use Rattle.mvo_format.specs.declared.format.TheConstants.{FIRST_FORMAT}
 use Rattle.mvo_pair.specs.Answers.{IsOnly}
 use Rattle.mvo_pair.specs.Writing.{IsStop, CountsFaults}
-use Rattle.mvo_image.specs.Opens.{Outcome}
-use Rattle.mvo_image.specs.Files.{OpensAs}
+use Rattle.mvo_recovery.specs.image.Opens.{OpeningOutcome}
+use Rattle.mvo_recovery.specs.image.Files.{OpensAs}
 use Rattle.mvo_store.specs.declared.limits.TheConstants.{MAX_FAULTS}
 use Rattle.mvo_store.specs.Jobs.{no_jobs}
 use Rattle.mvo_store.specs.StoreData.{StoreData}
@@ -32,7 +32,7 @@ pub record HasSynced {D : Type 0} (d : Ghosts D) (used : ℕ → Type 0) (below 
   pub count : d.fault_count new ≡ d.fault_count old
 
 -- this is the one answer of opening what a disk holds
-abbrev pub IsAnswer : Image → Outcome → Type 0
+abbrev pub IsAnswer : Image → OpeningOutcome → Type 0
 IsAnswer content out = IsOnly (OpensAs FIRST_FORMAT content) out
 
 -- nothing happened since the opening at this mark

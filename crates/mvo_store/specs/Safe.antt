@@ -15,17 +15,17 @@ use Rattle.mvo_ckpt.specs.Ended.{AreOfPairs}
 use Rattle.mvo_manifest.specs.Data.{ManifestData}
 use Rattle.mvo_manifest.specs.Rules.{IsFile}
 use Rattle.mvo_recovery.specs.Installing.{IsNext}
-use Rattle.mvo_store.specs.declared.checkpoint_stage.CheckpointStage.{CheckpointStage}
-use Rattle.mvo_store.specs.declared.checkpoint_stage.CheckpointStage.TheVariants.{Data as AtData, Delta as AtDelta, Install as AtInstall}
-use Rattle.mvo_store.specs.declared.checkpointing.Checkpointing.{Checkpointing}
-use Rattle.mvo_store.specs.declared.merging.Merging.{Merging}
-use Rattle.mvo_store.specs.declared.jobs.Jobs.{Jobs}
+use Rattle.mvo_store.specs.declared.checkpoint.stage.CheckpointStage.{CheckpointStage}
+use Rattle.mvo_store.specs.declared.checkpoint.stage.CheckpointStage.TheVariants.{Data as AtData, Delta as AtDelta, Install as AtInstall}
+use Rattle.mvo_store.specs.declared.checkpoint.checkpointing.Checkpointing.{Checkpointing}
+use Rattle.mvo_store.specs.declared.merge.merging.Merging.{Merging}
+use Rattle.mvo_store.specs.declared.jobs.jobs.Jobs.{Jobs}
 use Rattle.mvo_store.specs.declared.limits.TheConstants.{MAX_GENERATION}
 use Rattle.mvo_store.specs.Jobs.{Job, jobs_of}
 use Rattle.mvo_store.specs.Jobs.Job.{Rotation, Checkpoint, Merge, MergeInstall}
 use Rattle.mvo_store.specs.Checkpoint.{next_of}
 use Rattle.mvo_store.specs.Merging.{StandStill, MayBecome}
-use Rattle.mvo_store.specs.Standing.{IsUp, HasRoom, ShareNone}
+use Rattle.mvo_store.specs.Standing.{IsUp, JobsHaveRoom, ShareNone}
 use Rattle.mvo_store.specs.StoreData.{StoreData}
 
 -- ---- a job that runs
@@ -91,10 +91,10 @@ pub record IsSafe {D : Type 0} (d : Ghosts D) (s : StoreData D) : Type 0 where
   pub written : s.written ≡ true → HasNext s.pending s.segment.next
   pub jobs : AreSafe s.manifest s.jobs
   pub apart : ShareNone s.jobs
-  pub room_for : HasRoom s.places s.jobs
+  pub room_for : JobsHaveRoom s.places s.jobs
   pub room : d.fault_count s.disk + 1 < 2 ^ 64
 
 -- It is safe, and up with some rows where its disk has answered as written.
-pub record IsSound {D : Type 0} (d : Ghosts D) (s : StoreData D) : Type 0 where
+pub record IsStoreSound {D : Type 0} (d : Ghosts D) (s : StoreData D) : Type 0 where
   pub safe : IsSafe d s
   pub up : IsHonest (d.moment s.disk) → (rows : Map) × IsUp d s rows

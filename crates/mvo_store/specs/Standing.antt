@@ -11,24 +11,24 @@ use Rattle.mvo_group.specs.Rules.{IsGroup}
 use Rattle.mvo_format.specs.declared.format.TheConstants.{FIRST_FORMAT}
 use Rattle.mvo_format.specs.declared.header.TheConstants.{VERSION, HEADER_LEN}
 use Rattle.mvo_frame.specs.declared.segment.Segment.{Segment}
-use Rattle.mvo_frame.specs.Standing.{gate_of, IsWritten}
+use Rattle.mvo_frame.specs.Standing.{gate_of, IsBodyBehindGate}
 use Rattle.mvo_manifest.specs.Data.{ManifestData}
 use Rattle.mvo_manifest.specs.Slots.{IsShut, IsStaged}
 use Rattle.mvo_places.specs.Places.{PlaceTable, ArePlaces}
 use Rattle.mvo_merge.specs.Moved.{HaveOwnKeys}
-use Rattle.mvo_image.specs.Files.{GivesRows}
-use Rattle.mvo_image.specs.Rows.{after_groups}
+use Rattle.mvo_recovery.specs.image.Files.{GivesRows}
+use Rattle.mvo_places.specs.Rows.{after_groups}
 use Rattle.mvo_recovery.specs.Parts.{Parts, rows_of_parts, mark_of_parts, IsLastFile}
 use Rattle.mvo_recovery.specs.Settled.{IsSettled, other_slot, GivesWithOrWithout}
-use Rattle.mvo_recovery.specs.Rotation.{rotated, IsFresh, MayRotate}
-use Rattle.mvo_store.specs.declared.step.Step.{Step}
-use Rattle.mvo_store.specs.declared.step.Step.TheVariants.{Close, Body, Open}
-use Rattle.mvo_store.specs.declared.install.Install.{Install as InstallData}
-use Rattle.mvo_store.specs.declared.seen.Seen.{Seen}
-use Rattle.mvo_store.specs.declared.checkpointing.Checkpointing.{Checkpointing}
-use Rattle.mvo_store.specs.declared.merging.Merging.{Merging}
-use Rattle.mvo_store.specs.declared.jobs.Jobs.{Jobs}
-use Rattle.mvo_store.specs.declared.jobs.Jobs.TheVariants.{Beside}
+use Rattle.mvo_recovery.specs.Rotation.{rotated, IsFreshSegment, MayRotate}
+use Rattle.mvo_store.specs.declared.install.install_step.InstallStep.{InstallStep}
+use Rattle.mvo_store.specs.declared.install.install_step.InstallStep.TheVariants.{Close, Body, Open}
+use Rattle.mvo_store.specs.declared.install.install.Install.{Install as InstallData}
+use Rattle.mvo_store.specs.declared.merge.seen_pairs.SeenPairs.{SeenPairs}
+use Rattle.mvo_store.specs.declared.checkpoint.checkpointing.Checkpointing.{Checkpointing}
+use Rattle.mvo_store.specs.declared.merge.merging.Merging.{Merging}
+use Rattle.mvo_store.specs.declared.jobs.jobs.Jobs.{Jobs}
+use Rattle.mvo_store.specs.declared.jobs.jobs.Jobs.TheVariants.{Beside}
 use Rattle.mvo_store.specs.Checkpoint.{IsCheckpointing}
 use Rattle.mvo_store.specs.Merging.{IsMerging, IsMergeWritten, IsMergeReady}
 use Rattle.mvo_store.specs.Jobs.{Job, jobs_of, install_of, job_takes_file}
@@ -45,12 +45,12 @@ FollowsMark mark (Some g) = (g.prev ≡ mark) × IsGroup g
 -- its body is written behind these parts' last gate
 abbrev pub HasBody : Parts → Option GroupData → ℕ → ℕ → List ℕ → Type 0
 HasBody x None gate next bytes = ⊥
-HasBody x (Some g) gate next bytes = IsWritten VERSION x.middle x.last g gate next bytes
+HasBody x (Some g) gate next bytes = IsBodyBehindGate VERSION x.middle x.last g gate next bytes
 
 -- ---- a job that runs
 
 -- how far the install of a manifest is, in the other slot
-abbrev pub HasInstall : Step → ManifestData → ℕ → List ℕ → Type 0
+abbrev pub HasInstall : InstallStep → ManifestData → ℕ → List ℕ → Type 0
 HasInstall Close next slot bytes = Unit {0}
 HasInstall Body next slot bytes = IsShut bytes
 HasInstall Open next slot bytes = IsStaged VERSION slot next bytes
@@ -66,7 +66,7 @@ pub record IsRotating (content : Image) (may : ℕ → List ℕ → Type 0) (m :
   pub next_is : next ≡ rotated m fresh.file
   pub may_rotate : MayRotate m fresh.file
   pub some : x.last ≢ []
-  pub is_fresh : IsFresh FIRST_FORMAT content may fresh.file
+  pub is_fresh : IsFreshSegment FIRST_FORMAT content may fresh.file
   pub gate : fresh.gate ≡ HEADER_LEN
 
 -- a merge whose files aren't all written
@@ -107,8 +107,8 @@ JobHasRoom places (Checkpoint c) = length c.made.records ≤ places.room
 JobHasRoom places (Merge g) = Unit {0}
 JobHasRoom places (MergeInstall g i) = Unit {0}
 
-abbrev pub HasRoom : PlaceTable → Jobs → Type 0
-HasRoom places jobs = AllByRecursion (JobHasRoom places) (jobs_of jobs)
+abbrev pub JobsHaveRoom : PlaceTable → Jobs → Type 0
+JobsHaveRoom places jobs = AllByRecursion (JobHasRoom places) (jobs_of jobs)
 
 -- the places of the checkpoint's records can be put there without memory
 pub record FitsRecords (places : PlaceTable) (c : Checkpointing) : Type 0 where
@@ -117,7 +117,7 @@ pub record FitsRecords (places : PlaceTable) (c : Checkpointing) : Type 0 where
   pub room : length c.made.records ≤ places.room
 
 -- the records of the merged pair may have their places in its data file
-pub record MovesRecords (g : Seen) : Type 0 where
+pub record MovesRecords (g : SeenPairs) : Type 0 where
   pub file : g.pair.data_file ≤ MAX_FILE
   pub few : length g.made.records ≤ MAX_PAIR_RECORDS
 
@@ -163,7 +163,7 @@ pub record IsUp {D : Type 0} (d : Ghosts D) (s : StoreData D) (rows : Map) : Typ
   pub jobs : HaveJobs (d.content s.disk) (d.may_leave s.disk) s.manifest parts s.jobs
   pub apart : ShareNone s.jobs
   pub places : ArePlaces s.manifest.pairs parts.lives s.places.at
-  pub room_for : HasRoom s.places s.jobs
+  pub room_for : JobsHaveRoom s.places s.jobs
   pub room : d.fault_count s.disk + 1 < 2 ^ 64
 
 -- the image is well formed, and gives these rows and this mark
@@ -213,5 +213,5 @@ pub record IsKeeping {D : Type 0} (d : Ghosts D) (made : Map → Map) (s t : Sto
     pub keeps : (rows : Map) → KeepsRows d s rows → KeepsRows d t (made rows)
 
 -- it keeps them as they are
-abbrev pub Keeps : {D : Type 0} → Ghosts D → StoreData D → StoreData D → Type 0
-Keeps d s t = IsKeeping d (λ rows. rows) s t
+abbrev pub KeepsAllRows : {D : Type 0} → Ghosts D → StoreData D → StoreData D → Type 0
+KeepsAllRows d s t = IsKeeping d (λ rows. rows) s t

@@ -1,11 +1,6 @@
-use crate::step::Step;
-use mvo_manifest::Manifest;
+//! The installing of a job's manifest, in three steps.
 
-/// A manifest that is being installed, and the step that comes next.
-#[derive(Drop)]
-pub struct Install {
-    /// The manifest.
-    pub next: Manifest,
-    /// The step.
-    pub step: Step,
-}
+pub mod generation;
+pub mod install;
+pub mod install_step;
+pub mod steps;

@@ -13,7 +13,7 @@ ghost use Rattle.mvo_store.specs.Standing.{IsUp, Gives, HasSlots, KeepsRows};
 ghost use Rattle.mvo_store.specs.Opening.{IsAnswer, HasBegun, KeepsContent, LeavesAsBefore};
 ghost use Rattle.mvo_store.specs.Opening.{HasSynced, IsNotOpened};
 
-use crate::jobs::Jobs;
+use crate::jobs::jobs::Jobs;
 use crate::limits::MAX_FAULTS;
 use crate::store::Store;
 use crate::syncing::sync_used;

@@ -1,4 +1,4 @@
-use crate::jobs::Jobs;
+use crate::jobs::jobs::Jobs;
 use mvo_disk::Disk;
 use mvo_frame::Segment;
 use mvo_group::Group;
@@ -56,7 +56,7 @@ impl<D: Disk> Model for Store<D> {
     ghost use Rattle.std.specs.Coded.{codes};
     ghost use Rattle.mvo_places.specs.Places.{coded_places};
     ghost use Rattle.mvo_store.specs.StoreData.{StoreData};
-    ghost use Rattle.mvo_store.specs.Safe.{IsSound};
+    ghost use Rattle.mvo_store.specs.Safe.{IsStoreSound};
 
     ghost Value = { StoreData D };
 
@@ -66,7 +66,7 @@ impl<D: Disk> Model for Store<D> {
 
     ghost view = { store_data };
 
-    ghost invariant = { λ s. s.down ≡ false → IsSound D.Disk (store_data s) };
+    ghost invariant = { λ s. s.down ≡ false → IsStoreSound D.Disk (store_data s) };
 }
 
 impl<D: Disk> Store<D> {

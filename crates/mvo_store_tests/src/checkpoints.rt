@@ -1,12 +1,13 @@
 //! Checkpoints of the oldest sealed segment.
 use crate::bodies::Body::{Deleted, OnePut, Round, Updated};
-use crate::disks::{are_long, hold, stopped, stops_halfway};
+use crate::disks::{are_long, hold};
+use crate::failing::Job;
 use crate::reply::Reply::{self, Done, Emptied, Installed, Marked, Refused, Written};
 use crate::step::Step::{
     self, Append, Checkpoint, CheckpointData, CheckpointDelta, CheckpointRead, InstallBody,
     InstallClose, InstallOpen, Reclaim, Rotate, RotateWrite,
 };
-use crate::stores::{after_stop, follow, following, gives, has_row, names, rows_on, store_on};
+use crate::stores::{follow, following, gives, has_row, names, rows_on, store_on};
 use crate::vectors::{CHECKPOINTED, DATA, DELTA, ENDED};
 use mvo_disk::MemDisk;
 use mvo_store::{Generation, Progress, Reclaimed, Store};
@@ -201,6 +202,7 @@ fn a_checkpoint_runs_alone(rt: HostRuntime) -> Result<(), Fail> {
 
 // ---- stops and faults
 
+// Three rounds in three sealed segments.
 const THREE_ROUNDS: [(Step, Reply); 6] = [
     (Append(Round(1)), Marked(Stamp(2))),
     (Rotate, Installed(Generation(1))),
@@ -210,114 +212,20 @@ const THREE_ROUNDS: [(Step, Reply); 6] = [
     (Rotate, Installed(Generation(3))),
 ];
 
-// A disk with three rounds in three sealed segments.
-fn three_rounds(rt: &(impl Abort + Threads + Sync), alloc: Global) -> Result<MemDisk, Fail> {
-    stopped(following(rt, alloc, &THREE_ROUNDS)?.into_disk())
-}
+const OF_THREE_SEGMENTS: Job = Job {
+    before: &THREE_ROUNDS,
+    whole: Checkpoint,
+    generation: Generation(4),
+    first: CheckpointRead,
+    next: Checkpoint,
+};
 
-// How many calls an opening of these rounds makes.
-fn opening_calls(rt: &(impl Abort + Threads + Sync), alloc: Global) -> Result<u64, Fail> {
-    let disk = store_on(rt, alloc, three_rounds(rt, alloc)?)?.into_disk();
-    Ok(disk.calls().len() as u64)
-}
-
-const IS_DOWN: [(Step, Reply); 1] = [(CheckpointRead, Refused(Refusal::Down))];
-
-// The rounds on a disk of which this call fails.
-fn failing(
-    rt: &(impl Abort + Threads + Sync),
-    alloc: Global,
-    call: u64,
-) -> Result<Store<MemDisk>, Fail> {
-    let mut disk = three_rounds(rt, alloc)?;
-    disk.fail_at(call);
-    store_on(rt, alloc, disk)
-}
-
-// Whether a checkpoint ended with a fault, and not with the next manifest.
-fn has_failed(rt: &impl Abort, alloc: Global, store: &mut Store<MemDisk>) -> Result<bool, Fail> {
-    let reply = Checkpoint.of(store, alloc)?;
-    if reply == Installed(Generation(4)) {
-        return Ok(false);
-    }
-    assert_eq!(rt; reply, Refused(Refusal::DiskFault));
-    follow(rt, alloc, store, &IS_DOWN)?;
-    Ok(true)
-}
-
-// What was abandoned counts for nothing: the next checkpoint goes through.
-fn goes_through(rt: &impl Abort, alloc: Global, store: &mut Store<MemDisk>) -> Result<(), Fail> {
-    let reply = Checkpoint.of(store, alloc)?;
-    assert!(rt; matches!(&reply, Installed(_)), "{reply:?}");
-    Ok(())
-}
-
-// The next checkpoint goes through, and a stop behind it takes no round away.
-fn goes_on(
-    rt: &(impl Abort + Threads + Sync),
-    alloc: Global,
-    mut store: Store<MemDisk>,
-) -> Result<(), Fail> {
-    goes_through(rt, alloc, &mut store)?;
-    let _ = after_stop(rt, alloc, store, 3)?;
-    Ok(())
-}
-
-// Whether a checkpoint failed at this call, after which the rounds must be there.
-fn fails_at(rt: &(impl Abort + Threads + Sync), alloc: Global, call: u64) -> Result<bool, Fail> {
-    let mut store = failing(rt, alloc, call)?;
-    let failed = has_failed(rt, alloc, &mut store)?;
-    let store = after_stop(rt, alloc, store, 3)?;
-    if failed {
-        goes_on(rt, alloc, store)?;
-    }
-    Ok(failed)
-}
-
-// Whatever call fails, and whether or not the disk stops then, the rounds are there.
 #[test]
 fn a_checkpoint_may_fail_at_each_call(rt: HostRuntime) -> Result<(), Fail> {
-    let alloc = rt.alloc();
-    let first = opening_calls(&rt, alloc)?;
-    let mut more = true;
-    for calls in 0..100u64 {
-        if more {
-            more = fails_at(&rt, alloc, first.saturating_add(calls))?;
-            assert!(rt; more || calls > 10);
-        }
-    }
-    assert!(rt; !more);
-    Ok(())
+    OF_THREE_SEGMENTS.may_fail_at_each_call(&rt, rt.alloc())
 }
 
-// Whether a stop may leave half of the write before this call, after which the rounds must be
-// there.
-fn halves_before(
-    rt: &(impl Abort + Threads + Sync),
-    alloc: Global,
-    call: u64,
-) -> Result<bool, Fail> {
-    let mut store = failing(rt, alloc, call)?;
-    let _ = has_failed(rt, alloc, &mut store)?;
-    let mut disk = store.into_disk();
-    if !stops_halfway(alloc, &mut disk)? {
-        return Ok(false);
-    }
-    let _ = after_stop(rt, alloc, store_on(rt, alloc, disk)?, 3)?;
-    Ok(true)
-}
-
-// A stop within a write may leave half of it.
 #[test]
 fn a_checkpoint_may_stop_within_a_write(rt: HostRuntime) -> Result<(), Fail> {
-    let alloc = rt.alloc();
-    let first = opening_calls(&rt, alloc)?;
-    let mut halves = 0u8;
-    for calls in 0..20u64 {
-        if halves_before(&rt, alloc, first.saturating_add(calls))? {
-            halves = halves.saturating_add(1);
-        }
-    }
-    assert!(rt; halves >= 2);
-    Ok(())
+    OF_THREE_SEGMENTS.may_stop_within_a_write(&rt, rt.alloc(), 20)
 }

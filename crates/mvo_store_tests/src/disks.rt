@@ -1,5 +1,6 @@
 //! Disks, and what their files hold.
-use mvo_disk::{Disk, FileImage, MemDisk, Work};
+use crate::equal::{holds, holds_at, same_at};
+use mvo_disk::{DeviceWork, Disk, FileImage, MemDisk};
 use mvo_store::format;
 use std::alloc::Global;
 use std::process::Abort;
@@ -40,22 +41,22 @@ pub(crate) fn stopped(mut disk: MemDisk) -> Result<MemDisk, Fail> {
 /// Each of these files holds its bytes.
 pub(crate) fn hold(rt: &impl Abort, disk: &MemDisk, files: &[(u16, &[u8])]) {
     for (file, bytes) in files {
-        assert!(rt; *file < 16);
-        assert_eq!(rt; disk.bytes(*file), *bytes, "file {file}");
+        holds(rt, *file < 16);
+        same_at(rt, *file as usize, &disk.bytes(*file), bytes);
     }
 }
 
 /// The file begins with these bytes.
 pub(crate) fn begins(rt: &impl Abort, disk: &MemDisk, file: u16, bytes: &[u8]) {
-    assert!(rt; file < 16);
-    assert!(rt; disk.bytes(file).starts_with(bytes), "file {file}");
+    holds(rt, file < 16);
+    holds_at(rt, file as usize, disk.bytes(file).starts_with(bytes));
 }
 
 /// Each of these files is so long.
 pub(crate) fn are_long(rt: &impl Abort, disk: &MemDisk, files: &[(u16, usize)]) {
     for (file, len) in files {
-        assert!(rt; *file < 8);
-        assert_eq!(rt; disk.bytes(*file).len(), *len, "file {file}");
+        holds(rt, *file < 8);
+        same_at(rt, *file as usize, &disk.bytes(*file).len(), len);
     }
 }
 
@@ -64,7 +65,7 @@ fn half_written(alloc: Global, disk: &MemDisk) -> Result<Option<FileImage>, Fail
     let Some(call) = disk.calls().last() else {
         return Ok(None);
     };
-    let Work::Write { at, len, .. } = &call.work else {
+    let DeviceWork::Write { at, len, .. } = &call.work else {
         return Ok(None);
     };
     if call.file > 15 {

@@ -4,7 +4,7 @@ use crate::disks::new_disk;
 use crate::reply::Reply::{self, Done, Marked, Refused};
 use crate::step::Step::{self, Append, AppendBody, AppendOpen, CanTake, RotateWrite, Take};
 use crate::stores::{follow, gives, store_on};
-use mvo_disk::{FileImage, MemDisk, Work};
+use mvo_disk::{DeviceWork, FileImage, MemDisk};
 use mvo_store::Store;
 use mvo_types::{Refusal, Stamp};
 use std::alloc::Global;
@@ -51,7 +51,7 @@ fn two_groups(
 // How many calls a disk was asked for, of which the last one is a sync.
 fn calls_to_a_sync(disk: &MemDisk) -> Result<usize, Fail> {
     match disk.calls().last() {
-        Some(call) if matches!(&call.work, Work::Sync) => Ok(disk.calls().len()),
+        Some(call) if matches!(&call.work, DeviceWork::Sync) => Ok(disk.calls().len()),
         _ => Err(Fail::from("a sync comes last")),
     }
 }

@@ -1,4 +1,5 @@
-//! Tests of a store over many files, and of the marks that threads share.
+//! Tests of a store over many files, of the disks and files below it, and of what is found out of a
+//! disk.
 #![tactic(auto)]
 
 #[cfg(test)]
@@ -10,15 +11,21 @@ mod checkpoints;
 #[cfg(test)]
 mod disks;
 #[cfg(test)]
+mod equal;
+#[cfg(test)]
+mod failing;
+#[cfg(test)]
 mod faults;
+#[cfg(test)]
+mod files;
 #[cfg(test)]
 mod images;
 #[cfg(test)]
 mod lies;
 #[cfg(test)]
-mod lying_disk;
+mod load;
 #[cfg(test)]
-mod marks;
+mod lying_disk;
 #[cfg(test)]
 mod merges;
 #[cfg(test)]

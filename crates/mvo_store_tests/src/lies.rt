@@ -1,6 +1,7 @@
 //! Stores over a disk of which one answer is wrong.
 use crate::bodies::Body::{OnePut, Round, Updated};
 use crate::disks::stopped;
+use crate::equal::holds;
 use crate::lying_disk::{Lie, LyingDisk};
 use crate::reply::Reply::{self, Installed, Marked};
 use crate::step::Step::{self, Append, Checkpoint, Rotate};
@@ -86,7 +87,7 @@ fn read_all<D: Disk>(store: &mut Store<D>) -> Result<Generation, Refusal> {
 
 // A store whose files came back otherwise than they were written is down.
 fn is_down<D: Disk>(rt: &impl Abort, store: &mut Store<D>) {
-    assert!(rt; store.can_take() == Some(Refusal::Down));
+    holds(rt, store.can_take() == Some(Refusal::Down));
 }
 
 // Opens a store whose disk lies once, and reads all of it. Says whether the lie was due.
@@ -99,7 +100,7 @@ fn lied_to(
     let mut store = match Store::open(rt, alloc, SEED, disk) {
         Ok((store, _, _)) => store,
         Err((refusal, disk)) => {
-            assert!(rt; is_of_files(refusal) && !disk.is_honest());
+            holds(rt, is_of_files(refusal) && !disk.is_honest());
             one_more(&mut met.unopened);
             return Ok(true);
         }
@@ -136,7 +137,7 @@ fn each_answer_lies(
             one_more(&mut met.lies);
         }
     }
-    assert!(rt; !more);
+    holds(rt, !more);
     Ok(())
 }
 

@@ -1,7 +1,7 @@
 //! A disk that gives a wrong answer.
 ghost use Rattle.std.specs.Prelude.{◌≡◌, ◌<◌, ◌+◌, ◌^◌, ◌&&◌, length, IsErr};
 ghost use Rattle.mvo_disk.specs.declared.limits.TheConstants.{FILE_COUNT};
-ghost use Rattle.mvo_disk.specs.Record.{FilesStay, GoesOn};
+ghost use Rattle.mvo_disk.specs.Record.{AllFilesStay, GoesOn};
 
 use mvo_disk::{Disk, DiskFault, MemDisk};
 
@@ -98,7 +98,7 @@ impl LyingDisk {
         ensures err { IsErr result }
         ensures count { self.new.disk.fault_count ≡ self.old.disk.fault_count + 1 }
         ensures honest { self.new.is_honest ≡ self.old.is_honest }
-        ensures rest { FilesStay self.old.disk self.new.disk }
+        ensures rest { AllFilesStay self.old.disk self.new.disk }
         ensures time { GoesOn self.old.disk self.new.disk }
     {
         self.disk.fail_at(0);
@@ -112,9 +112,9 @@ impl LyingDisk {
 impl Disk for LyingDisk {
     ghost use Rattle.std.specs.Prelude.{length};
     ghost use Rattle.mvo_disk.specs.Memory.{counts_now, only_now, counts_later};
-    ghost use Rattle.mvo_disk.specs.Record.{calls_of, content_of, images_of, left_since};
+    ghost use Rattle.mvo_disk.specs.Record.{calls_of, file_content, images_of, left_since};
 
-    ghost content = { λ d. content_of d.disk };
+    ghost content = { λ d. file_content d.disk };
 
     ghost may_leave = { λ d. images_of d.disk };
 

@@ -1,13 +1,14 @@
 //! Merges of neighbouring pairs.
 use crate::bodies::Body::{OnePut, Round, Updated, Write};
-use crate::disks::{begins, hold, stopped, stops_halfway};
+use crate::disks::{begins, hold, stopped};
+use crate::failing::Job;
 use crate::reply::Reply::{self, Done, Emptied, Installed, Marked, Refused};
 use crate::step::Step::{
     self, Append, Checkpoint, CheckpointData, CheckpointDelta, CheckpointRead, InstallBody,
     InstallClose, InstallOpen, Merge, MergeData, MergeDelta, MergeRead, Reclaim, Rotate,
     RotateWrite,
 };
-use crate::stores::{after_stop, follow, following, gives, has_row, rows_on, spans, store_on};
+use crate::stores::{follow, following, gives, has_row, rows_on, spans, store_on};
 use crate::vectors::{DELTA, MERGED, MERGED_DATA, SECOND_ENDED};
 use mvo_disk::MemDisk;
 use mvo_store::{Generation, Reclaimed, Store};
@@ -182,109 +183,20 @@ fn merged_records_have_their_places(rt: HostRuntime) -> Result<(), Fail> {
 
 // ---- stops and faults
 
-// How many calls an opening of these pairs makes.
-fn opening_calls(rt: &(impl Abort + Threads + Sync), alloc: Global) -> Result<u64, Fail> {
-    let disk = store_on(rt, alloc, three_pairs(rt, alloc)?)?.into_disk();
-    Ok(disk.calls().len() as u64)
-}
+const OF_THREE_PAIRS: Job = Job {
+    before: &THREE_PAIRS,
+    whole: Merge(1),
+    generation: Generation(7),
+    first: MergeRead(0),
+    next: Merge(0),
+};
 
-// The pairs on a disk of which this call fails.
-fn failing(
-    rt: &(impl Abort + Threads + Sync),
-    alloc: Global,
-    call: u64,
-) -> Result<Store<MemDisk>, Fail> {
-    let mut disk = three_pairs(rt, alloc)?;
-    disk.fail_at(call);
-    store_on(rt, alloc, disk)
-}
-
-const IS_DOWN: [(Step, Reply); 1] = [(MergeRead(0), Refused(Refusal::Down))];
-
-// Whether a merge ended with a fault, and not with the next manifest.
-fn has_failed(rt: &impl Abort, alloc: Global, store: &mut Store<MemDisk>) -> Result<bool, Fail> {
-    let reply = Merge(1).of(store, alloc)?;
-    if reply == Installed(Generation(7)) {
-        return Ok(false);
-    }
-    assert_eq!(rt; reply, Refused(Refusal::DiskFault));
-    follow(rt, alloc, store, &IS_DOWN)?;
-    Ok(true)
-}
-
-// What was abandoned counts for nothing: the next merge goes through.
-fn goes_through(rt: &impl Abort, alloc: Global, store: &mut Store<MemDisk>) -> Result<(), Fail> {
-    let reply = Merge(0).of(store, alloc)?;
-    assert!(rt; matches!(&reply, Installed(_)), "{reply:?}");
-    Ok(())
-}
-
-// The next merge goes through, and a stop behind it takes no round away.
-fn goes_on(
-    rt: &(impl Abort + Threads + Sync),
-    alloc: Global,
-    mut store: Store<MemDisk>,
-) -> Result<(), Fail> {
-    goes_through(rt, alloc, &mut store)?;
-    let _ = after_stop(rt, alloc, store, 3)?;
-    Ok(())
-}
-
-// Whether a merge failed at this call, after which the rounds must be there.
-fn fails_at(rt: &(impl Abort + Threads + Sync), alloc: Global, call: u64) -> Result<bool, Fail> {
-    let mut store = failing(rt, alloc, call)?;
-    let failed = has_failed(rt, alloc, &mut store)?;
-    let store = after_stop(rt, alloc, store, 3)?;
-    if failed {
-        goes_on(rt, alloc, store)?;
-    }
-    Ok(failed)
-}
-
-// Whatever call fails, and whether or not the disk stops then, the rounds are there.
 #[test]
 fn a_merge_may_fail_at_each_call(rt: HostRuntime) -> Result<(), Fail> {
-    let alloc = rt.alloc();
-    let first = opening_calls(&rt, alloc)?;
-    let mut more = true;
-    for calls in 0..100u64 {
-        if more {
-            more = fails_at(&rt, alloc, first.saturating_add(calls))?;
-            assert!(rt; more || calls > 10);
-        }
-    }
-    assert!(rt; !more);
-    Ok(())
+    OF_THREE_PAIRS.may_fail_at_each_call(&rt, rt.alloc())
 }
 
-// Whether a stop may leave half of the write before this call, after which the rounds must be
-// there.
-fn halves_before(
-    rt: &(impl Abort + Threads + Sync),
-    alloc: Global,
-    call: u64,
-) -> Result<bool, Fail> {
-    let mut store = failing(rt, alloc, call)?;
-    let _ = has_failed(rt, alloc, &mut store)?;
-    let mut disk = store.into_disk();
-    if !stops_halfway(alloc, &mut disk)? {
-        return Ok(false);
-    }
-    let _ = after_stop(rt, alloc, store_on(rt, alloc, disk)?, 3)?;
-    Ok(true)
-}
-
-// A stop within a write may leave half of it.
 #[test]
 fn a_merge_may_stop_within_a_write(rt: HostRuntime) -> Result<(), Fail> {
-    let alloc = rt.alloc();
-    let first = opening_calls(&rt, alloc)?;
-    let mut halves = 0u8;
-    for calls in 0..30u64 {
-        if halves_before(&rt, alloc, first.saturating_add(calls))? {
-            halves = halves.saturating_add(1);
-        }
-    }
-    assert!(rt; halves >= 2);
-    Ok(())
+    OF_THREE_PAIRS.may_stop_within_a_write(&rt, rt.alloc(), 30)
 }

@@ -1,6 +1,7 @@
 //! What each call is answered beside the jobs that run.
 use crate::beside::TWO_PAIRS;
 use crate::bodies::Body::{Round, Write};
+use crate::equal::{holds, same, same_at};
 use crate::reply::Reply::{self, Installed, Marked};
 use crate::step::Step::{
     self, Append, CheckpointData, CheckpointDelta, CheckpointRead, InstallBody, InstallClose,
@@ -122,7 +123,7 @@ fn make(
 ) -> Result<(), Fail> {
     for step in steps {
         let answer = answered(step.of(store, alloc)?);
-        assert_eq!(rt; answer, Answer::Accepted);
+        same(rt, &answer, &Answer::Accepted);
     }
     Ok(())
 }
@@ -133,7 +134,7 @@ fn store_in(
     alloc: Global,
     state: &State,
 ) -> Result<Store<MemDisk>, Fail> {
-    assert!(rt; state.0 <= 3 && state.1 <= 6 && state.2 <= 5);
+    holds(rt, state.0 <= 3 && state.1 <= 6 && state.2 <= 5);
     let mut store = following(rt, alloc, &TWO_PAIRS)?;
     follow(rt, alloc, &mut store, &ALL_MAY_BEGIN)?;
     make(rt, alloc, &mut store, &ROTATION[..state.0])?;
@@ -152,7 +153,7 @@ fn are_answered(
         for (call, wanted) in CALLS.iter().zip(&state.3) {
             let mut store = store_in(rt, alloc, state)?;
             let answer = answered(call.of(&mut store, alloc)?);
-            assert_eq!(rt; answer, *wanted, "state {at}");
+            same_at(&rt, at, &answer, wanted);
         }
     }
     Ok(())

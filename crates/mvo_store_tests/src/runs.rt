@@ -1,6 +1,7 @@
 //! Random runs of all steps, in which each call of the disk fails once, beside a plain table.
 use crate::bodies::Body::Write;
 use crate::disks::{new_disk, stopped, stops_halfway};
+use crate::equal::{holds, same};
 use crate::numbers::Numbers;
 use crate::reply::Reply::{self, Done, Installed, Marked, Refused};
 use crate::step::Step::{
@@ -272,8 +273,8 @@ impl Run {
         if mark == self.after.mark() {
             self.plain = self.after;
         }
-        assert_eq!(rt; mark, self.plain.mark());
-        assert!(rt; has_all(rows, self.plain)?);
+        same(rt, &mark, &self.plain.mark());
+        holds(rt, has_all(rows, self.plain)?);
         self.after = self.plain;
         Ok(())
     }
@@ -377,7 +378,7 @@ fn each_call_fails(
             met = run.met;
         }
     }
-    assert!(rt; !more);
+    holds(rt, !more);
     Ok(met)
 }
 
@@ -387,7 +388,10 @@ fn each_call_of_a_run_may_fail(rt: HostRuntime) -> Result<(), Fail> {
     for seed in 0..2u64 {
         met = each_call_fails(&rt, rt.alloc(), Kind::Whole, seed, met)?;
     }
-    assert!(rt; met.merges > 300 && met.faults > 200 && met.merge_faults > 20);
+    holds(
+        &rt,
+        met.merges > 300 && met.faults > 200 && met.merge_faults > 20,
+    );
     Ok(())
 }
 

@@ -1,5 +1,6 @@
 //! Stores, and what they give.
 use crate::disks::{new_disk, stopped};
+use crate::equal::{holds, same, same_at};
 use crate::reply::Reply;
 use crate::step::Step;
 use mvo_disk::MemDisk;
@@ -44,7 +45,7 @@ pub(crate) fn rows_on(
     mark: u64,
 ) -> Result<Rows, Fail> {
     let (_, rows, found) = opened(rt, alloc, disk)?;
-    assert_eq!(rt; found, Stamp(mark));
+    same(rt, &found, &Stamp(mark));
     Ok(rows)
 }
 
@@ -61,7 +62,7 @@ pub(crate) fn follow(
     steps: &[(Step, Reply)],
 ) -> Result<(), Fail> {
     for (at, (step, reply)) in steps.iter().enumerate() {
-        assert_eq!(rt; step.of(store, alloc)?, *reply, "step {at}");
+        same_at(rt, at, &step.of(store, alloc)?, reply);
     }
     Ok(())
 }
@@ -79,15 +80,15 @@ pub(crate) fn following(
 
 /// The store's manifest names these segments.
 pub(crate) fn names(rt: &impl Abort, store: &Store<MemDisk>, segments: &[u16]) {
-    assert_eq!(rt; store.manifest().segments(), segments);
+    same(rt, &store.manifest().segments(), &segments);
 }
 
 /// The store's manifest has pairs with these lo and hi.
 pub(crate) fn spans(rt: &impl Abort, store: &Store<MemDisk>, wanted: &[(u64, u64)]) {
     let pairs = store.manifest().pairs();
-    assert_eq!(rt; pairs.len(), wanted.len());
+    same(rt, &pairs.len(), &wanted.len());
     for (pair, wanted) in pairs.iter().zip(wanted) {
-        assert_eq!(rt; (pair.lo.0, pair.hi.0), *wanted);
+        same(rt, &(pair.lo.0, pair.hi.0), wanted);
     }
 }
 
@@ -104,7 +105,7 @@ pub(crate) fn have(
     lens: &[(u64, Option<usize>)],
 ) -> Result<(), Fail> {
     for (key, len) in lens {
-        assert_eq!(rt; len_at(rows, *key)?, *len, "key {key}");
+        same_at(rt, *key as usize, &len_at(rows, *key)?, len);
     }
     Ok(())
 }
@@ -112,8 +113,8 @@ pub(crate) fn have(
 /// The row at table 0 and key 5 has sort 50 and these bytes.
 pub(crate) fn has_row(rt: &impl Abort, rows: &Rows, bytes: &[u8]) -> Result<(), Fail> {
     let row = rows.get(RowKey { table: 0, key: 5 })?.ok_or("the row")?;
-    assert_eq!(rt; row.sort, 50);
-    assert_eq!(rt; row.bytes(), bytes);
+    same(rt, &row.sort, &50);
+    same(rt, &row.bytes(), &bytes);
     Ok(())
 }
 
@@ -137,7 +138,7 @@ pub(crate) fn store_with(
     lens: &[(u64, Option<usize>)],
 ) -> Result<Store<MemDisk>, Fail> {
     let (store, rows, found) = opened(rt, alloc, disk)?;
-    assert_eq!(rt; found, Stamp(mark));
+    same(rt, &found, &Stamp(mark));
     have(rt, &rows, lens)?;
     Ok(store)
 }
@@ -157,7 +158,7 @@ pub(crate) fn after_stop(
     store: Store<MemDisk>,
     rounds: u8,
 ) -> Result<Store<MemDisk>, Fail> {
-    assert!(rt; rounds < 4);
+    holds(rt, rounds < 4);
     let disk = stopped(store.into_disk())?;
     let mark = rounds.saturating_mul(2) as u64;
     store_with(rt, alloc, disk, mark, &ROUNDS[rounds as usize])

@@ -1,5 +1,6 @@
 use crate::bodies::Body::{OnePut, Round};
 use crate::disks::{are_long, formatted, hold, holding, new_disk, stopped, written};
+use crate::equal::{holds, same};
 use crate::reply::Reply::{self, Done, Emptied, Installed, Marked, Refused};
 use crate::step::Step::{
     self, Append, AppendBody, AppendOpen, CanTake, InstallBody, InstallClose, InstallOpen, Mark,
@@ -9,7 +10,7 @@ use crate::stores::{
     after_stop, follow, following, gives, has_row, names, new_store, rows_on, store_on, store_with,
 };
 use crate::vectors::{FIRST, FRESH, ROTATED, SEGMENT};
-use mvo_disk::{Disk, MemDisk, Work};
+use mvo_disk::{DeviceWork, Disk, MemDisk};
 use mvo_store::{Generation, Reclaimed, Store, format};
 use mvo_types::{Refusal, Stamp};
 use std::alloc::Global;
@@ -36,7 +37,7 @@ fn refused(alloc: Global, disk: MemDisk) -> Result<String, Fail> {
 fn a_new_store_is_written(rt: HostRuntime) -> Result<(), Fail> {
     let disk = new_disk(rt.alloc())?;
     hold(&rt, &disk, &[(0, &FIRST), (1, &[0]), (2, &FRESH), (3, &[])]);
-    assert_eq!(rt; disk.faults(), 0);
+    same(&rt, &disk.faults(), &0);
     Ok(())
 }
 
@@ -44,7 +45,7 @@ fn a_new_store_is_written(rt: HostRuntime) -> Result<(), Fail> {
 fn a_store_is_not_formatted_again(rt: HostRuntime) -> Result<(), Fail> {
     let alloc = rt.alloc();
     let again = refused(alloc, new_disk(alloc)?)?;
-    assert_eq!(rt; again.as_str(), "refused 57 35 1 9");
+    same(&rt, &again.as_str(), &"refused 57 35 1 9");
     Ok(())
 }
 
@@ -53,7 +54,7 @@ fn an_open_gate_is_enough(rt: HostRuntime) -> Result<(), Fail> {
     let alloc = rt.alloc();
     for (slot, answer) in [(0, "refused 57 1 0 0"), (1, "refused 57 0 1 0")] {
         let open = refused(alloc, holding(alloc, slot, &[0xa5])?)?;
-        assert_eq!(rt; open.as_str(), answer);
+        same(&rt, &open.as_str(), &answer);
     }
     Ok(())
 }
@@ -182,7 +183,7 @@ fn rotating(
     alloc: Global,
     steps: usize,
 ) -> Result<Store<MemDisk>, Fail> {
-    assert!(rt; steps < 5);
+    holds(rt, steps < 5);
     following(rt, alloc, &ROTATION[..steps + 1])
 }
 
@@ -192,7 +193,7 @@ fn a_rotation_may_be_stopped(rt: HostRuntime) -> Result<(), Fail> {
     let alloc = rt.alloc();
     for (steps, generation) in [(0, 0), (1, 0), (2, 0), (3, 0), (4, 1)] {
         let store = after_stop(&rt, alloc, rotating(&rt, alloc, steps)?, 1)?;
-        assert_eq!(rt; store.manifest().generation(), generation);
+        same(&rt, &store.manifest().generation(), &generation);
     }
     Ok(())
 }
@@ -245,8 +246,10 @@ fn changes(disk: &MemDisk) -> (usize, usize) {
     let calls = disk.calls();
     let cuts = calls
         .iter()
-        .filter(|call| matches!(&call.work, Work::Cut { .. }));
-    let syncs = calls.iter().filter(|call| matches!(&call.work, Work::Sync));
+        .filter(|call| matches!(&call.work, DeviceWork::Cut { .. }));
+    let syncs = calls
+        .iter()
+        .filter(|call| matches!(&call.work, DeviceWork::Sync));
     (cuts.count(), syncs.count())
 }
 
@@ -283,7 +286,7 @@ fn one_file_is_emptied_by_a_call(rt: HostRuntime) -> Result<(), Fail> {
     let disk = store.into_disk();
     are_long(&rt, &disk, &[(4, 0), (7, 20)]);
     // Opening syncs the two slots and the segment.
-    assert_eq!(rt; changes(&disk), (1, 4));
+    same(&rt, &changes(&disk), &(1, 4));
     Ok(())
 }
 

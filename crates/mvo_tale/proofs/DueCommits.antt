@@ -9,12 +9,12 @@ use Rattle.std.proofs.Math.Seq.{drop-cons}
 use Rattle.mvo_theory.specs.Marks.{Commit}
 use Rattle.mvo_theory.specs.Groups.{is_writing, is_due}
 use Rattle.mvo_theory.proofs.Each.{each_append, each_weaker}
-use Rattle.mvo_tale.specs.declared.slot.Slot.{Slot}
-use Rattle.mvo_tale.specs.declared.slot.Slot.TheVariants.{Open, Settled, Empty}
-use Rattle.mvo_tale.specs.Stored.{StoredCommit, commit_of}
-use Rattle.mvo_tale.specs.Slots.{ends, open_ends, commits, AreRising}
+use Rattle.mvo_tale.specs.declared.tale_place.TalePlace.{TalePlace}
+use Rattle.mvo_tale.specs.declared.tale_place.TalePlace.TheVariants.{Open, Settled, Empty}
+use Rattle.mvo_tale.specs.Stored.{StoredCommit, stored_commit_of}
+use Rattle.mvo_tale.specs.Slots.{ends, open_ends, tale_commits, AreRising}
 use Rattle.mvo_tale.specs.Next.{due_in, NoneIsDue}
-use Rattle.mvo_tale.specs.Walk.{IsStop, IsPassed, IsDueAt}
+use Rattle.mvo_tale.specs.Walk.{IsWalkEnd, IsPassed, IsDueAt}
 use Rattle.mvo_tale.proofs.Rising.{commits-append, open_ends-append, rising_drop, open_drop}
 
 abbrev is_up_to : ℕ → Commit → Bool
@@ -48,73 +48,73 @@ none_due prev low (c ∷ cs) h = go (is_up_to low c) (none_due prev low cs h.1)
     go false r = r
 
 -- ---- one place more
-pub due_in-append : (prev low : ℕ) (xs ys : List Slot) → due_in prev low (xs ++ ys) ≡ due_in prev low xs ++ due_in prev low ys
+pub due_in-append : (prev low : ℕ) (xs ys : List TalePlace) → due_in prev low (xs ++ ys) ≡ due_in prev low xs ++ due_in prev low ys
 due_in-append prev low xs ys =
     ap (λ cs. filter (is_due prev) (filter (is_up_to low) cs)) (commits-append xs ys)
-    ∙ ap (filter (is_due prev)) (filter-append (is_up_to low) (commits xs) (commits ys))
-    ∙ filter-append (is_due prev) (filter (is_up_to low) (commits xs)) (filter (is_up_to low) (commits ys))
+    ∙ ap (filter (is_due prev)) (filter-append (is_up_to low) (tale_commits xs) (tale_commits ys))
+    ∙ filter-append (is_due prev) (filter (is_up_to low) (tale_commits xs)) (filter (is_up_to low) (tale_commits ys))
 
-taken_more : (xs : List Slot) (p : ℕ) (x : Slot) → p < length xs → x ≡ get_or xs p x → take (p + 1) xs ≡ take p xs ++ x ∷ []
+taken_more : (xs : List TalePlace) (p : ℕ) (x : TalePlace) → p < length xs → x ≡ get_or xs p x → take (p + 1) xs ≡ take p xs ++ x ∷ []
 taken_more xs p x lt is = take_more xs p x lt ∙ ap (λ y. take p xs ++ y ∷ []) (sym is)
 
-pub due_more : (prev low : ℕ) (xs : List Slot) (p : ℕ) (x : Slot) → p < length xs → x ≡ get_or xs p x → due_in prev low (take (p + 1) xs) ≡ due_in prev low (take p xs) ++ due_in prev low (x ∷ [])
+pub due_more : (prev low : ℕ) (xs : List TalePlace) (p : ℕ) (x : TalePlace) → p < length xs → x ≡ get_or xs p x → due_in prev low (take (p + 1) xs) ≡ due_in prev low (take p xs) ++ due_in prev low (x ∷ [])
 due_more prev low xs p x lt is = ap (due_in prev low) (taken_more xs p x lt is) ∙ due_in-append prev low (take p xs) (x ∷ [])
 
-pub none_more : (mark : ℕ) (xs : List Slot) (p : ℕ) (x : Slot) → p < length xs → x ≡ get_or xs p x → NoneIsDue mark (commits (take p xs)) → NoneIsDue mark (commits (x ∷ [])) → NoneIsDue mark (commits (take (p + 1) xs))
+pub none_more : (mark : ℕ) (xs : List TalePlace) (p : ℕ) (x : TalePlace) → p < length xs → x ≡ get_or xs p x → NoneIsDue mark (tale_commits (take p xs)) → NoneIsDue mark (tale_commits (x ∷ [])) → NoneIsDue mark (tale_commits (take (p + 1) xs))
 none_more mark xs p x lt is h k =
-    subst (NoneIsDue mark) (sym (ap commits (taken_more xs p x lt is) ∙ commits-append (take p xs) (x ∷ []))) (each_append (λ c. is_due mark c ≡ false) (commits (take p xs)) (commits (x ∷ [])) h k)
+    subst (NoneIsDue mark) (sym (ap tale_commits (taken_more xs p x lt is) ∙ commits-append (take p xs) (x ∷ []))) (each_append (λ c. is_due mark c ≡ false) (tale_commits (take p xs)) (tale_commits (x ∷ [])) h k)
 
-pub opens_more : (xs : List Slot) (p : ℕ) (x : Slot) → p < length xs → x ≡ get_or xs p x → open_ends (take p xs) ≡ [] → open_ends (x ∷ []) ≡ [] → open_ends (take (p + 1) xs) ≡ []
+pub opens_more : (xs : List TalePlace) (p : ℕ) (x : TalePlace) → p < length xs → x ≡ get_or xs p x → open_ends (take p xs) ≡ [] → open_ends (x ∷ []) ≡ [] → open_ends (take (p + 1) xs) ≡ []
 opens_more xs p x lt is h k = ap open_ends (taken_more xs p x lt is) ∙ open_ends-append (take p xs) (x ∷ []) ∙ ap (λ es. es ++ open_ends (x ∷ [])) h ∙ k
 
-pub left_from : (xs : List Slot) (p : ℕ) (x : Slot) → p < length xs → x ≡ get_or xs p x → drop p xs ≡ x ∷ drop (p + 1) xs
+pub left_from : (xs : List TalePlace) (p : ℕ) (x : TalePlace) → p < length xs → x ≡ get_or xs p x → drop p xs ≡ x ∷ drop (p + 1) xs
 left_from xs p x lt is =
     let next : suc p ≡ p + 1 = omega arith in
     drop-cons xs p x lt ∙ ap (λ y. y ∷ drop (suc p) xs) (sym is) ∙ ap (λ (n : ℕ). x ∷ drop n xs) next
 
-pub due_parts : (prev low : ℕ) (xs : List Slot) (p : ℕ) → due_in prev low xs ≡ due_in prev low (take p xs) ++ due_in prev low (drop p xs)
+pub due_parts : (prev low : ℕ) (xs : List TalePlace) (p : ℕ) → due_in prev low xs ≡ due_in prev low (take p xs) ++ due_in prev low (drop p xs)
 due_parts prev low xs p = ap (due_in prev low) (sym (take-append-drop p xs)) ∙ due_in-append prev low (take p xs) (drop p xs)
 
 -- ---- what each place has
 due_one : (prev low : ℕ) (c : Commit) (cs : List Commit) → c.0 ≤ low → filter (is_due prev) (filter (is_up_to low) (c ∷ cs)) ≡ cond (is_due prev c) (c ∷ filter (is_due prev) (filter (is_up_to low) cs)) (filter (is_due prev) (filter (is_up_to low) cs))
 due_one prev low c cs le = ap (λ (b : Bool). filter (is_due prev) (cond b (c ∷ filter (is_up_to low) cs) (filter (is_up_to low) cs))) (le-leb c.0 low le)
 
-pub due_first : (prev low : ℕ) (x : Slot) (xs : List Slot) (commit : StoredCommit) → IsDueAt prev low x commit → due_in prev low (x ∷ xs) ≡ commit_of commit ∷ due_in prev low xs
+pub due_first : (prev low : ℕ) (x : TalePlace) (xs : List TalePlace) (commit : StoredCommit) → IsDueAt prev low x commit → due_in prev low (x ∷ xs) ≡ stored_commit_of commit ∷ due_in prev low xs
 due_first prev low x xs commit h =
     ap (λ y. due_in prev low (y ∷ xs)) h.at
-    ∙ due_one prev low (commit_of commit) (commits xs) h.within
-    ∙ ap (λ (b : Bool). cond b (commit_of commit ∷ due_in prev low xs) (due_in prev low xs)) h.due
+    ∙ due_one prev low (stored_commit_of commit) (tale_commits xs) h.within
+    ∙ ap (λ (b : Bool). cond b (stored_commit_of commit ∷ due_in prev low xs) (due_in prev low xs)) h.due
 
-pub due_passed : (prev low : ℕ) (x : Slot) → IsPassed prev low x → due_in prev low (x ∷ []) ≡ []
+pub due_passed : (prev low : ℕ) (x : TalePlace) → IsPassed prev low x → due_in prev low (x ∷ []) ≡ []
 due_passed prev low x h =
     ap (λ y. due_in prev low (y ∷ [])) h.at
-    ∙ due_one prev low (commit_of h.commit) [] h.within
-    ∙ ap (λ (b : Bool). cond b (commit_of h.commit ∷ []) []) h.due
+    ∙ due_one prev low (stored_commit_of h.commit) [] h.within
+    ∙ ap (λ (b : Bool). cond b (stored_commit_of h.commit ∷ []) []) h.due
 
-pub passed_within : (low : ℕ) (x : Slot) (commit : StoredCommit) → x ≡ Settled commit → commit.end ≤ low → NoneIsDue low (commits (x ∷ []))
-passed_within low x commit is le = subst (λ y. NoneIsDue low (commits (y ∷ []))) (sym is) (within_not_due low (commit_of commit) le, tt)
+pub passed_within : (low : ℕ) (x : TalePlace) (commit : StoredCommit) → x ≡ Settled commit → commit.end ≤ low → NoneIsDue low (tale_commits (x ∷ []))
+passed_within low x commit is le = subst (λ y. NoneIsDue low (tale_commits (y ∷ []))) (sym is) (within_not_due low (stored_commit_of commit) le, tt)
 
 -- ---- where the walk stops
-above_low : (low : ℕ) (xs : List Slot) → AllByRecursion (λ e. low < e) (ends xs) → filter (is_up_to low) (commits xs) ≡ []
+above_low : (low : ℕ) (xs : List TalePlace) → AllByRecursion (λ e. low < e) (ends xs) → filter (is_up_to low) (tale_commits xs) ≡ []
 above_low low [] h = refl
 above_low low (Open e ∷ xs) h = above_low low xs h.1
-above_low low (Settled x ∷ xs) h = ap (λ (b : Bool). cond b (commit_of x ∷ filter (is_up_to low) (commits xs)) (filter (is_up_to low) (commits xs))) (lt-leb x.end low h.0) ∙ above_low low xs h.1
+above_low low (Settled x ∷ xs) h = ap (λ (b : Bool). cond b (stored_commit_of x ∷ filter (is_up_to low) (tale_commits xs)) (filter (is_up_to low) (tale_commits xs))) (lt-leb x.end low h.0) ∙ above_low low xs h.1
 above_low low (Empty ∷ xs) h = above_low low xs h
 
-from_above : (low e : ℕ) (xs : List Slot) → low < e → AllByRecursion (λ d. e < d) (ends xs) → AllByRecursion (λ d. low < d) (ends xs)
+from_above : (low e : ℕ) (xs : List TalePlace) → low < e → AllByRecursion (λ d. e < d) (ends xs) → AllByRecursion (λ d. low < d) (ends xs)
 from_above low e xs lt h = each_weaker (λ d. e < d) (λ d. low < d) (λ d l. omega arith) (ends xs) h
 
-stop_above : (low : ℕ) (x : Slot) (xs : List Slot) → IsStop low x → AreRising (ends (x ∷ xs)) → AllByRecursion (λ e. low < e) (open_ends (x ∷ xs)) → AllByRecursion (λ e. low < e) (ends (x ∷ xs))
+stop_above : (low : ℕ) (x : TalePlace) (xs : List TalePlace) → IsWalkEnd low x → AreRising (ends (x ∷ xs)) → AllByRecursion (λ e. low < e) (open_ends (x ∷ xs)) → AllByRecursion (λ e. low < e) (ends (x ∷ xs))
 stop_above low (Open e) xs s r o = (o.0, from_above low e.0 xs o.0 r.0)
 stop_above low (Settled y) xs s r o = (s, from_above low y.end xs s r.0)
 stop_above low Empty xs s r o = absurd s
 
-pub none_left : (prev low : ℕ) (xs : List Slot) (p : ℕ) (x : Slot) → p < length xs → x ≡ get_or xs p x → IsStop low x → AreRising (ends xs) → AllByRecursion (λ e. low < e) (open_ends xs) → due_in prev low (drop p xs) ≡ []
+pub none_left : (prev low : ℕ) (xs : List TalePlace) (p : ℕ) (x : TalePlace) → p < length xs → x ≡ get_or xs p x → IsWalkEnd low x → AreRising (ends xs) → AllByRecursion (λ e. low < e) (open_ends xs) → due_in prev low (drop p xs) ≡ []
 none_left prev low xs p x lt is s r o =
     let parts = left_from xs p x lt is in
-    let rising = subst (λ (ys : List Slot). AreRising (ends ys)) parts (rising_drop p xs r) in
-    let opens = subst (λ (ys : List Slot). AllByRecursion (λ e. low < e) (open_ends ys)) parts (open_drop low p xs o) in
+    let rising = subst (λ (ys : List TalePlace). AreRising (ends ys)) parts (rising_drop p xs r) in
+    let opens = subst (λ (ys : List TalePlace). AllByRecursion (λ e. low < e) (open_ends ys)) parts (open_drop low p xs o) in
     ap (due_in prev low) parts ∙ ap (filter (is_due prev)) (above_low low (x ∷ drop (p + 1) xs) (stop_above low x (drop (p + 1) xs) s rising opens))
 
-pub none_behind : (prev low : ℕ) (xs : List Slot) (p : ℕ) → length xs ≤ p → due_in prev low (drop p xs) ≡ []
+pub none_behind : (prev low : ℕ) (xs : List TalePlace) (p : ℕ) → length xs ≤ p → due_in prev low (drop p xs) ≡ []
 none_behind prev low xs p le = ap (due_in prev low) (drop_all p xs le)

@@ -1,10 +1,10 @@
 -- The next group, out of what a walk over the places gathered.
-use Rattle.std.proofs.Common.{◌≡◌, ℕ, suc, ◌+◌, ◌-◌, ◌^◌, ◌<◌, ◌≤◌, Bool, true, false, cond, eqb, List, [], ◌∷◌, ◌++◌, length, map, take, drop, get_or, refl, inl, inr, sym, ap, ◌∙◌, subst, arith, append-nil, length-append}
+use Rattle.std.proofs.Common.{◌≡◌, ℕ, suc, ◌+◌, ◌-◌, ◌^◌, ◌<◌, ◌≤◌, Bool, true, false, cond, List, [], ◌∷◌, ◌++◌, length, map, take, drop, get_or, refl, inl, inr, sym, ap, ◌∙◌, subst, arith, append-nil, length-append}
 use Rattle.std.specs.Prelude.{◌⊎◌, nat_lt, nat_le, ◌&&◌, filter, IsSome, Option, Some, slice_get, option_and_then, ⊤}
 use Rattle.std.specs.List.{AllByRecursion, sum_by}
 use Rattle.std.specs.List.Sorted.{IsStrictlyIncreasing, IsStrictlySortedBy}
 use Rattle.std.specs.Ordering.{nat_cmp}
-use Rattle.std.specs.declared.cmp.Ordering.TheVariants.{Less, Equal, Greater}
+use Rattle.std.specs.declared.cmp.Ordering.TheVariants.{Less}
 use Rattle.std.proofs.lemmas.Bool.{true≢false, lt-ltb, lt-leb, le-leb, ltb-true, leb-true, leb-false}
 use Rattle.std.proofs.lemmas.List.{take_more}
 use Rattle.std.proofs.lemmas.Option.{slice_get_read}
@@ -15,43 +15,45 @@ use Rattle.std.proofs.Math.Seq.{drop-append_seam, take-add}
 use Rattle.mvo_theory.specs.Marks.{Commit}
 use Rattle.mvo_theory.specs.Groups.{is_writing, is_due, IsFull, IsLongest, last_of, mark_by}
 use Rattle.mvo_theory.proofs.Each.{each_filter, each_always, each_front}
+use Rattle.mvo_theory.proofs.OriginSteps.{and_false}
 use Rattle.mvo_group.specs.Data.{RecordData, group_of}
 use Rattle.mvo_group.specs.Rules.{KeepsRules, record_len}
-use Rattle.mvo_tale.specs.declared.slot.Slot.{Slot}
-use Rattle.mvo_tale.specs.declared.slot.Slot.TheVariants.{Settled}
+use Rattle.mvo_group.proofs.Orders.{lt_cmp}
+use Rattle.mvo_tale.specs.declared.tale_place.TalePlace.{TalePlace}
+use Rattle.mvo_tale.specs.declared.tale_place.TalePlace.TheVariants.{Settled}
 use Rattle.mvo_tale.specs.declared.next_records.NextRecords.{NextRecords}
-use Rattle.mvo_tale.specs.Stored.{StoredCommit, commit_of}
-use Rattle.mvo_tale.specs.Slots.{ends, open_ends, commits, AreRising, stored_of}
+use Rattle.mvo_tale.specs.Stored.{StoredCommit, stored_commit_of}
+use Rattle.mvo_tale.specs.Slots.{ends, open_ends, tale_commits, AreRising, stored_of}
 use Rattle.mvo_tale.specs.Records.{IsRecordOf, AreRecordsOf, commit_len, fits}
 use Rattle.mvo_tale.specs.Next.{due_in, NoneIsDue, IsBehindStored, AreGroupedTo, AreNextRecords}
-use Rattle.mvo_tale.specs.Walk.{IsDueAt, AreFitting, IsOneMore, IsTooMuch, end_behind}
+use Rattle.mvo_tale.specs.Walk.{IsDueAt, AreFitting, HasOneRecordMore, IsTooMuch, end_behind}
 use Rattle.mvo_tale.proofs.Rising.{RisingCommits, commits-append, open_ends-append, rising_filter, rising_taken}
 use Rattle.mvo_tale.proofs.Moving.{stored_behind}
 use Rattle.mvo_tale.proofs.DueCommits.{within_not_due, not_due_later, none_later, none_due, due_more, none_more, opens_more, left_from, due_parts, due_first, passed_within}
 
 -- ---- what the walk has gathered before a place
-pub record IsWalked (slots : List Slot) (prev low place next : ℕ) (rs : List RecordData) : Type 0 where
+pub record IsWalked (slots : List TalePlace) (prev low place next : ℕ) (rs : List RecordData) : Type 0 where
   pub records : AreRecordsOf (due_in prev low (take place slots)) rs
   pub len : sum_by record_len rs ≡ sum_by commit_len (due_in prev low (take place slots))
-  pub passed : NoneIsDue low (commits (take place slots))
+  pub passed : NoneIsDue low (tale_commits (take place slots))
   pub settled : open_ends (take place slots) ≡ []
   pub behind : IsBehindStored slots next
   pub below : next ≤ place
 
-pub walked_first : (slots : List Slot) (prev low from : ℕ) → prev < low → AreGroupedTo slots from prev → IsWalked slots prev low from from []
+pub walked_first : (slots : List TalePlace) (prev low from : ℕ) → prev < low → AreGroupedTo slots from prev → IsWalked slots prev low from from []
 walked_first slots prev low from lt h =
-    let none = none_due prev low (commits (take from slots)) h.grouped in
+    let none = none_due prev low (tale_commits (take from slots)) h.grouped in
     record {
       records = subst (λ cs. AreRecordsOf cs []) (sym none) tt;
       len = ap (λ cs. sum_by commit_len cs) (sym none);
-      passed = none_later prev low (commits (take from slots)) (omega arith) h.grouped;
+      passed = none_later prev low (tale_commits (take from slots)) (omega arith) h.grouped;
       settled = h.settled;
       behind = h.behind;
       below = omega arith;
     }
 
 -- no commit is at the place
-pub walked_over : (slots : List Slot) (prev low place next : ℕ) (rs : List RecordData) (x : Slot) → place < length slots → x ≡ get_or slots place x → due_in prev low (x ∷ []) ≡ [] → NoneIsDue low (commits (x ∷ [])) → open_ends (x ∷ []) ≡ [] → (new : ℕ) → IsBehindStored slots new → new ≤ place + 1 → IsWalked slots prev low place next rs → IsWalked slots prev low (place + 1) new rs
+pub walked_over : (slots : List TalePlace) (prev low place next : ℕ) (rs : List RecordData) (x : TalePlace) → place < length slots → x ≡ get_or slots place x → due_in prev low (x ∷ []) ≡ [] → NoneIsDue low (tale_commits (x ∷ [])) → open_ends (x ∷ []) ≡ [] → (new : ℕ) → IsBehindStored slots new → new ≤ place + 1 → IsWalked slots prev low place next rs → IsWalked slots prev low (place + 1) new rs
 walked_over slots prev low place next rs x lt is none not opens new b le h =
     let same : due_in prev low (take (place + 1) slots) ≡ due_in prev low (take place slots) = due_more prev low slots place x lt is ∙ ap (λ cs. due_in prev low (take place slots) ++ cs) none ∙ append-nil (due_in prev low (take place slots)) in
     record {
@@ -70,10 +72,10 @@ records_push (d ∷ cs) [] c r h is = absurd h
 records_push (d ∷ cs) (q ∷ rs) c r h is = (h.0, records_push cs rs c r h.1 is)
 
 -- the commit at the place is taken
-pub walked_more : (slots : List Slot) (prev low place next : ℕ) (rs rs' : List RecordData) (x : Slot) (commit : StoredCommit) → place < length slots → x ≡ get_or slots place x → IsDueAt prev low x commit → IsOneMore (commit_of commit) rs rs' → IsBehindStored slots (place + 1) → IsWalked slots prev low place next rs → IsWalked slots prev low (place + 1) (place + 1) rs'
+pub walked_more : (slots : List TalePlace) (prev low place next : ℕ) (rs rs' : List RecordData) (x : TalePlace) (commit : StoredCommit) → place < length slots → x ≡ get_or slots place x → IsDueAt prev low x commit → HasOneRecordMore (stored_commit_of commit) rs rs' → IsBehindStored slots (place + 1) → IsWalked slots prev low place next rs → IsWalked slots prev low (place + 1) (place + 1) rs'
 walked_more slots prev low place next rs rs' x commit lt is due one b h =
     let d = due_in prev low (take place slots) in
-    let c = commit_of commit in
+    let c = stored_commit_of commit in
     let more : due_in prev low (take (place + 1) slots) ≡ d ++ c ∷ [] = due_more prev low slots place x lt is ∙ ap (λ cs. d ++ cs) (due_first prev low x [] commit due) in
     record {
       records = subst (λ cs. AreRecordsOf cs rs') (sym more) (subst (λ qs. AreRecordsOf (d ++ c ∷ []) qs) (sym one.more) (records_push d rs c one.added h.records one.is));
@@ -100,10 +102,6 @@ fits_is cs rs h e f =
     let size = f.size in
     ap (λ (b : Bool). b && nat_le (18 + sum_by commit_len cs) 4194304) (le-leb (length cs) 1024 (omega arith))
     ∙ le-leb (18 + sum_by commit_len cs) 4194304 (omega arith)
-
-and_false : (a b : Bool) → b ≡ false → (a && b) ≡ false
-and_false true b e = e
-and_false false b e = refl
 
 too_many : (cs : List Commit) → 1024 < length cs → fits cs ≡ false
 too_many cs lt = ap (λ (b : Bool). b && nat_le (18 + sum_by commit_len cs) 4194304) (lt-leb (length cs) 1024 lt)
@@ -198,9 +196,6 @@ ends_of [] (r ∷ rs) h = absurd h
 ends_of (c ∷ cs) [] h = absurd h
 ends_of (c ∷ cs) (r ∷ rs) h = ap (λ (e : ℕ). e ∷ map (λ q. q.end) rs) h.0.end' ∙ ap (λ es. c.0 ∷ es) (ends_of cs rs h.1)
 
-lt_cmp : (a b : ℕ) → a < b → nat_cmp a b ≡ Less
-lt_cmp a b h = ap (λ t. cond t Less (cond (eqb a b) Equal Greater)) (lt-ltb a b h)
-
 rising_ends : (cs : List Commit) → RisingCommits cs → IsStrictlySortedBy nat_cmp (map (λ c. c.0) cs)
 unfolding IsStrictlySortedBy
 rising_ends [] h = tt
@@ -228,18 +223,18 @@ keeps_rules prev mark cs rs lt le rising above below h f = record {
 }
 
 -- ---- the next group
-rising_due : (slots : List Slot) (prev low place : ℕ) → AreRising (ends slots) → RisingCommits (due_in prev low (take place slots))
-rising_due slots prev low place r = rising_filter (is_due prev) (filter (λ c. nat_le c.0 low) (commits (take place slots))) (rising_filter (λ c. nat_le c.0 low) (commits (take place slots)) (rising_taken place slots r))
+rising_due : (slots : List TalePlace) (prev low place : ℕ) → AreRising (ends slots) → RisingCommits (due_in prev low (take place slots))
+rising_due slots prev low place r = rising_filter (is_due prev) (filter (λ c. nat_le c.0 low) (tale_commits (take place slots))) (rising_filter (λ c. nat_le c.0 low) (tale_commits (take place slots)) (rising_taken place slots r))
 
-taken_parts : (p n : ℕ) (xs : List Slot) → n ≤ p → take p xs ≡ take n xs ++ take (p - n) (drop n xs)
+taken_parts : (p n : ℕ) (xs : List TalePlace) → n ≤ p → take p xs ≡ take n xs ++ take (p - n) (drop n xs)
 taken_parts p n xs le = let both : n + (p - n) ≡ p = omega arith in ap (λ (m : ℕ). take m xs) (sym both) ∙ take-add n (p - n) xs
 
-up_to_next : (slots : List Slot) (place next mark : ℕ) → next ≤ place → NoneIsDue mark (commits (take place slots)) → NoneIsDue mark (commits (take next slots))
+up_to_next : (slots : List TalePlace) (place next mark : ℕ) → next ≤ place → NoneIsDue mark (tale_commits (take place slots)) → NoneIsDue mark (tale_commits (take next slots))
 up_to_next slots place next mark le h =
-    each_front (λ c. is_due mark c ≡ false) (commits (take next slots)) (commits (take (place - next) (drop next slots)))
-    (subst (NoneIsDue mark) (ap commits (taken_parts place next slots le) ∙ commits-append (take next slots) (take (place - next) (drop next slots))) h)
+    each_front (λ c. is_due mark c ≡ false) (tale_commits (take next slots)) (tale_commits (take (place - next) (drop next slots)))
+    (subst (NoneIsDue mark) (ap tale_commits (taken_parts place next slots le) ∙ commits-append (take next slots) (take (place - next) (drop next slots))) h)
 
-opens_to_next : (slots : List Slot) (place next : ℕ) → next ≤ place → open_ends (take place slots) ≡ [] → open_ends (take next slots) ≡ []
+opens_to_next : (slots : List TalePlace) (place next : ℕ) → next ≤ place → open_ends (take place slots) ≡ [] → open_ends (take next slots) ≡ []
 opens_to_next slots place next le h = front (open_ends (take next slots)) (open_ends (take (place - next) (drop next slots))) (sym (ap open_ends (taken_parts place next slots le) ∙ open_ends-append (take next slots) (take (place - next) (drop next slots))) ∙ h)
   where
     none : (e : ℕ) (es : List ℕ) → ◌≡◌ {A = List ℕ} (e ∷ es) [] → ⊥
@@ -250,7 +245,7 @@ opens_to_next slots place next le h = front (open_ends (take next slots)) (open_
     front (e ∷ es) fs k = absurd (none e (es ++ fs) k)
 
 -- where all that are due fit
-pub next_whole : (slots : List Slot) (prev low place next : ℕ) (rs : List RecordData) (n : NextRecords) → AreFitting rs → IsWalked slots prev low place next rs → due_in prev low (drop place slots) ≡ [] → n.records.items ≡ rs → n.mark.0 ≡ low → n.next ≡ next → AreNextRecords slots prev low n
+pub next_whole : (slots : List TalePlace) (prev low place next : ℕ) (rs : List RecordData) (n : NextRecords) → AreFitting rs → IsWalked slots prev low place next rs → due_in prev low (drop place slots) ≡ [] → n.records.items ≡ rs → n.mark.0 ≡ low → n.next ≡ next → AreNextRecords slots prev low n
 next_whole slots prev low place next rs n f h none e m x =
     let d = due_in prev low (take place slots) in
     let parts = due_parts prev low slots place in
@@ -263,25 +258,25 @@ next_whole slots prev low place next rs n f h none e m x =
       next = record {
         behind = subst (IsBehindStored slots) (sym x) h.behind;
         settled = subst (λ (i : ℕ). open_ends (take i slots) ≡ []) (sym x) (opens_to_next slots place next h.below h.settled);
-        grouped = subst (λ (i : ℕ). NoneIsDue i (commits (take n.next slots))) (sym m) (subst (λ (i : ℕ). NoneIsDue low (commits (take i slots))) (sym x) (up_to_next slots place next low h.below h.passed));
+        grouped = subst (λ (i : ℕ). NoneIsDue i (tale_commits (take n.next slots))) (sym m) (subst (λ (i : ℕ). NoneIsDue low (tale_commits (take i slots))) (sym x) (up_to_next slots place next low h.below h.passed));
       };
     }
 
-pub rules_whole : (slots : List Slot) (prev low place next : ℕ) (rs : List RecordData) (n : NextRecords) → AreRising (ends slots) → prev < low → low ≤ 2 ^ 62 → AreFitting rs → IsWalked slots prev low place next rs → n.records.items ≡ rs → n.mark.0 ≡ low → KeepsRules (group_of prev n.mark.0 n.records.items)
+pub rules_whole : (slots : List TalePlace) (prev low place next : ℕ) (rs : List RecordData) (n : NextRecords) → AreRising (ends slots) → prev < low → low ≤ 2 ^ 62 → AreFitting rs → IsWalked slots prev low place next rs → n.records.items ≡ rs → n.mark.0 ≡ low → KeepsRules (group_of prev n.mark.0 n.records.items)
 rules_whole slots prev low place next rs n r lt le f h e m =
     subst (λ (i : ℕ). KeepsRules (group_of prev i n.records.items)) (sym m)
     (subst (λ qs. KeepsRules (group_of prev low qs)) (sym e)
-    (keeps_rules prev low (due_in prev low (take place slots)) rs lt le (rising_due slots prev low place r) (due_above prev (filter (λ c. nat_le c.0 low) (commits (take place slots)))) (due_within prev low (commits (take place slots))) h.records f))
+    (keeps_rules prev low (due_in prev low (take place slots)) rs lt le (rising_due slots prev low place r) (due_above prev (filter (λ c. nat_le c.0 low) (tale_commits (take place slots)))) (due_within prev low (tale_commits (take place slots))) h.records f))
 
 -- where the one at the place doesn't fit
-pub next_cut : (slots : List Slot) (prev low place next : ℕ) (rs : List RecordData) (n : NextRecords) (x : Slot) (commit : StoredCommit) → place < length slots → x ≡ get_or slots place x → IsDueAt prev low x commit → IsTooMuch (commit_of commit) rs → AreRising (ends slots) → AreFitting rs → IsWalked slots prev low place next rs → n.records.items ≡ rs → n.mark.0 ≡ end_behind prev rs → n.next ≡ next → AreNextRecords slots prev low n
+pub next_cut : (slots : List TalePlace) (prev low place next : ℕ) (rs : List RecordData) (n : NextRecords) (x : TalePlace) (commit : StoredCommit) → place < length slots → x ≡ get_or slots place x → IsDueAt prev low x commit → IsTooMuch (stored_commit_of commit) rs → AreRising (ends slots) → AreFitting rs → IsWalked slots prev low place next rs → n.records.items ≡ rs → n.mark.0 ≡ end_behind prev rs → n.next ≡ next → AreNextRecords slots prev low n
 next_cut slots prev low place next rs n x commit lt is due too rising f h e m y =
     let d = due_in prev low (take place slots) in
-    let c = commit_of commit in
+    let c = stored_commit_of commit in
     let ds = due_in prev low (drop (place + 1) slots) in
     let left : due_in prev low (drop place slots) ≡ c ∷ ds = ap (due_in prev low) (left_from slots place x lt is) ∙ due_first prev low x (drop (place + 1) slots) commit due in
     let parts : due_in prev low slots ≡ d ++ c ∷ ds = due_parts prev low slots place ∙ ap (λ cs. d ++ cs) left in
-    let last = lasts prev d (due_above prev (filter (λ a. nat_le a.0 low) (commits (take place slots)))) (rising_due slots prev low place rising) in
+    let last = lasts prev d (due_above prev (filter (λ a. nat_le a.0 low) (tale_commits (take place slots)))) (rising_due slots prev low place rising) in
     let mark : n.mark.0 ≡ last_of prev d = m ∙ last_is prev d rs h.records in
     record {
       taken = d;
@@ -291,19 +286,19 @@ next_cut slots prev low place next rs n x commit lt is due too rising f h e m y 
       next = record {
         behind = subst (IsBehindStored slots) (sym y) h.behind;
         settled = subst (λ (i : ℕ). open_ends (take i slots) ≡ []) (sym y) (opens_to_next slots place next h.below h.settled);
-        grouped = subst (λ (i : ℕ). NoneIsDue i (commits (take n.next slots))) (sym mark) (subst (λ (i : ℕ). NoneIsDue (last_of prev d) (commits (take i slots))) (sym y) (up_to_next slots place next (last_of prev d) h.below
-            (none_behind_mark prev low (last_of prev d) (commits (take place slots)) last.from h.passed last.below)));
+        grouped = subst (λ (i : ℕ). NoneIsDue i (tale_commits (take n.next slots))) (sym mark) (subst (λ (i : ℕ). NoneIsDue (last_of prev d) (tale_commits (take i slots))) (sym y) (up_to_next slots place next (last_of prev d) h.below
+            (none_behind_mark prev low (last_of prev d) (tale_commits (take place slots)) last.from h.passed last.below)));
       };
     }
 
-pub rules_cut : (slots : List Slot) (prev low place next : ℕ) (rs : List RecordData) (n : NextRecords) (c : Commit) → AreRising (ends slots) → prev < low → low ≤ 2 ^ 62 → IsTooMuch c rs → AreFitting rs → IsWalked slots prev low place next rs → n.records.items ≡ rs → n.mark.0 ≡ end_behind prev rs → KeepsRules (group_of prev n.mark.0 n.records.items)
+pub rules_cut : (slots : List TalePlace) (prev low place next : ℕ) (rs : List RecordData) (n : NextRecords) (c : Commit) → AreRising (ends slots) → prev < low → low ≤ 2 ^ 62 → IsTooMuch c rs → AreFitting rs → IsWalked slots prev low place next rs → n.records.items ≡ rs → n.mark.0 ≡ end_behind prev rs → KeepsRules (group_of prev n.mark.0 n.records.items)
 rules_cut slots prev low place next rs n c rising lt le too f h e m =
     let d = due_in prev low (take place slots) in
-    let above = due_above prev (filter (λ a. nat_le a.0 low) (commits (take place slots))) in
+    let above = due_above prev (filter (λ a. nat_le a.0 low) (tale_commits (take place slots))) in
     let rise = rising_due slots prev low place rising in
     let last = lasts prev d above rise in
     let some = too.some in
-    let under = last_within low prev d (omega arith) (due_within prev low (commits (take place slots))) in
+    let under = last_within low prev d (omega arith) (due_within prev low (tale_commits (take place slots))) in
     subst (λ (i : ℕ). KeepsRules (group_of prev i n.records.items)) (sym (m ∙ last_is prev d rs h.records))
     (subst (λ qs. KeepsRules (group_of prev (last_of prev d) qs)) (sym e)
     (keeps_rules prev (last_of prev d) d rs (last.over (omega (arith, some, records_count d rs h.records))) (omega arith) rise above last.below h.records f))
@@ -322,8 +317,8 @@ some_records [] lt = absurd (omega arith)
 some_records (r ∷ rs) lt = omega arith
 
 -- ---- right behind a stored commit
-pub behind_stored : (slots : List Slot) (place : ℕ) (x : Slot) (commit : StoredCommit) → place < length slots → x ≡ get_or slots place x → x ≡ Settled commit → IsBehindStored slots (place + 1)
+pub behind_stored : (slots : List TalePlace) (place : ℕ) (x : TalePlace) (commit : StoredCommit) → place < length slots → x ≡ get_or slots place x → x ≡ Settled commit → IsBehindStored slots (place + 1)
 behind_stored slots place x commit lt is at =
     let next : suc place ≡ place + 1 = omega arith in
     let found : slice_get slots place ≡ Some (Settled commit) = slice_get_read slots (length slots) place x refl lt is ∙ ap Some at in
-    subst (IsBehindStored slots) next (stored_behind slots place (subst (λ (o : Option Slot). IsSome (option_and_then stored_of o)) (sym found) refl))
+    subst (IsBehindStored slots) next (stored_behind slots place (subst (λ (o : Option TalePlace). IsSome (option_and_then stored_of o)) (sym found) refl))

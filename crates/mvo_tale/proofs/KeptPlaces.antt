@@ -6,8 +6,8 @@ use Rattle.mvo_theory.specs.Sound.{IsStarted}
 use Rattle.mvo_theory.specs.Changes.{is_to}
 use Rattle.mvo_theory.proofs.Each.{each_weaker, each_append}
 use Rattle.mvo_theory.proofs.Trim.{is_after, parted}
-use Rattle.mvo_tale.specs.declared.slot.Slot.{Slot}
-use Rattle.mvo_tale.specs.declared.slot.Slot.TheVariants.{Open, Settled, Empty}
+use Rattle.mvo_tale.specs.declared.tale_place.TalePlace.{TalePlace}
+use Rattle.mvo_tale.specs.declared.tale_place.TalePlace.TheVariants.{Open, Settled, Empty}
 use Rattle.mvo_tale.specs.Stored.{StoredCommit}
 use Rattle.mvo_tale.specs.Timeline.{ArePlacesOf}
 use Rattle.std.specs.Prelude.{nat_le}
@@ -16,21 +16,21 @@ use Rattle.mvo_tale.specs.Forgetting.{forgotten}
 use Rattle.mvo_tale.specs.Kept.{MayGo, HasTale, TrimKeepsTale, CloseKeepsTale, ForgettingKeepsTale, WholeIsTale}
 
 -- ---- places of two lists one after another
-pub record ArePartedPlaces (slots : List Slot) (xs ys : List StampedTx) : Type 0 where
-  pub front : List Slot
-  pub back : List Slot
+pub record ArePartedPlaces (slots : List TalePlace) (xs ys : List StampedTx) : Type 0 where
+  pub front : List TalePlace
+  pub back : List TalePlace
   pub are : slots ≡ front ++ back
   pub first : ArePlacesOf front xs
   pub second : ArePlacesOf back ys
 
-pub places_parted : (slots : List Slot) (xs ys : List StampedTx) → ArePlacesOf slots (xs ++ ys) → ArePartedPlaces slots xs ys
+pub places_parted : (slots : List TalePlace) (xs ys : List StampedTx) → ArePlacesOf slots (xs ++ ys) → ArePartedPlaces slots xs ys
 places_parted slots [] ys h = record { front = []; back = slots; are = refl; first = tt; second = h }
 places_parted [] (x ∷ xs) ys h = absurd h
-places_parted (Open e ∷ slots) (x ∷ xs) ys h = let p = places_parted slots xs ys h.1 in record { front = Open e ∷ p.front; back = p.back; are = ap (λ (l : List Slot). Open e ∷ l) p.are; first = (h.0, p.first); second = p.second }
-places_parted (Settled c ∷ slots) (x ∷ xs) ys h = let p = places_parted slots xs ys h.1 in record { front = Settled c ∷ p.front; back = p.back; are = ap (λ (l : List Slot). Settled c ∷ l) p.are; first = (h.0, p.first); second = p.second }
-places_parted (Empty ∷ slots) (x ∷ xs) ys h = let p = places_parted slots (x ∷ xs) ys h in record { front = Empty ∷ p.front; back = p.back; are = ap (λ (l : List Slot). Empty ∷ l) p.are; first = p.first; second = p.second }
+places_parted (Open e ∷ slots) (x ∷ xs) ys h = let p = places_parted slots xs ys h.1 in record { front = Open e ∷ p.front; back = p.back; are = ap (λ (l : List TalePlace). Open e ∷ l) p.are; first = (h.0, p.first); second = p.second }
+places_parted (Settled c ∷ slots) (x ∷ xs) ys h = let p = places_parted slots xs ys h.1 in record { front = Settled c ∷ p.front; back = p.back; are = ap (λ (l : List TalePlace). Settled c ∷ l) p.are; first = (h.0, p.first); second = p.second }
+places_parted (Empty ∷ slots) (x ∷ xs) ys h = let p = places_parted slots (x ∷ xs) ys h in record { front = Empty ∷ p.front; back = p.back; are = ap (λ (l : List TalePlace). Empty ∷ l) p.are; first = p.first; second = p.second }
 
-pub places_joined : (front back : List Slot) (xs ys : List StampedTx) → ArePlacesOf front xs → ArePlacesOf back ys → ArePlacesOf (front ++ back) (xs ++ ys)
+pub places_joined : (front back : List TalePlace) (xs ys : List StampedTx) → ArePlacesOf front xs → ArePlacesOf back ys → ArePlacesOf (front ++ back) (xs ++ ys)
 places_joined [] back [] ys a b = b
 places_joined [] back (x ∷ xs) ys a b = absurd a
 places_joined (Open e ∷ front) back [] ys a b = absurd a
@@ -39,7 +39,7 @@ places_joined (Settled c ∷ front) back [] ys a b = absurd a
 places_joined (Settled c ∷ front) back (x ∷ xs) ys a b = (a.0, places_joined front back xs ys a.1 b)
 places_joined (Empty ∷ front) back [] ys a b = empty_more (front ++ back) ys (places_joined front back [] ys a b)
   where
-    empty_more : (slots : List Slot) (zs : List StampedTx) → ArePlacesOf slots zs → ArePlacesOf (Empty ∷ slots) zs
+    empty_more : (slots : List TalePlace) (zs : List StampedTx) → ArePlacesOf slots zs → ArePlacesOf (Empty ∷ slots) zs
     empty_more slots [] h = h
     empty_more slots (z ∷ zs) h = h
 places_joined (Empty ∷ front) back (x ∷ xs) ys a b = places_joined front back (x ∷ xs) ys a b
@@ -65,7 +65,7 @@ tale_closed s mark slots le h = record {
 }
 
 -- ---- the front goes: an empty place
-pub empty_goes : (s : State) (slots : List Slot) → HasTale s (Empty ∷ slots) → HasTale s slots
+pub empty_goes : (s : State) (slots : List TalePlace) → HasTale s (Empty ∷ slots) → HasTale s slots
 empty_goes s slots h = record { gone = h.gone; kept = h.kept; parts = h.parts; places = go (h.kept ++ s.stamped) h.places; may = h.may }
   where
     go : (xs : List StampedTx) → ArePlacesOf (Empty ∷ slots) xs → ArePlacesOf slots xs
@@ -73,7 +73,7 @@ empty_goes s slots h = record { gone = h.gone; kept = h.kept; parts = h.parts; p
     go (x ∷ xs) p = p
 
 -- a commit that ends at most at the start and is in a group
-pub settled_goes : (s : State) (c : StoredCommit) (slots : List Slot) → IsStarted s → c.end ≤ s.start → c.end ≤ s.marks.closed → HasTale s (Settled c ∷ slots) → HasTale s slots
+pub settled_goes : (s : State) (c : StoredCommit) (slots : List TalePlace) → IsStarted s → c.end ≤ s.start → c.end ≤ s.marks.closed → HasTale s (Settled c ∷ slots) → HasTale s slots
 settled_goes s c slots st low grouped h = go h.kept h.parts h.places
   where
     later : (xs : List StampedTx) → AllByRecursion (λ x. s.start < x.end) xs → ArePlacesOf (Settled c ∷ slots) xs → ⊥
@@ -95,7 +95,7 @@ pub tale_whole : WholeIsTale
 tale_whole s slots e h = record { gone = []; kept = []; parts = e; places = h; may = tt }
 
 -- ---- it leaves an empty place
-empty_comes : (s : State) (slots : List Slot) → HasTale s slots → HasTale s (Empty ∷ slots)
+empty_comes : (s : State) (slots : List TalePlace) → HasTale s slots → HasTale s (Empty ∷ slots)
 empty_comes s slots h = record { gone = h.gone; kept = h.kept; parts = h.parts; places = go (h.kept ++ s.stamped) h.places; may = h.may }
   where
     go : (xs : List StampedTx) → ArePlacesOf slots xs → ArePlacesOf (Empty ∷ slots) xs

@@ -2,31 +2,31 @@
 use Rattle.std.specs.Prelude.{ℕ, ◌<◌, Bool, true, false, if◌then◌else◌, List, [], ◌∷◌, Option, None, Some, slice_get, option_and_then, ⊤}
 use Rattle.std.specs.List.{AllByRecursion}
 use Rattle.mvo_theory.specs.Marks.{Commit}
-use Rattle.mvo_tale.specs.declared.slot.Slot.{Slot}
-use Rattle.mvo_tale.specs.declared.slot.Slot.TheVariants.{Open, Settled, Empty}
-use Rattle.mvo_tale.specs.Stored.{StoredCommit, commit_of}
+use Rattle.mvo_tale.specs.declared.tale_place.TalePlace.{TalePlace}
+use Rattle.mvo_tale.specs.declared.tale_place.TalePlace.TheVariants.{Open, Settled, Empty}
+use Rattle.mvo_tale.specs.Stored.{StoredCommit, stored_commit_of}
 
 -- ---- over the places
 -- the ends that were drawn and not given up
-abbrev pub ends : List Slot → List ℕ
+abbrev pub ends : List TalePlace → List ℕ
 ends [] = []
 ends (Open e ∷ xs) = e.0 ∷ ends xs
 ends (Settled x ∷ xs) = x.end ∷ ends xs
 ends (Empty ∷ xs) = ends xs
 
 -- the ends of those that are Preparing
-abbrev pub open_ends : List Slot → List ℕ
+abbrev pub open_ends : List TalePlace → List ℕ
 open_ends [] = []
 open_ends (Open e ∷ xs) = e.0 ∷ open_ends xs
 open_ends (Settled x ∷ xs) = open_ends xs
 open_ends (Empty ∷ xs) = open_ends xs
 
 -- the commits that are stored
-abbrev pub commits : List Slot → List Commit
-commits [] = []
-commits (Open e ∷ xs) = commits xs
-commits (Settled x ∷ xs) = commit_of x ∷ commits xs
-commits (Empty ∷ xs) = commits xs
+abbrev pub tale_commits : List TalePlace → List Commit
+tale_commits [] = []
+tale_commits (Open e ∷ xs) = tale_commits xs
+tale_commits (Settled x ∷ xs) = stored_commit_of x ∷ tale_commits xs
+tale_commits (Empty ∷ xs) = tale_commits xs
 
 -- each is below those that come after it
 abbrev pub AreRising : List ℕ → Type 0
@@ -34,43 +34,43 @@ AreRising [] = ⊤
 AreRising (e ∷ es) = AllByRecursion (λ later. e < later) es × AreRising es
 
 -- ---- at a place
-abbrev pub open_end_of : Slot → Option ℕ
+abbrev pub open_end_of : TalePlace → Option ℕ
 open_end_of (Open e) = Some e.0
 open_end_of (Settled x) = None
 open_end_of Empty = None
 
-abbrev pub stored_of : Slot → Option StoredCommit
+abbrev pub stored_of : TalePlace → Option StoredCommit
 stored_of (Open e) = None
 stored_of (Settled x) = Some x
 stored_of Empty = None
 
 -- the end of the Preparing transaction at the place, if one is there
-abbrev pub open_end_at : List Slot → ℕ → Option ℕ
+abbrev pub open_end_at : List TalePlace → ℕ → Option ℕ
 open_end_at slots place = option_and_then open_end_of (slice_get slots place)
 
 -- the stored commit at the place, if one is there
-abbrev pub stored_at : List Slot → ℕ → Option StoredCommit
+abbrev pub stored_at : List TalePlace → ℕ → Option StoredCommit
 stored_at slots place = option_and_then stored_of (slice_get slots place)
 
 -- ---- empty places at the back go
-abbrev pub is_empty : Slot → Bool
+abbrev pub is_empty : TalePlace → Bool
 is_empty (Open e) = false
 is_empty (Settled x) = false
 is_empty Empty = true
 
-abbrev pub and_place : Slot → List Slot → List Slot
+abbrev pub and_place : TalePlace → List TalePlace → List TalePlace
 and_place x [] = if is_empty x then [] else x ∷ []
 and_place x (y ∷ ys) = x ∷ y ∷ ys
 
-abbrev pub without_empty_back : List Slot → List Slot
+abbrev pub without_empty_back : List TalePlace → List TalePlace
 without_empty_back [] = []
 without_empty_back (x ∷ xs) = and_place x (without_empty_back xs)
 
 -- these, if there are any
-abbrev pub or_all : List Slot → List Slot → List Slot
+abbrev pub or_all : List TalePlace → List TalePlace → List TalePlace
 or_all xs [] = xs
 or_all xs (y ∷ ys) = y ∷ ys
 
 -- the empty ones at the back go, unless all are empty
-abbrev pub closed_up : List Slot → List Slot
+abbrev pub closed_up : List TalePlace → List TalePlace
 closed_up xs = or_all xs (without_empty_back xs)

@@ -17,8 +17,8 @@ pub record StoredCommit : Type 0 where
   pub history : History
 
 -- its end and its history
-abbrev pub commit_of : StoredCommit → Commit
-commit_of x = (x.end, x.history)
+abbrev pub stored_commit_of : StoredCommit → Commit
+stored_commit_of x = (x.end, x.history)
 
 -- what a write leaves, apart from where it lies in memory
 abbrev pub effect_data : EffectAt → Effect

@@ -1,8 +1,8 @@
 -- The places as the theory's state has them.
 use Rattle.std.specs.Prelude.{◌≡◌, true, false, List, [], ◌∷◌, ⊤}
 use Rattle.mvo_theory.specs.State.{StampedTx}
-use Rattle.mvo_tale.specs.declared.slot.Slot.{Slot}
-use Rattle.mvo_tale.specs.declared.slot.Slot.TheVariants.{Open, Settled, Empty}
+use Rattle.mvo_tale.specs.declared.tale_place.TalePlace.{TalePlace}
+use Rattle.mvo_tale.specs.declared.tale_place.TalePlace.TheVariants.{Open, Settled, Empty}
 use Rattle.mvo_tale.specs.Stored.{StoredCommit}
 
 -- a stored commit is a settled transaction
@@ -12,13 +12,13 @@ pub record IsStoredAs (c : StoredCommit) (x : StampedTx) : Type 0 where
   pub end' : x.end ≡ c.end
   pub history : x.history ≡ c.history
 
-abbrev pub IsPlaceOf : Slot → StampedTx → Type 0
+abbrev pub IsPlaceOf : TalePlace → StampedTx → Type 0
 IsPlaceOf (Open e) x = (x.settled ≡ false) × (x.end ≡ e.0)
 IsPlaceOf (Settled c) x = IsStoredAs c x
 IsPlaceOf Empty x = ⊥
 
 -- those that have an end are, one after another, at the places that aren't empty
-abbrev pub ArePlacesOf : List Slot → List StampedTx → Type 0
+abbrev pub ArePlacesOf : List TalePlace → List StampedTx → Type 0
 ArePlacesOf [] [] = ⊤
 ArePlacesOf [] (x ∷ xs) = ⊥
 ArePlacesOf (Open e ∷ slots) [] = ⊥

@@ -6,38 +6,38 @@ use Rattle.mvo_theory.specs.Groups.{is_due}
 use Rattle.mvo_group.specs.declared.lengths.TheConstants.{BODY_HEADER_LEN}
 use Rattle.mvo_group.specs.Data.{RecordData}
 use Rattle.mvo_group.specs.Rules.{IsRecord, record_len}
-use Rattle.mvo_tale.specs.declared.slot.Slot.{Slot}
-use Rattle.mvo_tale.specs.declared.slot.Slot.TheVariants.{Open, Settled, Empty}
-use Rattle.mvo_tale.specs.declared.step.Step.{Step}
-use Rattle.mvo_tale.specs.declared.step.Step.TheVariants.{Due, Passed, Skipped, Stop}
-use Rattle.mvo_tale.specs.Stored.{StoredCommit, commit_of}
+use Rattle.mvo_tale.specs.declared.tale_place.TalePlace.{TalePlace}
+use Rattle.mvo_tale.specs.declared.tale_place.TalePlace.TheVariants.{Open, Settled, Empty}
+use Rattle.mvo_tale.specs.declared.walk_step.WalkStep.{WalkStep}
+use Rattle.mvo_tale.specs.declared.walk_step.WalkStep.TheVariants.{Due, Passed, Skipped, Stop}
+use Rattle.mvo_tale.specs.Stored.{StoredCommit, stored_commit_of}
 use Rattle.mvo_tale.specs.Records.{IsRecordOf, commit_len}
 
 -- ---- at a place
 -- one that is Preparing ends here, or a commit above the low-water
-abbrev pub IsStop : ℕ → Slot → Type 0
-IsStop low (Open e) = ⊤
-IsStop low (Settled x) = low < x.end
-IsStop low Empty = ⊥
+abbrev pub IsWalkEnd : ℕ → TalePlace → Type 0
+IsWalkEnd low (Open e) = ⊤
+IsWalkEnd low (Settled x) = low < x.end
+IsWalkEnd low Empty = ⊥
 
 -- a commit that is at most the low-water, and isn't due
-pub record IsPassed (prev low : ℕ) (slot : Slot) : Type 0 where
+pub record IsPassed (prev low : ℕ) (slot : TalePlace) : Type 0 where
   pub commit : StoredCommit
   pub at : slot ≡ Settled commit
   pub within : commit.end ≤ low
-  pub due : is_due prev (commit_of commit) ≡ false
+  pub due : is_due prev (stored_commit_of commit) ≡ false
 
 -- a commit that is at most the low-water, and is due
-pub record IsDueAt (prev low : ℕ) (slot : Slot) (commit : StoredCommit) : Type 0 where
+pub record IsDueAt (prev low : ℕ) (slot : TalePlace) (commit : StoredCommit) : Type 0 where
   pub at : slot ≡ Settled commit
   pub within : commit.end ≤ low
-  pub due : is_due prev (commit_of commit) ≡ true
+  pub due : is_due prev (stored_commit_of commit) ≡ true
 
-abbrev pub IsStepAt : ℕ → ℕ → Slot → Step → Type 0
+abbrev pub IsStepAt : ℕ → ℕ → TalePlace → WalkStep → Type 0
 IsStepAt prev low slot (Due x) = IsDueAt prev low slot x.now
 IsStepAt prev low slot Passed = IsPassed prev low slot
 IsStepAt prev low slot Skipped = slot ≡ Empty
-IsStepAt prev low slot Stop = IsStop low slot
+IsStepAt prev low slot Stop = IsWalkEnd low slot
 
 -- ---- what is gathered
 -- records that may be in a group
@@ -47,7 +47,7 @@ pub record AreFitting (rs : List RecordData) : Type 0 where
   pub each : All IsRecord rs
 
 -- with the record of the commit
-pub record IsOneMore (c : Commit) (rs rs' : List RecordData) : Type 0 where
+pub record HasOneRecordMore (c : Commit) (rs rs' : List RecordData) : Type 0 where
   pub added : RecordData
   pub is : IsRecordOf c added
   pub len : record_len added ≡ commit_len c

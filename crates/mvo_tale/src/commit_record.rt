@@ -7,7 +7,7 @@ ghost use Rattle.mvo_theory.specs.Groups.{is_writing};
 ghost use Rattle.mvo_group.specs.Data.{write_data};
 ghost use Rattle.mvo_group.specs.Rules.{IsRecord, record_len};
 ghost use Rattle.mvo_theory.specs.Told.{history_told};
-ghost use Rattle.mvo_tale.specs.Stored.{commit_of, effect_data};
+ghost use Rattle.mvo_tale.specs.Stored.{stored_commit_of, effect_data};
 ghost use Rattle.mvo_tale.specs.Records.{IsRecordOf, net_writes, commit_len};
 
 use crate::effect::Effect;
@@ -21,9 +21,9 @@ use std::alloc::{AllocError, Global};
 /// are copied, since the commit keeps its own. Of a commit that wrote, the record is one that a
 /// group may have.
 pub fn record_of(alloc: Global, entry: &TaleEntry) -> Result<Record, AllocError>
-    ensures written { IfOk result (λ r. IsRecordOf (commit_of entry.now) r) }
-    ensures len { IfOk result (λ r. record_len r ≡ commit_len (commit_of entry.now)) }
-    ensures rules { is_writing (commit_of entry.now) ≡ true → IfOk result (λ r. IsRecord r) }
+    ensures written { IfOk result (λ r. IsRecordOf (stored_commit_of entry.now) r) }
+    ensures len { IfOk result (λ r. record_len r ≡ commit_len (stored_commit_of entry.now)) }
+    ensures rules { is_writing (stored_commit_of entry.now) ≡ true → IfOk result (λ r. IsRecord r) }
 {
     let keys = in_order(&entry.written)?;
     Ok(Record {

@@ -1,7 +1,7 @@
 ghost use Rattle.std.specs.Prelude.{◌≡◌, ◌+◌, ◌++◌, ◌∷◌, true, MatchBool, IfOk, OnOk, OnErr, [], length};
 ghost use Rattle.mvo_theory.specs.Groups.{is_writing};
-ghost use Rattle.mvo_tale.specs.Stored.{commit_of};
-ghost use Rattle.mvo_tale.specs.Walk.{AreFitting, IsOneMore, IsTooMuch, end_behind};
+ghost use Rattle.mvo_tale.specs.Stored.{stored_commit_of};
+ghost use Rattle.mvo_tale.specs.Walk.{AreFitting, HasOneRecordMore, IsTooMuch, end_behind};
 
 use crate::commit_record::record_of;
 use crate::next_records::NextRecords;
@@ -50,10 +50,10 @@ impl Gathering {
 
     /// Adds the record of a commit that wrote, where it fits. If not, it answers false.
     pub fn add(&mut self, alloc: Global, entry: &TaleEntry) -> Result<bool, AllocError>
-        requires { is_writing (commit_of entry.now) ≡ true }
+        requires { is_writing (stored_commit_of entry.now) ≡ true }
         ensures { IfOk result (λ added. MatchBool added
-            (IsOneMore (commit_of entry.now) self.old self.new)
-            ((self.new ≡ self.old) × IsTooMuch (commit_of entry.now) self.old)) }
+            (HasOneRecordMore (stored_commit_of entry.now) self.old self.new)
+            ((self.new ≡ self.old) × IsTooMuch (stored_commit_of entry.now) self.old)) }
     {
         if self.records.len() >= MAX_RECORDS {
             return Ok(false);

@@ -3,9 +3,9 @@ ghost use Rattle.mvo_tale.specs.Slots.{without_empty_back, closed_up};
 ghost use Rattle.mvo_tale.specs.Forgetting.{behind_gone, from_kept, goes_first};
 
 use crate::next_records::NextRecords;
-use crate::slot::Slot;
 use crate::spare_lists::SpareLists;
 use crate::tale_entry::TaleEntry;
+use crate::tale_place::TalePlace;
 use crate::walk::records_from;
 use mvo_queue::Queue;
 use mvo_types::{Answer, MAX_STAMP, Op, Stamp};
@@ -21,7 +21,7 @@ use std::marker::Model;
 /// commits that are forgotten are kept for transactions that begin: at most 64 of them, each with
 /// room for at most 128 operations. Contracts don't see them.
 pub struct Tale {
-    slots: Queue<Slot>,
+    slots: Queue<TalePlace>,
     /// How many places at the front are gone.
     gone: usize,
     spare: SpareLists,
@@ -39,7 +39,7 @@ impl Drop for Tale {
 
 impl Model for Tale {
     ghost use Rattle.std.specs.Prelude.{List, length, ◌+◌, ◌<◌, ◌^◌};
-    ghost use Rattle.mvo_tale.specs.declared.slot.Slot.{Slot as Place};
+    ghost use Rattle.mvo_tale.specs.declared.tale_place.TalePlace.{TalePlace as Place};
     ghost use Rattle.mvo_tale.specs.Slots.{AreRising, ends};
     ghost use Rattle.mvo_tale.specs.Forgetting.{behind_gone};
 
@@ -58,7 +58,7 @@ impl Tale {
     ghost use Rattle.std.specs.Option.{option_copied};
     ghost use Rattle.mvo_group.specs.Data.{group_of};
     ghost use Rattle.mvo_group.specs.Rules.{KeepsRules};
-    ghost use Rattle.mvo_tale.specs.declared.slot.Slot.TheVariants.{Open, Settled, Empty};
+    ghost use Rattle.mvo_tale.specs.declared.tale_place.TalePlace.TheVariants.{Open, Settled, Empty};
     ghost use Rattle.mvo_tale.specs.Slots.{AreRising, ends, open_ends};
     ghost use Rattle.mvo_tale.specs.Slots.{open_end_at, stored_at, closed_up};
     ghost use Rattle.mvo_tale.specs.Forgetting.{forgotten, slot_or_empty};
@@ -87,7 +87,7 @@ impl Tale {
         if place == usize::MAX {
             return Err(AllocError);
         }
-        self.slots.push_back(Slot::Open(end))?;
+        self.slots.push_back(TalePlace::Open(end))?;
         self.spare.make_room();
         Ok(place)
     }
@@ -97,7 +97,7 @@ impl Tale {
         requires { open_end_at self.old place ≡ Some entry.end }
         ensures { self.new ≡ slice_set self.old place (Settled entry) }
     {
-        self.slots.set(place - self.gone, Slot::Settled(entry));
+        self.slots.set(place - self.gone, TalePlace::Settled(entry));
     }
 
     /// Empties the open place of a transaction that was aborted. Empty places at the back go,
@@ -106,7 +106,7 @@ impl Tale {
         requires { IsSome (open_end_at self.old place) }
         ensures { self.new ≡ closed_up (slice_set self.old place Empty) }
     {
-        self.slots.set(place - self.gone, Slot::Empty);
+        self.slots.set(place - self.gone, TalePlace::Empty);
         let gone = drop_back(&mut self.slots);
         self.gone += gone;
     }
@@ -152,7 +152,7 @@ impl Tale {
     }
 
     /// What is at the place; of one at the front that is gone, and so empty, nothing.
-    pub fn slot(&self, place: usize) -> Option<&Slot>
+    pub fn slot(&self, place: usize) -> Option<&TalePlace>
         requires { place < length self.now }
         ensures { slice_get self.now place ≡ Some (slot_or_empty (option_copied result)) }
     {
@@ -199,7 +199,7 @@ impl Tale {
 
 /// Takes the empty places at the back off. Where all are empty, all go, and it answers how many
 /// they were.
-fn drop_back(slots: &mut Queue<Slot>) -> usize
+fn drop_back(slots: &mut Queue<TalePlace>) -> usize
     ensures same { behind_gone result slots.new.items ≡ closed_up slots.old.items }
     ensures few { result + length slots.new.items ≤ length slots.old.items }
 {
@@ -212,7 +212,7 @@ fn drop_back(slots: &mut Queue<Slot>) -> usize
 }
 
 /// Takes the empty places at the back off.
-fn drop_empty(slots: &mut Queue<Slot>)
+fn drop_empty(slots: &mut Queue<TalePlace>)
     ensures kept { slots.new.items ≡ without_empty_back slots.old.items }
     ensures within { length slots.new.items ≤ length slots.old.items }
 {
@@ -222,7 +222,7 @@ fn drop_empty(slots: &mut Queue<Slot>)
 }
 
 /// Whether the last place is empty.
-fn ends_empty(slots: &Queue<Slot>) -> bool
+fn ends_empty(slots: &Queue<TalePlace>) -> bool
     ensures some { result ≡ true → 0 < length slots.now.items }
     ensures kept { MatchBool result
         (without_empty_back (take (length slots.now.items - 1) slots.now.items)
@@ -241,7 +241,7 @@ fn ends_empty(slots: &Queue<Slot>) -> bool
 
 /// Takes the places at the front off from which nothing is lost, and keeps the memory of their
 /// lists. Answers how many they were.
-fn drop_front(slots: &mut Queue<Slot>, spare: &mut SpareLists, upto: Stamp) -> usize
+fn drop_front(slots: &mut Queue<TalePlace>, spare: &mut SpareLists, upto: Stamp) -> usize
     ensures kept { slots.new.items ≡ from_kept upto.0 slots.old.items }
     ensures count { result + length slots.new.items ≡ length slots.old.items }
 {
@@ -253,14 +253,14 @@ fn drop_front(slots: &mut Queue<Slot>, spare: &mut SpareLists, upto: Stamp) -> u
 }
 
 /// Keeps the memory of the operations of the commit, if one was at the place.
-fn keep_list(spare: &mut SpareLists, slot: Option<Slot>) {
-    if let Some(Slot::Settled(entry)) = slot {
+fn keep_list(spare: &mut SpareLists, slot: Option<TalePlace>) {
+    if let Some(TalePlace::Settled(entry)) = slot {
         spare.keep(entry.operations);
     }
 }
 
 /// Whether the first place goes.
-fn goes_first(slots: &Queue<Slot>, upto: Stamp) -> bool
+fn goes_first(slots: &Queue<TalePlace>, upto: Stamp) -> bool
     ensures { result ≡ goes_first upto.0 slots.now.items }
 {
     match slots.front() {

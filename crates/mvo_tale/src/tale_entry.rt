@@ -37,11 +37,11 @@ impl Model for TaleEntry {
 impl TaleEntry {
     ghost use Rattle.std.specs.Prelude.{◌≡◌, nat_lt};
     ghost use Rattle.mvo_theory.specs.Groups.{is_writing};
-    ghost use Rattle.mvo_tale.specs.Stored.{commit_of};
+    ghost use Rattle.mvo_tale.specs.Stored.{stored_commit_of};
 
     /// Whether it wrote a key.
     pub fn has_written(&self) -> bool
-        ensures { result ≡ is_writing (commit_of self.now) }
+        ensures { result ≡ is_writing (stored_commit_of self.now) }
     {
         !self.written.is_empty()
     }

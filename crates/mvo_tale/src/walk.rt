@@ -7,8 +7,8 @@ ghost use Rattle.mvo_tale.specs.Next.{AreGroupedTo, AreNextRecords};
 
 use crate::gathering::Gathering;
 use crate::next_records::NextRecords;
-use crate::step::{Step, step_at};
 use crate::tale::Tale;
+use crate::walk_step::{WalkStep, step_at};
 use mvo_types::{MAX_STAMP, Stamp};
 use std::alloc::{AllocError, Global};
 
@@ -31,10 +31,10 @@ pub fn records_from(
     let mut next = from;
     for place in from..tale.len() {
         match step_at(tale.slot(place), prev, low_water) {
-            Step::Stop => return Ok(gathered.up_to(low_water, next)),
-            Step::Skipped => {}
-            Step::Passed => next = place + 1,
-            Step::Due(entry) => {
+            WalkStep::Stop => return Ok(gathered.up_to(low_water, next)),
+            WalkStep::Skipped => {}
+            WalkStep::Passed => next = place + 1,
+            WalkStep::Due(entry) => {
                 if !gathered.add(alloc, entry)? {
                     return Ok(gathered.up_to_last(prev, next));
                 }

@@ -8,7 +8,7 @@ use Rattle.mvo_model.specs.Trace.Phase.{Preparing}
 use Rattle.mvo_theory.specs.Entries.{entries}
 use Rattle.mvo_theory.specs.State.{State, StampedTx}
 use Rattle.mvo_theory.specs.Causes.{why_not_validate, why_not_settle, end_at, end_of}
-use Rattle.mvo_theory.specs.Steps.{is_last_check, is_valid_at, is_valid_now}
+use Rattle.mvo_theory.specs.Steps.{has_last_check, is_valid_at, is_valid_now}
 use Rattle.mvo_theory.specs.Calls.{IsKept}
 use Rattle.mvo_theory.proofs.Commits.{split_at}
 use Rattle.mvo_theory.proofs.LastWriter.{found_in, preparing_phase}
@@ -21,7 +21,7 @@ pub next_drawn : (mark : ℕ) (steps : List Step) (s : State) (n : ℕ) → HasC
 next_drawn mark steps s n h e = let k = h.clock in omega (arith, e, k)
 
 -- ---- whether a check answers Valid
-last_check : (x : StampedTx) (n : ℕ) → (nat_lt 0 n && nat_le (length (entries x.history)) n) ≡ x.valid → (x.valid ≡ false → x.checked ≡ n) → is_last_check x ≡ nat_le (length (entries x.history)) (n + 1)
+last_check : (x : StampedTx) (n : ℕ) → (nat_lt 0 n && nat_le (length (entries x.history)) n) ≡ x.valid → (x.valid ≡ false → x.checked ≡ n) → has_last_check x ≡ nat_le (length (entries x.history)) (n + 1)
 last_check x n v c = go x.valid refl
   where
     go : (b : Bool) → x.valid ≡ b → (b || nat_le (length (entries x.history)) (x.checked + 1)) ≡ nat_le (length (entries x.history)) (n + 1)

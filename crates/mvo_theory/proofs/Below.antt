@@ -61,10 +61,10 @@ stays_after_check s t m h = go (preparing_of t s.stamped)
     go None = (h, refl)
     go (Some x) = check x _ x.valid
 
-none_some : (z : StampedTx) → ◌≡◌ {A = Option StampedTx} None (Some z) → ⊥
+pub none_some : (z : StampedTx) → ◌≡◌ {A = Option StampedTx} None (Some z) → ⊥
 none_some z q = cc
 
-some_same : (v z : StampedTx) → ◌≡◌ {A = Option StampedTx} (Some v) (Some z) → v ≡ z
+pub some_same : (v z : StampedTx) → ◌≡◌ {A = Option StampedTx} (Some v) (Some z) → v ≡ z
 some_same v z q = cc
 
 -- the one that is found is open, so that it ends above the mark

@@ -15,7 +15,7 @@ use Rattle.mvo_theory.specs.Entries.{entry_of}
 use Rattle.mvo_theory.specs.Ranges.{shows, pass, AgreeOn, footprint_of}
 use Rattle.mvo_theory.specs.State.{StampedTx, history_below, seen_by}
 use Rattle.mvo_theory.specs.Dependencies.{has_end, counts_for}
-use Rattle.mvo_theory.specs.Sound.{IsWritten, IsDecided, IsDecidedOn, IsUnchanged, LeavesAlone, IsApart, IsClear, IsRising, IsLegal}
+use Rattle.mvo_theory.specs.Sound.{IsKeyWritten, IsDecided, IsDecidedOn, IsUnchanged, LeavesAlone, IsApart, IsClear, IsRising, IsLegal}
 use Rattle.mvo_theory.proofs.Each.{each_weaker}
 use Rattle.mvo_theory.proofs.Looks.{write_entry}
 use Rattle.mvo_theory.proofs.Footprints.{key_same, none_unless, unchanged_agree}
@@ -56,7 +56,7 @@ apart_writer k x (t ∷ ts) a h = go (is_some (net_write k ts)) refl (apart_writ
         subst (LeavesAlone x) (write_here k (entry_of t.0) (write_of t.0 t.1) here (write_entry t.0 t.1)) a.0
 
 -- ---- a key that is decided by none that it depends on has no writer below the begin that isn't settled
-settled_writer : (k : RowKey) (b : ℕ) (x : StampedTx) (ys : List StampedTx) → AllByRecursion (λ u. u.settled ≡ true → IsApart x u.history) ys → AllByRecursion (λ y. y.settled ≡ false → y.end < b → net_write k y.history ≡ None) ys → IsWritten k b ys → net_write k x.history ≡ None
+settled_writer : (k : RowKey) (b : ℕ) (x : StampedTx) (ys : List StampedTx) → AllByRecursion (λ u. u.settled ≡ true → IsApart x u.history) ys → AllByRecursion (λ y. y.settled ≡ false → y.end < b → net_write k y.history ≡ None) ys → IsKeyWritten k b ys → net_write k x.history ≡ None
 settled_writer k b x [] c f h = absurd h
 settled_writer k b x (y ∷ ys) c f (inr q) = settled_writer k b x ys c.1 f.1 q
 settled_writer k b x (y ∷ ys) c f (inl p) = go y.settled refl

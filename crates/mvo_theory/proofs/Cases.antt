@@ -146,7 +146,7 @@ preparing_none None (Some u) rest = go u.outcome
     go (Committed e) = refl
     go Aborted = refl
 
-none_refusal : (w : Refusal) → ◌≡◌ {A = Option Refusal} (Some w) None → ⊥
+pub none_refusal : (w : Refusal) → ◌≡◌ {A = Option Refusal} (Some w) None → ⊥
 none_refusal w q = cc
 
 -- ---- the one that is found
@@ -302,7 +302,7 @@ finish_none s t h = go (active_of t s.active) (preparing_of t s.stamped) (ended_
 abbrev pub is_ended_in : State → ℕ → Bool
 is_ended_in s t = list_any (λ u. u.id == t) s.ended
 
-no_ended : (u : EndedTx) → ◌≡◌ {A = Option EndedTx} None (Some u) → ⊥
+pub no_ended : (u : EndedTx) → ◌≡◌ {A = Option EndedTx} None (Some u) → ⊥
 no_ended u q = cc
 
 pub ended_in : (t : ℕ) (us : List EndedTx) (u : EndedTx) → ended_of t us ≡ Some u → list_any (λ (v : EndedTx). v.id == t) us ≡ true

@@ -4,6 +4,7 @@ use Rattle.std.specs.Prelude.{nat_lt, ◌&&◌}
 use Rattle.std.specs.List.{AllByRecursion}
 use Rattle.std.proofs.lemmas.Bool.{true≢false, and_parts, and_from, lt-ltb, not-true}
 use Rattle.mvo_theory.proofs.Each.{each_weaker}
+use Rattle.mvo_theory.proofs.Below.{none_some, some_same}
 use Rattle.mvo_theory.specs.State.{StampedTx}
 use Rattle.mvo_theory.specs.Dependencies.{has_end}
 use Rattle.mvo_theory.specs.Sound.{changes, IsUnchanged, IsRising}
@@ -12,12 +13,6 @@ use Rattle.mvo_theory.specs.Causes.{waiting_for, is_changer, or_first, last_end,
 
 some_none : (z : StampedTx) → ◌≡◌ {A = Option StampedTx} (Some z) None → ⊥
 some_none z q = cc
-
-some_same : (v z : StampedTx) → ◌≡◌ {A = Option StampedTx} (Some v) (Some z) → v ≡ z
-some_same v z q = cc
-
-none_some : (z : StampedTx) → ◌≡◌ {A = Option StampedTx} None (Some z) → ⊥
-none_some z q = cc
 
 not_false : (b : Bool) → b ≡ false → not b ≡ true
 not_false true e = absurd (true≢false e)

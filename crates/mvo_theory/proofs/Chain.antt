@@ -13,7 +13,7 @@ use Rattle.mvo_theory.specs.Words.{is_done, words_left}
 use Rattle.mvo_theory.specs.Claims.{new_claim}
 use Rattle.mvo_theory.specs.Causes.{awaited, is_failure}
 use Rattle.mvo_theory.specs.Steps.{after_precommit_of, after_precommit, after_validate_of, after_validate, after_commit_of, after_settle_unless, after_settle, after_abort_of, after_abort}
-use Rattle.mvo_theory.specs.Calls.{Call, Result, Run, answer_in, after_accepted, after_refused, after_call, steps_of, MayCome, MayRun, after_run, group_of, groups_of, IsKept}
+use Rattle.mvo_theory.specs.Calls.{Call, Result, Run, answer_in, after_accepted, after_refused, after_call, steps_of, MayCome, MayRun, after_run, groups_closed_by, groups_of, IsKept}
 use Rattle.mvo_theory.specs.Calls.Call.{Begin, Do, Precommit, Validate, Settle, Rollback, Finish, Trim, Close}
 use Rattle.mvo_theory.specs.Calls.Result.{Accepted, Refused}
 use Rattle.mvo_theory.proofs.Runs.{kept_opened, kept_after_call}
@@ -99,7 +99,7 @@ quiet_chained mark gs s s' f e h = record {
 no_group : (mark : ℕ) (gs : List Group) (s s' : State) → StaysBelow s s' → s'.marks ≡ s.marks → IsChained mark gs s → IsChained mark (gs ++ []) s'
 no_group mark gs s s' f e h = subst (λ l. IsChained mark l s') (sym (append-nil gs)) (quiet_chained mark gs s s' f e h)
 
-chained_accepted : (opening : Map) (xs : List Step) (mark : ℕ) (gs : List Group) (s : State) (c : Call) → MayCome s c Accepted → IsKept opening xs s → IsChained mark gs s → IsChained mark (gs ++ group_of c Accepted) (after_accepted s c)
+chained_accepted : (opening : Map) (xs : List Step) (mark : ℕ) (gs : List Group) (s : State) (c : Call) → MayCome s c Accepted → IsKept opening xs s → IsChained mark gs s → IsChained mark (gs ++ groups_closed_by c Accepted) (after_accepted s c)
 chained_accepted opening xs mark gs s Begin m k h = no_group mark gs s (after_accepted s Begin) (stays_after_call s Begin Accepted k.sound) refl h
 chained_accepted opening xs mark gs s (Do t op) m k h = no_group mark gs s (after_accepted s (Do t op)) (stays_after_call s (Do t op) Accepted k.sound) (marks_taken (after_operation s t op (answer_in s t op)) (new_claim s t op (answer_in s t op))) h
 chained_accepted opening xs mark gs s (Precommit t) m k h = no_group mark gs s (after_precommit s t) (stays_after_call s (Precommit t) Accepted k.sound) (marks_precommit s (active_of t s.active)) h
@@ -115,7 +115,7 @@ chained_accepted opening xs mark gs s (Close fits g full) m k h =
       groups = groups_push s mark gs g h.groups m.1.prev q;
     }
 
-group_of_refused : (c : Call) (r : Refusal) → group_of c (Refused r) ≡ []
+group_of_refused : (c : Call) (r : Refusal) → groups_closed_by c (Refused r) ≡ []
 group_of_refused Begin r = refl
 group_of_refused (Do t op) r = refl
 group_of_refused (Precommit t) r = refl
@@ -126,7 +126,7 @@ group_of_refused (Finish t) r = refl
 group_of_refused (Trim m) r = refl
 group_of_refused (Close fits g full) r = refl
 
-pub chained_after_call : (opening : Map) (xs : List Step) (mark : ℕ) (gs : List Group) (s : State) (c : Call) (r : Result) → MayCome s c r → IsKept opening xs s → IsChained mark gs s → IsChained mark (gs ++ group_of c r) (after_call s c r)
+pub chained_after_call : (opening : Map) (xs : List Step) (mark : ℕ) (gs : List Group) (s : State) (c : Call) (r : Result) → MayCome s c r → IsKept opening xs s → IsChained mark gs s → IsChained mark (gs ++ groups_closed_by c r) (after_call s c r)
 chained_after_call opening xs mark gs s c Accepted m k h = chained_accepted opening xs mark gs s c m k h
 chained_after_call opening xs mark gs s c (Refused r) m k h =
     subst (λ l. IsChained mark (gs ++ l) (after_refused s c r)) (sym (group_of_refused c r))
@@ -135,8 +135,8 @@ chained_after_call opening xs mark gs s c (Refused r) m k h =
 pub chained_after_run : (opening : Map) (xs : List Step) (mark : ℕ) (gs : List Group) (s : State) (cs : Run) → MayRun s cs → IsKept opening xs s → IsChained mark gs s → IsChained mark (gs ++ groups_of cs) (after_run s cs)
 chained_after_run opening xs mark gs s [] m k h = subst (λ l. IsChained mark l s) (sym (append-nil gs)) h
 chained_after_run opening xs mark gs s (c ∷ cs) m k h =
-    subst (λ l. IsChained mark l (after_run (after_call s c.0 c.1) cs)) (append_assoc gs (group_of c.0 c.1) (groups_of cs))
-    (chained_after_run opening (xs ++ steps_of s c.0 c.1) mark (gs ++ group_of c.0 c.1) (after_call s c.0 c.1) cs m.1 (kept_after_call opening xs s c.0 c.1 m.0 k) (chained_after_call opening xs mark gs s c.0 c.1 m.0 k h))
+    subst (λ l. IsChained mark l (after_run (after_call s c.0 c.1) cs)) (append_assoc gs (groups_closed_by c.0 c.1) (groups_of cs))
+    (chained_after_run opening (xs ++ steps_of s c.0 c.1) mark (gs ++ groups_closed_by c.0 c.1) (after_call s c.0 c.1) cs m.1 (kept_after_call opening xs s c.0 c.1 m.0 k) (chained_after_call opening xs mark gs s c.0 c.1 m.0 k h))
 
 pub chained_opened : (rows : Map) (mark : ℕ) → IsChained mark [] (opened rows mark)
 chained_opened rows mark = record { closed = record { drawn = omega arith; above = tt }; groups = refl }

@@ -28,12 +28,7 @@ use Rattle.mvo_theory.proofs.Footprints.{or_left, any_left, any_right, key_same}
 use Rattle.mvo_theory.proofs.Looks.{key_is}
 use Rattle.mvo_theory.proofs.Stamped.{each_part}
 use Rattle.mvo_theory.proofs.Claimed.{claimed_later, has_later, origin_in_trace}
-
-none_key : (k : RowKey) → ◌≡◌ {A = Option RowKey} None (Some k) → ⊥
-none_key k e = cc
-
-same_key : (j k : RowKey) → ◌≡◌ {A = Option RowKey} (Some j) (Some k) → j ≡ k
-same_key j k e = cc
+use Rattle.mvo_theory.proofs.Claims.{none_key, same_key}
 
 -- ---- the first writing answer, after one more
 is_none : (w : Option Effect) → is_some w ≡ false → w ≡ None
@@ -110,11 +105,11 @@ more_claims opening xs s t op a r (Some j) e i history k n p st h = go (is_some 
     go false f = each_append (IsClaimed s.marks.opening (xs ++ Answers t op a ∷ []) r.id) r.claims ((record { key = j; origin = origin s r.id j }) ∷ []) old
         (record { before = xs; op = op; answer = a; after = []; then' = ap (λ (u : ℕ). xs ++ Answers u op a ∷ []) (sym i); answered = e; first = ap (λ ts. is_some (net_write j ts)) history ∙ f; origin = origin_in_trace opening xs s j r.id k n p st }, tt)
 
-later_first : (a b : Option Effect) → is_some a ≡ true → is_some (later a b) ≡ true
+pub later_first : (a b : Option Effect) → is_some a ≡ true → is_some (later a b) ≡ true
 later_first None b e = absurd (false≢true e)
 later_first (Some h) b e = refl
 
-later_second : (a b : Option Effect) → is_some b ≡ true → is_some (later a b) ≡ true
+pub later_second : (a b : Option Effect) → is_some b ≡ true → is_some (later a b) ≡ true
 later_second None b e = e
 later_second (Some h) b e = refl
 

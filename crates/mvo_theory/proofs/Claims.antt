@@ -21,8 +21,8 @@ use Rattle.mvo_model.specs.History.{after_history, net_write}
 use Rattle.mvo_types.specs.declared.entry.Entry.TheVariants.{Key}
 use Rattle.mvo_theory.specs.State.{State, StampedTx, ActiveTx, Claim, seen_by, active_of, is_active_as}
 use Rattle.mvo_theory.specs.Claims.{origin, ended_key, claims_with, has_claim}
-use Rattle.mvo_theory.specs.Changes.{new_active, after_begin, after_operation, with_answer, after_prepare, to_stamped, without, after_check, with_check, after_commit, with_settled, with_flag, active_with_flag, not_at, after_abort_of_active, after_abort_of_preparing, after_termination}
-use Rattle.mvo_theory.proofs.Cases.{if_stands, not_written, not_op, conflict_by}
+use Rattle.mvo_theory.specs.Changes.{new_active, after_begin, after_operation, with_answer, after_prepare, to_stamped, without_id, after_check, with_check, after_commit, with_settled, with_flag, active_with_flag, not_at, after_abort_of_active, after_abort_of_preparing, after_termination}
+use Rattle.mvo_theory.proofs.Cases.{if_stands, not_written, not_op, conflict_by, none_refusal}
 use Rattle.mvo_theory.specs.Causes.{active_claim, stamped_claim, or_cause, claimed_by, conflicts, is_entry_too_many, is_write_too_many}
 use Rattle.mvo_theory.specs.Sound.{how_many, AreExclusive}
 use Rattle.mvo_theory.proofs.Each.{each_weaker}
@@ -36,11 +36,8 @@ abbrev pub claimed_it : RowKey → ℕ → StampedTx → Bool
 claimed_it k n x = has_claim x.claims k n
 
 -- ---- no cause, no claim
-none_cause : (c : Cause) → ◌≡◌ {A = Option Cause} (Some c) None → ⊥
+pub none_cause : (c : Cause) → ◌≡◌ {A = Option Cause} (Some c) None → ⊥
 none_cause c e = cc
-
-none_refusal : (w : Refusal) → ◌≡◌ {A = Option Refusal} (Some w) None → ⊥
-none_refusal w q = cc
 
 pub or_none : (a b : Option Cause) → or_cause a b ≡ None → (a ≡ None) × (b ≡ None)
 or_none None b h = (refl, h)
@@ -74,10 +71,10 @@ conflict_none : (w : Option Cause) → conflicts w ≡ None → w ≡ None
 conflict_none None h = refl
 conflict_none (Some c) h = absurd (none_refusal (WriteConflict c) h)
 
-none_key : (k : RowKey) → ◌≡◌ {A = Option RowKey} None (Some k) → ⊥
+pub none_key : (k : RowKey) → ◌≡◌ {A = Option RowKey} None (Some k) → ⊥
 none_key k e = cc
 
-same_key : (j k : RowKey) → ◌≡◌ {A = Option RowKey} (Some j) (Some k) → j ≡ k
+pub same_key : (j k : RowKey) → ◌≡◌ {A = Option RowKey} (Some j) (Some k) → j ≡ k
 same_key j k e = cc
 
 unclaimed : (s : State) (r : ActiveTx) (k : RowKey) → conflict_by s r k ≡ None → fin.contains_key (after_history r.history (seen_by s.base s.stamped r.id)) k ≡ true → is_some (net_write k r.history) ≡ false → claimed_by s r.id k ≡ None
@@ -115,7 +112,7 @@ count_to : {X : Type 0} (p q : X → Bool) (f : X → X) (xs : List X) → AllBy
 count_to p q f [] h = omega arith
 count_to p q f (x ∷ xs) h = let l = at_most (p (f x)) (q x) h.0 in let r = count_to p q f xs h.1 in omega arith
 
-count_without : (p : ActiveTx → Bool) (t : ℕ) (rs : List ActiveTx) (r : ActiveTx) → active_of t rs ≡ Some r → how_many p (without t rs) + cond (p r) 1 0 ≤ how_many p rs
+count_without : (p : ActiveTx → Bool) (t : ℕ) (rs : List ActiveTx) (r : ActiveTx) → active_of t rs ≡ Some r → how_many p (without_id t rs) + cond (p r) 1 0 ≤ how_many p rs
 count_without p t [] r e = absurd (no_active r e)
   where
     no_active : (q : ActiveTx) → ◌≡◌ {A = Option ActiveTx} None (Some q) → ⊥
@@ -125,8 +122,8 @@ count_without p t (q ∷ qs) r e = go (q.id == t) e (λ g. count_without p t qs 
     same : (v w : ActiveTx) → ◌≡◌ {A = Option ActiveTx} (Some v) (Some w) → v ≡ w
     same v w g = cc
 
-    go : (b : Bool) → cond b (Some q) (active_of t qs) ≡ Some r → (active_of t qs ≡ Some r → how_many p (without t qs) + cond (p r) 1 0 ≤ how_many p qs) → how_many p (cond (not b) (q ∷ without t qs) (without t qs)) + cond (p r) 1 0 ≤ cond (p q) 1 0 + how_many p qs
-    go true g f = subst (λ (v : ActiveTx). how_many p (without t qs) + cond (p v) 1 0 ≤ cond (p q) 1 0 + how_many p qs) (same q r g) (let l = count_filter p (λ v. not (v.id == t)) qs in omega arith)
+    go : (b : Bool) → cond b (Some q) (active_of t qs) ≡ Some r → (active_of t qs ≡ Some r → how_many p (without_id t qs) + cond (p r) 1 0 ≤ how_many p qs) → how_many p (cond (not b) (q ∷ without_id t qs) (without_id t qs)) + cond (p r) 1 0 ≤ cond (p q) 1 0 + how_many p qs
+    go true g f = subst (λ (v : ActiveTx). how_many p (without_id t qs) + cond (p v) 1 0 ≤ cond (p q) 1 0 + how_many p qs) (same q r g) (let l = count_filter p (λ v. not (v.id == t)) qs in omega arith)
     go false g f = let l = f g in omega arith
 
 -- ---- each step

@@ -11,14 +11,9 @@ use Rattle.mvo_theory.specs.Causes.{why_not_settle, waiting_for}
 use Rattle.mvo_theory.proofs.Causes.{waiting_none}
 use Rattle.mvo_theory.proofs.Apart.{IsFreeToSettle}
 use Rattle.mvo_theory.proofs.Ends.{settled_in}
+use Rattle.mvo_theory.proofs.Below.{none_some, some_same}
 use Rattle.mvo_types.specs.declared.refusal.Refusal.{Refusal}
 use Rattle.mvo_types.specs.declared.refusal.Refusal.TheVariants.{NotValidated, DependencyAborted}
-
-none_some : (z : StampedTx) → ◌≡◌ {A = Option StampedTx} None (Some z) → ⊥
-none_some z q = cc
-
-some_same : (v z : StampedTx) → ◌≡◌ {A = Option StampedTx} (Some v) (Some z) → v ≡ z
-some_same v z q = cc
 
 some_none : (w : Refusal) → ◌≡◌ {A = Option Refusal} (Some w) None → ⊥
 some_none w q = cc

@@ -24,7 +24,7 @@ use Rattle.mvo_theory.proofs.Footprints.{key_same}
 use Rattle.mvo_theory.proofs.Apart.{IsIn}
 use Rattle.mvo_theory.proofs.Cases.{found_is}
 use Rattle.mvo_theory.proofs.Claimed.{origin_in_trace}
-use Rattle.mvo_theory.proofs.Named.{HoldsOfOne, claimed_is}
+use Rattle.mvo_theory.proofs.Named.{HoldsOfOne, claimed_is, none_cause}
 use Rattle.mvo_theory.proofs.Found.{found_active, found_stamped, found_past}
 use Rattle.mvo_theory.proofs.Snapshots.{snapshots_traced}
 use Rattle.mvo_theory.proofs.Who.{active_holds}
@@ -121,9 +121,6 @@ sees_so : (opening : Map) (steps : List Step) (s : State) (t : ℕ) (r : ActiveT
 sees_so opening steps s t r f h =
     let a = active_holds (λ (q : ActiveTx). snapshot s q.id ≡ snapshot_of opening steps q.id) t s.active r f (snapshots_traced opening steps s h) in
     subst (λ (v : ℕ). snapshot s v ≡ snapshot_of opening steps v) a.1 a.0
-
-none_cause : (c : Cause) → ◌≡◌ {A = Option Cause} None (Some c) → ⊥
-none_cause c e = cc
 
 -- ---- the conflict
 pub conflict_stands : (opening : Map) (steps : List Step) (s : State) (t : ℕ) (k : RowKey) (c : Cause) (r : ActiveTx) → active_of t s.active ≡ Some r → conflict s t k ≡ Some c → IsKept opening steps s → IsInTheWay opening s.marks.opening steps t k c

@@ -1,19 +1,18 @@
 -- Where the trace has one that was the first to end the version, and isn't aborted, the state has its claim.
-use Rattle.std.proofs.Common.{◌≡◌, ℕ, ◌<◌, Bool, true, false, cond, ◌||◌, List, [], ◌∷◌, ◌++◌, Option, None, Some, refl, sym, ap, ◌∙◌, subst, inl, inr, arith}
+use Rattle.std.proofs.Common.{◌≡◌, ℕ, ◌<◌, Bool, true, false, cond, ◌||◌, List, [], ◌∷◌, ◌++◌, None, Some, refl, sym, ap, ◌∙◌, subst, inl, inr, arith}
 use Rattle.std.specs.Prelude.{◌==◌, ◌&&◌, is_some}
 use Rattle.std.specs.List.{AllByRecursion, list_any}
 use Rattle.std.proofs.lemmas.Bool.{false≢true, true≢false, eqb-true, eq-eqb, and_parts, cases_lt}
 use Rattle.mvo_types.specs.declared.op.Op.{Op}
 use Rattle.mvo_types.specs.declared.row.RowKey.{RowKey}
 use Rattle.mvo_types.specs.AnswerData.{AnswerData}
-use Rattle.mvo_types.specs.Write.{Effect}
-use Rattle.mvo_model.specs.History.{write_of, write_at, later, net_write}
+use Rattle.mvo_model.specs.History.{write_of, write_at, net_write}
 use Rattle.mvo_model.proofs.Serials.{net_write-append}
 use Rattle.mvo_model.specs.Trace.{Step, history_by, history_of, committed}
 use Rattle.mvo_model.specs.Trace.Step.{Answers}
 use Rattle.mvo_theory.specs.Claims.{ended_key}
 use Rattle.mvo_theory.specs.Claimed.{IsWrittenAt, IsOrigin, IsClaimed}
-use Rattle.mvo_theory.proofs.ClaimSteps.{ended_written}
+use Rattle.mvo_theory.proofs.ClaimSteps.{ended_written, later_first, later_second}
 
 -- ---- one origin
 pair_holds : (Q : ℕ × ℕ → Type 0) (n z : ℕ) (cs : List (ℕ × ℕ)) → AllByRecursion Q cs → list_any (λ c. (c.0 == n) && (c.1 == z)) cs ≡ true → Q (n, z)
@@ -45,14 +44,6 @@ one_origin mark steps k b m n p q = elim (cases_lt m n) [
 ]
 
 -- ---- one first writing answer
-later_first : (a b : Option Effect) → is_some a ≡ true → is_some (later a b) ≡ true
-later_first None b e = absurd (false≢true e)
-later_first (Some h) b e = refl
-
-later_second : (a b : Option Effect) → is_some b ≡ true → is_some (later a b) ≡ true
-later_second None b e = e
-later_second (Some h) b e = refl
-
 -- the answer counts in the history of u
 history_here : (k : RowKey) (u : ℕ) (op : Op) (a : AnswerData) (rest : List Step) → ended_key op a ≡ Some k → is_some (net_write k (history_of u (Answers u op a ∷ rest))) ≡ true
 history_here k u op a rest e =

@@ -1,5 +1,5 @@
 -- Who an operation makes its transaction depend on, read off the trace.
-use Rattle.std.proofs.Common.{◌≡◌, ℕ, ◌+◌, ◌<◌, Bool, true, false, cond, ◌||◌, List, [], ◌∷◌, None, Some, refl, sym, ap, ◌∙◌, subst, ◌⊎◌, inl, inr, arith, append-nil}
+use Rattle.std.proofs.Common.{◌≡◌, ℕ, ◌+◌, ◌<◌, Bool, true, false, cond, ◌||◌, List, [], ◌∷◌, None, Some, sym, ap, ◌∙◌, subst, inl, inr, arith, append-nil}
 use Rattle.std.specs.Prelude.{nat_lt, ◌==◌, ◌&&◌, is_some}
 use Rattle.std.specs.List.{AllByRecursion, list_any}
 use Rattle.std.specs.FinMap as fin
@@ -23,15 +23,11 @@ use Rattle.mvo_theory.proofs.Each.{each_weaker, each_both, each_append}
 use Rattle.mvo_theory.proofs.Footprints.{or_left, or_right, key_same}
 use Rattle.mvo_theory.proofs.Counts.{puts-append, seen_counts}
 use Rattle.mvo_theory.proofs.Depends.{below_last}
-use Rattle.mvo_theory.proofs.Exact.{IsDeciding}
+use Rattle.mvo_theory.proofs.Exact.{IsDeciding, or_cases}
 use Rattle.mvo_theory.proofs.LastWriter.{last_is, last_writes, after_last, preparing_phase, preparing_there, found_in}
 use Rattle.mvo_theory.proofs.Trim.{seen_front}
 use Rattle.mvo_theory.proofs.Who.{active_holds, id_of}
 use Rattle.mvo_types.specs.declared.entry.Entry.TheVariants.{Key, Range}
-
-or_cases : (a b : Bool) → (a || b) ≡ true → (a ≡ true) ⊎ (b ≡ true)
-or_cases true b h = inl refl
-or_cases false b h = inr h
 
 -- ---- a row that one of them put was put in the trace
 here_rows : (p : Row → Bool) (q : RowKey) (t : ℕ) (x : Step) → list_any (is_row_of p q) (puts (history_by x t)) ≡ true → puts_row p q x ≡ true

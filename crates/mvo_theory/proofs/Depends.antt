@@ -20,7 +20,7 @@ use Rattle.mvo_theory.specs.Sound.{IsDecided, IsDecidedOn, IsConsistent}
 use Rattle.mvo_theory.proofs.Each.{each_weaker}
 use Rattle.mvo_theory.proofs.Looks.{write_entry, serial_agrees, footprint_agrees}
 use Rattle.mvo_theory.proofs.Footprints.{or_left, or_right, key_same, none_unless}
-use Rattle.mvo_theory.proofs.Stamped.{decided_now, has_rest, decided_more, history_below-last, decided_last, IsLike, history_below-map, decided_map, IsOut, decided_filter, seen_filter}
+use Rattle.mvo_theory.proofs.Stamped.{decided_now, has_rest, decided_more, history_below-last, decided_last, IsLike, history_below-map, decided_map, IsOut, decided_filter, seen_filter, no_stamped}
 use Rattle.mvo_theory.proofs.Counts.{counted_noted, uncounted_seen, counts_filter, counts_map, counts_last}
 use Rattle.mvo_types.specs.declared.entry.Entry.TheVariants.{Key}
 
@@ -83,10 +83,7 @@ pub decided_on_more : (e : Entry) (b : ℕ) (ds es : List ℕ) (base : Map) (sta
 decided_on_more e b ds es base stamped f h q c = decided_more q b ds es stamped f (h q c)
 
 -- ---- all that it depends on began earlier
-no_stamped : (z : StampedTx) → ◌≡◌ {A = Option StampedTx} None (Some z) → ⊥
-no_stamped z q = cc
-
-same_stamped : (v z : StampedTx) → ◌≡◌ {A = Option StampedTx} (Some v) (Some z) → v ≡ z
+pub same_stamped : (v z : StampedTx) → ◌≡◌ {A = Option StampedTx} (Some v) (Some z) → v ≡ z
 same_stamped v z q = cc
 
 pub below_last : (k : RowKey) (b : ℕ) (stamped : List StampedTx) (y : StampedTx) → last_writer k b stamped ≡ Some y → y.end < b

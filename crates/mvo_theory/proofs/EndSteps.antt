@@ -14,7 +14,7 @@ use Rattle.mvo_theory.specs.State.{State, StampedTx, ActiveTx, timeline, opened}
 use Rattle.mvo_theory.specs.Changes.{new_active, after_begin, after_operation, with_answer, after_prepare, to_stamped, after_check, with_check, after_commit, with_settled, with_flag, active_with_flag, not_at, after_abort_of_active, after_abort_of_preparing, after_termination, is_to, after_trim}
 use Rattle.mvo_theory.specs.Sound.{IsActive, IsPlaced, IsSound, IsPast, IsStarted, IsNumbered}
 use Rattle.mvo_theory.specs.Traced.{is_abort_of}
-use Rattle.mvo_theory.specs.Snapshots.{prepare_of, prepares, is_aborted, ended_in, ends, HasEnds}
+use Rattle.mvo_theory.specs.Snapshots.{prepare_of, prepares, is_aborted, ended_in, ends_with_ids, HasEnds}
 use Rattle.mvo_theory.proofs.Each.{each_weaker, each_both, each_append, each_map, each_filter}
 use Rattle.mvo_theory.proofs.Stamped.{each_part}
 use Rattle.mvo_theory.proofs.Apart.{IsIn}
@@ -25,14 +25,14 @@ prepares-push : (xs : List Step) (x : Step) → prepares (xs ++ x ∷ []) ≡ pr
 prepares-push [] x = append-nil (prepare_of x)
 prepares-push (y ∷ ys) x = ap (λ cs. prepare_of y ++ cs) (prepares-push ys x) ∙ sym (append_assoc (prepare_of y) (prepares ys) (prepare_of x))
 
-or_none : (b : Bool) → (b || false) ≡ b
+pub or_none : (b : Bool) → (b || false) ≡ b
 or_none true = refl
 or_none false = refl
 
 aborted-push : (t : ℕ) (xs : List Step) (x : Step) → is_aborted t (xs ++ x ∷ []) ≡ (is_aborted t xs || is_abort_of t x)
 aborted-push t xs x = list_any-append (is_abort_of t) xs (x ∷ []) ∙ ap (λ b. is_aborted t xs || b) (or_none (is_abort_of t x))
 
-filter_same : {X : Type 0} (p q : X → Bool) (xs : List X) → AllByRecursion (λ x. p x ≡ q x) xs → filter p xs ≡ filter q xs
+pub filter_same : {X : Type 0} (p q : X → Bool) (xs : List X) → AllByRecursion (λ x. p x ≡ q x) xs → filter p xs ≡ filter q xs
 filter_same p q [] h = refl
 filter_same p q (x ∷ xs) h = ap (λ (b : Bool). cond b (x ∷ filter p xs) (filter p xs)) h.0 ∙ ap (λ ys. cond (q x) (x ∷ ys) ys) (filter_same p q xs h.1)
 
@@ -58,22 +58,22 @@ ended_silent xs x n f =
     ∙ filter_same (λ (c : ℕ × ℕ). not (is_aborted c.1 (xs ++ x ∷ []))) (λ (c : ℕ × ℕ). not (is_aborted c.1 xs)) (prepares xs) (each_always_in (λ (c : ℕ × ℕ). not (is_aborted c.1 (xs ++ x ∷ [])) ≡ not (is_aborted c.1 xs))
     (λ c. ap not (aborted-push c.1 xs x ∙ ap (λ b. is_aborted c.1 xs || b) (f c.1) ∙ or_none (is_aborted c.1 xs))) (prepares xs))
 
-each_ends : (P : ℕ × ℕ → Type 0) (xs : List StampedTx) → AllByRecursion (λ x. P (x.end, x.id)) xs → AllByRecursion P (ends xs)
+each_ends : (P : ℕ × ℕ → Type 0) (xs : List StampedTx) → AllByRecursion (λ x. P (x.end, x.id)) xs → AllByRecursion P (ends_with_ids xs)
 each_ends P [] h = tt
 each_ends P (x ∷ xs) h = (h.0, each_ends P xs h.1)
 
-ends_each : (P : ℕ × ℕ → Type 0) (xs : List StampedTx) → AllByRecursion P (ends xs) → AllByRecursion (λ x. P (x.end, x.id)) xs
+ends_each : (P : ℕ × ℕ → Type 0) (xs : List StampedTx) → AllByRecursion P (ends_with_ids xs) → AllByRecursion (λ x. P (x.end, x.id)) xs
 ends_each P [] h = tt
 ends_each P (x ∷ xs) h = (h.0, ends_each P xs h.1)
 
 -- what is said of ends and ids, of other stamped ones with the same
-ends_move : (P : ℕ × ℕ → Type 0) (xs ys : List StampedTx) → ends ys ≡ ends xs → AllByRecursion (λ x. P (x.end, x.id)) xs → AllByRecursion (λ x. P (x.end, x.id)) ys
+ends_move : (P : ℕ × ℕ → Type 0) (xs ys : List StampedTx) → ends_with_ids ys ≡ ends_with_ids xs → AllByRecursion (λ x. P (x.end, x.id)) xs → AllByRecursion (λ x. P (x.end, x.id)) ys
 ends_move P xs ys e h = ends_each P ys (subst (AllByRecursion P) (sym e) (each_ends P xs h))
 
 abbrev IsAlone : List StampedTx → Type 0
 IsAlone xs = AllByRecursion (λ x. AllByRecursion (λ y. y.id ≡ x.id → y.end ≡ x.end) xs) xs
 
-alone_move : (xs ys : List StampedTx) → ends ys ≡ ends xs → IsAlone xs → IsAlone ys
+alone_move : (xs ys : List StampedTx) → ends_with_ids ys ≡ ends_with_ids xs → IsAlone xs → IsAlone ys
 alone_move xs ys e h = ends_move (λ c. AllByRecursion (λ y. y.id ≡ c.1 → y.end ≡ c.0) ys) xs ys e
     (each_weaker (λ x. AllByRecursion (λ y. y.id ≡ x.id → y.end ≡ x.end) xs) (λ x. AllByRecursion (λ y. y.id ≡ x.id → y.end ≡ x.end) ys) (λ x. ends_move (λ d. d.1 ≡ x.id → d.0 ≡ x.end) xs ys e) xs h)
 
@@ -84,7 +84,7 @@ ends_opened rows mark = record { ends = refl; alone = tt; active = tt; stamped =
 abbrev IsOutside : List StampedTx → ℕ → Type 0
 IsOutside xs n = AllByRecursion (λ x. x.end ≢ n) xs
 
-pub ends_silent : (xs : List Step) (x : Step) (s s' : State) → prepare_of x ≡ [] → ((t : ℕ) → is_abort_of t x ≡ false) → s.clock ≤ s'.clock → ends (timeline s') ≡ ends (timeline s) →
+pub ends_silent : (xs : List Step) (x : Step) (s s' : State) → prepare_of x ≡ [] → ((t : ℕ) → is_abort_of t x ≡ false) → s.clock ≤ s'.clock → ends_with_ids (timeline s') ≡ ends_with_ids (timeline s) →
     ((P : ℕ → Type 0) → AllByRecursion (λ r. P r.id) s.active → ((t : ℕ) → s.clock < t → P t) → AllByRecursion (λ r. P r.id) s'.active) → AllByRecursion (λ r. IsOutside s'.past r.id) s'.active → HasEnds xs s → HasEnds (xs ++ x ∷ []) s'
 ends_silent xs x s s' n f c e g o h = record {
   ends = ended_silent xs x n f ∙ h.ends ∙ sym e;
@@ -96,15 +96,15 @@ ends_silent xs x s s' n f c e g o h = record {
 }
 
 -- ---- ends through a change of each
-ends_like : (f : StampedTx → StampedTx) → ((x : StampedTx) → ((f x).end ≡ x.end) × ((f x).id ≡ x.id)) → (xs : List StampedTx) → ends (map f xs) ≡ ends xs
+ends_like : (f : StampedTx → StampedTx) → ((x : StampedTx) → ((f x).end ≡ x.end) × ((f x).id ≡ x.id)) → (xs : List StampedTx) → ends_with_ids (map f xs) ≡ ends_with_ids xs
 ends_like f k [] = refl
-ends_like f k (x ∷ xs) = ap (λ (n : ℕ). (n, (f x).id) ∷ ends (map f xs)) (k x).0 ∙ ap (λ (n : ℕ). (x.end, n) ∷ ends (map f xs)) (k x).1 ∙ ap (λ cs. (x.end, x.id) ∷ cs) (ends_like f k xs)
+ends_like f k (x ∷ xs) = ap (λ (n : ℕ). (n, (f x).id) ∷ ends_with_ids (map f xs)) (k x).0 ∙ ap (λ (n : ℕ). (x.end, n) ∷ ends_with_ids (map f xs)) (k x).1 ∙ ap (λ cs. (x.end, x.id) ∷ cs) (ends_like f k xs)
 
-pub ends-both : (xs ys : List StampedTx) → ends (xs ++ ys) ≡ ends xs ++ ends ys
+pub ends-both : (xs ys : List StampedTx) → ends_with_ids (xs ++ ys) ≡ ends_with_ids xs ++ ends_with_ids ys
 ends-both xs ys = map-append (λ (x : StampedTx). (x.end, x.id)) xs ys
 
-pub ends_timeline : (s : State) (ys : List StampedTx) → ends ys ≡ ends s.stamped → ends (s.past ++ ys) ≡ ends (timeline s)
-ends_timeline s ys e = ends-both s.past ys ∙ ap (λ cs. ends s.past ++ cs) e ∙ sym (ends-both s.past s.stamped)
+pub ends_timeline : (s : State) (ys : List StampedTx) → ends_with_ids ys ≡ ends_with_ids s.stamped → ends_with_ids (s.past ++ ys) ≡ ends_with_ids (timeline s)
+ends_timeline s ys e = ends-both s.past ys ∙ ap (λ cs. ends_with_ids s.past ++ cs) e ∙ sym (ends-both s.past s.stamped)
 
 -- ---- the steps that abort nobody and give no end
 keeps_ids : (s : State) → (P : ℕ → Type 0) → AllByRecursion (λ r. P r.id) s.active → ((t : ℕ) → s.clock < t → P t) → AllByRecursion (λ r. P r.id) s.active
@@ -151,7 +151,7 @@ ends_after_prepare xs s r e lt alive n h =
     let line = append_assoc s.past s.stamped (y ∷ []) in
     let still : (u : ℕ) → is_aborted u xs ≡ false → is_aborted u (xs ++ Prepares r.id e ∷ []) ≡ false = λ u. still_not u xs (Prepares r.id e) refl in
     record {
-      ends = ended_prepares xs r.id e alive ∙ ap (λ cs. cs ++ (e, r.id) ∷ []) h.ends ∙ sym (ends-both (timeline s) (y ∷ [])) ∙ ap ends line;
+      ends = ended_prepares xs r.id e alive ∙ ap (λ cs. cs ++ (e, r.id) ∷ []) h.ends ∙ sym (ends-both (timeline s) (y ∷ [])) ∙ ap ends_with_ids line;
       alone = subst IsAlone line (alone_push (timeline s) y n h.alone);
       active = each_filter (λ q. not (q.id == r.id)) (λ q. is_aborted q.id xs ≡ false) (λ q. is_aborted q.id (xs ++ Prepares r.id e ∷ []) ≡ false) (λ q _ g. still q.id g) s.active h.active;
       stamped = subst (AllByRecursion (λ x. is_aborted x.id (xs ++ Prepares r.id e ∷ []) ≡ false)) line (each_append (λ x. is_aborted x.id (xs ++ Prepares r.id e ∷ []) ≡ false) (timeline s) (y ∷ []) (each_weaker (λ x. is_aborted x.id xs ≡ false) (λ x. is_aborted x.id (xs ++ Prepares r.id e ∷ []) ≡ false) (λ x. still x.id) (timeline s) h.stamped) (still r.id alive, tt));
@@ -175,11 +175,11 @@ ended_aborts xs t =
     (λ c. ap not (aborted-push c.1 xs (Aborts t))) (prepares xs))
     ∙ filter_twice (λ (c : ℕ × ℕ). is_aborted c.1 xs) (λ (c : ℕ × ℕ). t == c.1) (prepares xs)
 
-ends_filter : (q : ℕ × ℕ → Bool) (p : StampedTx → Bool) (xs : List StampedTx) → AllByRecursion (λ x. q (x.end, x.id) ≡ p x) xs → filter q (ends xs) ≡ ends (filter p xs)
+ends_filter : (q : ℕ × ℕ → Bool) (p : StampedTx → Bool) (xs : List StampedTx) → AllByRecursion (λ x. q (x.end, x.id) ≡ p x) xs → filter q (ends_with_ids xs) ≡ ends_with_ids (filter p xs)
 ends_filter q p [] h = refl
-ends_filter q p (x ∷ xs) h = ap (λ (b : Bool). cond b ((x.end, x.id) ∷ filter q (ends xs)) (filter q (ends xs))) h.0 ∙ ap (λ cs. cond (p x) ((x.end, x.id) ∷ cs) cs) (ends_filter q p xs h.1) ∙ go (p x)
+ends_filter q p (x ∷ xs) h = ap (λ (b : Bool). cond b ((x.end, x.id) ∷ filter q (ends_with_ids xs)) (filter q (ends_with_ids xs))) h.0 ∙ ap (λ cs. cond (p x) ((x.end, x.id) ∷ cs) cs) (ends_filter q p xs h.1) ∙ go (p x)
   where
-    go : (b : Bool) → cond b ((x.end, x.id) ∷ ends (filter p xs)) (ends (filter p xs)) ≡ ends (cond b (x ∷ filter p xs) (filter p xs))
+    go : (b : Bool) → cond b ((x.end, x.id) ∷ ends_with_ids (filter p xs)) (ends_with_ids (filter p xs)) ≡ ends_with_ids (cond b (x ∷ filter p xs) (filter p xs))
     go true = refl
     go false = refl
 
@@ -194,7 +194,7 @@ pub ends_after_abort_of_active : (xs : List Step) (s : State) (t : ℕ) → t �
 ends_after_abort_of_active xs s t le n h = record {
   ends = ended_aborts xs t ∙ ap (filter (λ c. not (t == c.1))) h.ends
       ∙ ends_filter (λ c. not (t == c.1)) (λ x. true) (timeline s) (each_weaker (λ x. x.id ≢ t) (λ x. not (t == x.id) ≡ true) (λ x ne. ap not (ne_eqb t x.id (λ e. ne (sym e)))) (timeline s) n)
-      ∙ ap ends (filter_all (timeline s));
+      ∙ ap ends_with_ids (filter_all (timeline s));
   alone = h.alone;
   active = each_filter (λ r. not (r.id == t)) (λ r. is_aborted r.id xs ≡ false) (λ r. is_aborted r.id (xs ++ Aborts t ∷ []) ≡ false) (λ r e g. not_aborted r.id xs t (λ i. false≢true (sym (ap not (eq-eqb r.id t i)) ∙ e)) g) s.active h.active;
   stamped = each_both (λ x. x.id ≢ t) (λ x. is_aborted x.id xs ≡ false) (λ x. is_aborted x.id (xs ++ Aborts t ∷ []) ≡ false) (λ x ne g. not_aborted x.id xs t ne g) (timeline s) n h.stamped;
@@ -262,18 +262,18 @@ ends_after_abort_of_preparing xs s t x m it k p n h =
     tests = each_both (λ y. y.id ≡ x.id → y.end ≡ e) (λ y. y.end ≡ e → y.id ≡ x.id) (λ y. not (t == y.id) ≡ not_at e y) test (timeline s) mine
         (each_append (λ y. y.end ≡ e → y.id ≡ x.id) s.past s.stamped (each_weaker (λ y. y.end ≢ e) (λ y. y.end ≡ e → y.id ≡ x.id) (λ y ne i. absurd (ne i)) s.past past_below) same_id)
 
-    moved : ends line ≡ ends kept
+    moved : ends_with_ids line ≡ ends_with_ids kept
     moved =
         ends-both s.past (map (with_flag t e) (filter (not_at e) s.stamped))
-        ∙ ap (λ cs. ends s.past ++ cs) (ends_like (with_flag t e) (λ y. (refl, refl)) (filter (not_at e) s.stamped))
+        ∙ ap (λ cs. ends_with_ids s.past ++ cs) (ends_like (with_flag t e) (λ y. (refl, refl)) (filter (not_at e) s.stamped))
         ∙ sym (ends-both s.past (filter (not_at e) s.stamped))
-        ∙ ap (λ ys. ends (ys ++ filter (not_at e) s.stamped)) (sym (all_pass (not_at e) s.past (each_weaker (λ y. y.end ≢ e) (λ y. not_at e y ≡ true) (λ y ne. ap not (ne_eqb y.end e ne)) s.past past_below)))
-        ∙ ap ends (sym (filter-both (not_at e) s.past s.stamped))
+        ∙ ap (λ ys. ends_with_ids (ys ++ filter (not_at e) s.stamped)) (sym (all_pass (not_at e) s.past (each_weaker (λ y. y.end ≢ e) (λ y. not_at e y ≡ true) (λ y ne. ap not (ne_eqb y.end e ne)) s.past past_below)))
+        ∙ ap ends_with_ids (sym (filter-both (not_at e) s.past s.stamped))
 
 -- ---- a trim
 pub ends_after_trim : (xs : List Step) (s : State) (m : ℕ) → IsSound s → HasEnds xs s → HasEnds xs (after_trim s m)
 ends_after_trim xs s m k h =
-    let same = ap ends (timeline_trimmed s m k.rising) in
+    let same = ap ends_with_ids (timeline_trimmed s m k.rising) in
     record {
       ends = h.ends ∙ sym same;
       alone = alone_move (timeline s) (timeline (after_trim s m)) same h.alone;

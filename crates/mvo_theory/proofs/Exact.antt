@@ -22,7 +22,7 @@ use Rattle.mvo_theory.proofs.Counts.{counted_noted, puts-append}
 use Rattle.mvo_theory.proofs.Depends.{depends_more, unwritten_noted}
 use Rattle.mvo_types.specs.declared.entry.Entry.TheVariants.{Key, Range}
 
-or_cases : (a b : Bool) → (a || b) ≡ true → (a ≡ true) ⊎ (b ≡ true)
+pub or_cases : (a b : Bool) → (a || b) ≡ true → (a ≡ true) ⊎ (b ≡ true)
 or_cases true b h = inl refl
 or_cases false b h = inr h
 

@@ -8,7 +8,7 @@ use Rattle.mvo_types.specs.Keys.{Map}
 use Rattle.mvo_model.specs.Trace.{Step, history_of}
 use Rattle.mvo_theory.specs.State.{State, StampedTx, EndedTx, Claim, Word, opened, active_of, preparing_of, ended_of}
 use Rattle.mvo_theory.specs.Claims.{new_claim}
-use Rattle.mvo_theory.specs.Words.{word_count, words_without, is_last_word, is_done, words_left, words_now, HasWords}
+use Rattle.mvo_theory.specs.Words.{word_count, words_without, is_last_word, is_done, words_left, words_now, HaveFewWords}
 use Rattle.mvo_theory.specs.Changes.{after_operation, with_words, taken_over, without_ended, after_termination, after_finish, committed_tx, aborted_tx}
 use Rattle.mvo_theory.specs.Causes.{awaited, is_failure, why_not_finish}
 use Rattle.mvo_theory.specs.Steps.{after_precommit, after_validate, after_commit_of, after_settle_unless, after_abort_of, after_abort}
@@ -170,7 +170,7 @@ few_of t xs (w ∷ ws) u h e = go (w.id == t) refl e (few_of t xs ws u h.1)
     go false q f r = r f
 
 -- ---- of any transaction
-fewer_than_answers : (opening : Map) (xs : List Step) (t : ℕ) (s : State) (cs : Run) → MayRun s cs → IsKept opening xs s → HasWords xs s → mores_before t s cs < max 1 (word_count (history_of t (xs ++ trace_of s cs)))
+fewer_than_answers : (opening : Map) (xs : List Step) (t : ℕ) (s : State) (cs : Run) → MayRun s cs → IsKept opening xs s → HaveFewWords xs s → mores_before t s cs < max 1 (word_count (history_of t (xs ++ trace_of s cs)))
 fewer_than_answers opening xs t s [] m k h = no_more 0 0 (word_count (history_of t (xs ++ []))) (omega arith) (omega arith)
 fewer_than_answers opening xs t s (c ∷ cs) m k h =
     go (ended_of t s.ended) refl

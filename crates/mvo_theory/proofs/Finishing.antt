@@ -12,7 +12,7 @@ use Rattle.mvo_theory.specs.Calls.{IsKept}
 use Rattle.mvo_theory.proofs.Each.{each_map}
 
 -- ---- other words for the ended ones
-abbrev worded : (EndedTx → List Word) → EndedTx → EndedTx
+abbrev pub worded : (EndedTx → List Word) → EndedTx → EndedTx
 worded f u = record u { words = f u }
 
 same_ended : (f : EndedTx → List Word) (a : Option ActiveTx) (b : Option StampedTx) (u : EndedTx) → phase_by a b (Some (worded f u)) ≡ phase_by a b (Some u)
@@ -20,7 +20,7 @@ same_ended f (Some r) b u = refl
 same_ended f None (Some x) u = refl
 same_ended f None None u = refl
 
-phase_worded : (f : EndedTx → List Word) (t : ℕ) (a : Option ActiveTx) (b : Option StampedTx) (us : List EndedTx) → phase_by a b (ended_of t (map (worded f) us)) ≡ phase_by a b (ended_of t us)
+pub phase_worded : (f : EndedTx → List Word) (t : ℕ) (a : Option ActiveTx) (b : Option StampedTx) (us : List EndedTx) → phase_by a b (ended_of t (map (worded f) us)) ≡ phase_by a b (ended_of t us)
 phase_worded f t a b [] = refl
 phase_worded f t a b (u ∷ us) = go (u.id == t) (phase_worded f t a b us)
   where

@@ -43,7 +43,7 @@ ended_at k (t ∷ ts) us op a n e =
     ap (λ (b : Bool). cond b (is_some (ended_key t.0 t.1)) (is_ended_first k (ts ++ (op, a) ∷ us))) (none_second (net_write k ts) (write_at k (write_of t.0 t.1)) n)
     ∙ ended_at k ts us op a (none_first (net_write k ts) (write_at k (write_of t.0 t.1)) n) e
 
-history_of-append : (u : ℕ) (xs ys : List Step) → history_of u (xs ++ ys) ≡ history_of u xs ++ history_of u ys
+pub history_of-append : (u : ℕ) (xs ys : List Step) → history_of u (xs ++ ys) ≡ history_of u xs ++ history_of u ys
 history_of-append u [] ys = refl
 history_of-append u (x ∷ xs) ys = ap (λ ts. history_by x u ++ ts) (history_of-append u xs ys) ∙ sym (append_assoc (history_by x u) (history_of u xs) (history_of u ys))
 

@@ -1,5 +1,5 @@
 -- The next group has the commits above its prev and at most its mark, and it stays so.
-use Rattle.std.proofs.Common.{◌≡◌, ℕ, ◌≤◌, ◌<◌, Bool, true, false, cond, Option, None, Some, List, [], ◌∷◌, ◌++◌, length, refl, inl, inr, sym, ap, ◌∙◌, subst, arith, append-nil, append_assoc}
+use Rattle.std.proofs.Common.{◌≡◌, ℕ, ◌≤◌, ◌<◌, Bool, true, false, cond, None, Some, List, [], ◌∷◌, ◌++◌, length, refl, inl, inr, sym, ap, ◌∙◌, subst, arith, append-nil, append_assoc}
 use Rattle.std.specs.Prelude.{⊤, ◌==◌, nat_lt, nat_le, ◌&&◌, drop, filter}
 use Rattle.std.specs.List.{AllByRecursion}
 use Rattle.std.proofs.lemmas.Bool.{and_parts, leb-true, leb-false, le-leb, lt-leb, ltb-true, true≢false, cases_lt, eq-eqb}
@@ -8,7 +8,6 @@ use Rattle.std.proofs.Math.Seq.{drop-append_seam}
 use Rattle.mvo_types.specs.Keys.{Map}
 use Rattle.mvo_model.specs.Trace.{Step}
 use Rattle.mvo_theory.specs.State.{State, StampedTx, timeline}
-use Rattle.mvo_types.specs.declared.refusal.Refusal.{Refusal}
 use Rattle.mvo_types.specs.declared.refusal.Refusal.TheVariants.{NothingToDo, RingFull}
 use Rattle.mvo_types.specs.Causes.{when, first_cause}
 use Rattle.mvo_theory.specs.Causes.{why_not_close}
@@ -19,6 +18,7 @@ use Rattle.mvo_theory.specs.Calls.{IsKept}
 use Rattle.mvo_theory.proofs.Each.{each_weaker, each_front, each_filter, each_always}
 use Rattle.mvo_theory.proofs.AfterTrace.{rising_all}
 use Rattle.mvo_theory.proofs.Trimmed.{low_below}
+use Rattle.mvo_theory.proofs.Cases.{none_refusal}
 
 -- ---- the low-water
 low_drawn : (clock : ℕ) (xs : List StampedTx) → AllByRecursion (λ x. x.end ≤ clock) xs → below_open clock (least_open xs) ≤ clock
@@ -233,9 +233,6 @@ longest_is_longest fits commits taken ys zs l h e f = not_longer fits [] taken (
 last_above : (m e : ℕ) (cs : List Commit) → m < e → AllByRecursion (λ (c : Commit). m < c.0) cs → m < last_of e cs
 last_above m e [] l h = l
 last_above m e (c ∷ cs) l h = last_above m c.0 cs h.0 h.1
-
-none_refusal : (w : Refusal) → ◌≡◌ {A = Option Refusal} (Some w) None → ⊥
-none_refusal w q = cc
 
 pub close_rises : (s : State) (fits : Limits) (g : Group) (full : Bool) → ((c : Commit) → fits (c ∷ []) ≡ true) → IsClosedAt s.marks.closed s → why_not_close s full ≡ None → IsNextGroup fits s g → g.prev < g.mark
 close_rises s fits g full one c w n = go (drop (length g.commits) (due s)) n.longest.beginning n.longest.full n.mark

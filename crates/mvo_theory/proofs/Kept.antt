@@ -16,7 +16,7 @@ use Rattle.mvo_theory.specs.State.{State, StampedTx, ActiveTx, seen_by, history_
 use Rattle.mvo_theory.specs.Claims.{ended_key}
 use Rattle.mvo_theory.specs.Changes.{after_begin, after_operation, after_check, after_abort_of_active, after_termination, after_prepare, after_trim, after_commit}
 use Rattle.mvo_theory.specs.Causes.{why_not_trim, claimed_by, change_of, differs, entry_differs, why_not_do, why_not_precommit, why_not_validate, why_not_settle, waiting_for, awaited_by, awaited, end_at, end_of, is_failure, why_not_finish}
-use Rattle.mvo_theory.proofs.Cases.{validate_none, or_flagged, not_op, not_checked_at}
+use Rattle.mvo_theory.proofs.Cases.{validate_none, or_flagged, not_op, not_checked_at, none_refusal}
 use Rattle.mvo_theory.specs.Steps.{after_precommit_of, after_precommit, after_validate_of, after_validate, after_commit_of, after_commit_now, after_settle_unless, after_settle, after_abort_of, after_abort, after_refusal, steps_of_refusal}
 use Rattle.mvo_theory.specs.Sound.{IsRising, IsActive, IsSound, AreDistinct, IsNumbered, IsSingle, IsStarted, AreExclusive}
 use Rattle.mvo_theory.specs.AfterTrace.{IsAfterTrace}
@@ -63,7 +63,7 @@ some_active : (q r : ActiveTx) → ◌≡◌ {A = Option ActiveTx} (Some q) (Som
 some_active q r e = cc
 
 -- the one that is found is the only one with its number
-only_one : (t : ℕ) (rs : List ActiveTx) (r : ActiveTx) → active_of t rs ≡ Some r → AreDistinct rs → AllByRecursion (λ (q : ActiveTx). q.id ≡ t → q ≡ r) rs
+pub only_one : (t : ℕ) (rs : List ActiveTx) (r : ActiveTx) → active_of t rs ≡ Some r → AreDistinct rs → AllByRecursion (λ (q : ActiveTx). q.id ≡ t → q ≡ r) rs
 only_one t [] r f d = tt
 only_one t (q ∷ qs) r f d = go (q.id == t) refl f (λ g. only_one t qs r g d.1)
   where
@@ -144,9 +144,6 @@ kept_prepared opening xs s t w h =
     }
 
 -- ---- validate
-none_refusal : (w : Refusal) → ◌≡◌ {A = Option Refusal} (Some w) None → ⊥
-none_refusal w q = cc
-
 not_flagged : (d : Option ℕ) (w : Option Refusal) → or_flagged d w ≡ None → w ≡ None
 not_flagged None w h = h
 not_flagged (Some x) w h = absurd (none_refusal _ h)

@@ -17,13 +17,9 @@ use Rattle.mvo_theory.proofs.Apart.{IsIn}
 use Rattle.mvo_theory.proofs.Commits.{split_at}
 use Rattle.mvo_theory.proofs.Finds.{find_none}
 use Rattle.mvo_theory.proofs.Single.{active_found, preparing_found}
+use Rattle.mvo_theory.proofs.Stamped.{no_stamped}
+use Rattle.mvo_theory.proofs.Depends.{same_stamped}
 use Rattle.mvo_theory.specs.State.Outcome.{Committed, Aborted}
-
-no_stamped : (z : StampedTx) → ◌≡◌ {A = Option StampedTx} None (Some z) → ⊥
-no_stamped z q = cc
-
-same_stamped : (v z : StampedTx) → ◌≡◌ {A = Option StampedTx} (Some v) (Some z) → v ≡ z
-same_stamped v z q = cc
 
 -- ---- among the stamped ones
 -- it is in the list, and writes the key
@@ -121,7 +117,7 @@ aborted_no n e = cc
 committed_no : (m n : ℕ) → ◌≡◌ {A = Phase} (Commits_at m) (Preparing n) → ⊥
 committed_no m n e = cc
 
-same_end : (m n : ℕ) → ◌≡◌ {A = Phase} (Preparing m) (Preparing n) → m ≡ n
+pub same_end : (m n : ℕ) → ◌≡◌ {A = Phase} (Preparing m) (Preparing n) → m ≡ n
 same_end m n e = cc
 
 pub preparing_there : (r : Option ActiveTx) (w : Option StampedTx) (u : Option EndedTx) (n : ℕ) → phase_by r w u ≡ Preparing n → (x : StampedTx) × (w ≡ Some x) × (x.end ≡ n)

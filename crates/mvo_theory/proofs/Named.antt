@@ -21,12 +21,8 @@ use Rattle.mvo_theory.proofs.Commits.{split_at}
 use Rattle.mvo_theory.proofs.LastWriter.{found_in, counted}
 use Rattle.mvo_theory.proofs.Claims.{claims_it, claimed_it}
 use Rattle.mvo_theory.proofs.Who.{active_holds}
-
-no_stamped : (z : StampedTx) → ◌≡◌ {A = Option StampedTx} None (Some z) → ⊥
-no_stamped z q = cc
-
-same_stamped : (v z : StampedTx) → ◌≡◌ {A = Option StampedTx} (Some v) (Some z) → v ≡ z
-same_stamped v z q = cc
+use Rattle.mvo_theory.proofs.Stamped.{no_stamped}
+use Rattle.mvo_theory.proofs.Depends.{same_stamped}
 
 -- ---- Waiting names one that it depends on and that is Preparing
 waiting_in : (ds : List ℕ) (xs : List StampedTx) (y : StampedTx) → waiting_for ds xs ≡ Some y → IsIn y xs
@@ -55,7 +51,7 @@ abbrev pub HoldsOfOne : {X : Type 0} → (X → Type 0) → List X → Type 0
 HoldsOfOne P [] = ⊥
 HoldsOfOne P (x ∷ xs) = P x ⊎ HoldsOfOne P xs
 
-none_cause : (c : Cause) → ◌≡◌ {A = Option Cause} None (Some c) → ⊥
+pub none_cause : (c : Cause) → ◌≡◌ {A = Option Cause} None (Some c) → ⊥
 none_cause c e = cc
 
 same_cause : (c d : Cause) → ◌≡◌ {A = Option Cause} (Some c) (Some d) → c ≡ d

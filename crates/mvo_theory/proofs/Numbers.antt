@@ -6,7 +6,7 @@ use Rattle.std.proofs.lemmas.Bool.{true≢false, eqb-true, eq-eqb, ne_eqb}
 use Rattle.mvo_model.specs.Trace.{Step}
 use Rattle.mvo_theory.specs.State.{StampedTx, ActiveTx, EndedTx, active_of, ended_of}
 use Rattle.mvo_theory.specs.Causes.{unsettled}
-use Rattle.mvo_theory.specs.Changes.{without, with_settled, not_at, without_ended}
+use Rattle.mvo_theory.specs.Changes.{without_id, with_settled, not_at, without_ended}
 use Rattle.mvo_theory.specs.Sound.{IsRising, AreDistinct, how_many}
 use Rattle.mvo_theory.proofs.Each.{each_weaker}
 use Rattle.mvo_theory.proofs.Finds.{count_push}
@@ -24,19 +24,19 @@ checks_more t xs x f = count_push (is_check_of t) xs x ∙ ap (λ (b : Bool). ho
 no_active : (r : ActiveTx) → ◌≡◌ {A = Option ActiveTx} None (Some r) → ⊥
 no_active r e = cc
 
-pub without_none : (t : ℕ) (rs : List ActiveTx) → AllByRecursion (λ q. q.id ≢ t) rs → length (without t rs) ≡ length rs
+pub without_none : (t : ℕ) (rs : List ActiveTx) → AllByRecursion (λ q. q.id ≢ t) rs → length (without_id t rs) ≡ length rs
 without_none t [] h = refl
 without_none t (q ∷ qs) h = go (q.id == t) (ne_eqb q.id t h.0) (without_none t qs h.1)
   where
-    go : (b : Bool) → b ≡ false → length (without t qs) ≡ length qs → length (cond (not b) (q ∷ without t qs) (without t qs)) ≡ length (q ∷ qs)
+    go : (b : Bool) → b ≡ false → length (without_id t qs) ≡ length qs → length (cond (not b) (q ∷ without_id t qs) (without_id t qs)) ≡ length (q ∷ qs)
     go true f l = absurd (true≢false f)
     go false f l = ap (λ (n : ℕ). suc n) l
 
-pub without_one : (t : ℕ) (rs : List ActiveTx) (r : ActiveTx) → active_of t rs ≡ Some r → AreDistinct rs → length (without t rs) + 1 ≡ length rs
+pub without_one : (t : ℕ) (rs : List ActiveTx) (r : ActiveTx) → active_of t rs ≡ Some r → AreDistinct rs → length (without_id t rs) + 1 ≡ length rs
 without_one t [] r e d = absurd (no_active r e)
 without_one t (q ∷ qs) r e d = go (q.id == t) refl e (λ f. without_one t qs r f d.1)
   where
-    go : (b : Bool) → (q.id == t) ≡ b → cond b (Some q) (active_of t qs) ≡ Some r → (active_of t qs ≡ Some r → length (without t qs) + 1 ≡ length qs) → length (cond (not b) (q ∷ without t qs) (without t qs)) + 1 ≡ length (q ∷ qs)
+    go : (b : Bool) → (q.id == t) ≡ b → cond b (Some q) (active_of t qs) ≡ Some r → (active_of t qs ≡ Some r → length (without_id t qs) + 1 ≡ length qs) → length (cond (not b) (q ∷ without_id t qs) (without_id t qs)) + 1 ≡ length (q ∷ qs)
     go true f g k = let is = eqb-true q.id t f in let l = without_none t qs (each_weaker (λ v. v.id ≢ q.id) (λ v. v.id ≢ t) (λ v n i. n (i ∙ sym is)) qs d.0) in omega (arith, l)
     go false f g k = let l = k g in omega (arith, l)
 
@@ -62,7 +62,7 @@ unsettled_filter keep (x ∷ xs) h = go (keep x) refl x.settled refl (unsettled_
     go false e true f l = l
     go false e false f l = absurd (true≢false (sym (h.0 e) ∙ f))
 
-or_false : (b : Bool) → (b || false) ≡ b
+pub or_false : (b : Bool) → (b || false) ≡ b
 or_false true = refl
 or_false false = refl
 

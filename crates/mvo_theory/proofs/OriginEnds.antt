@@ -100,7 +100,7 @@ and_none true true = refl
 and_none true false = refl
 and_none false b = refl
 
-or_true : (b : Bool) → (b || true) ≡ true
+pub or_true : (b : Bool) → (b || true) ≡ true
 or_true true = refl
 or_true false = refl
 

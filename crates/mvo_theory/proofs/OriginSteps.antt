@@ -55,7 +55,7 @@ origins_after_operation s t op a h = record { active = each_map (with_answer s t
     go r (Some k) true q = more r k (is_some (net_write k r.history)) q
 
 -- ---- precommit
-and_false : (a b : Bool) → b ≡ false → (a && b) ≡ false
+pub and_false : (a b : Bool) → b ≡ false → (a && b) ≡ false
 and_false true b e = e
 and_false false b e = refl
 

@@ -9,7 +9,7 @@ use Rattle.mvo_theory.specs.Dependencies.{is_writer, or_later, last_writer}
 use Rattle.mvo_theory.specs.Claims.{end_or}
 use Rattle.mvo_theory.specs.Causes.{or_first, last_end}
 use Rattle.mvo_theory.specs.Origins.{settled_ones}
-use Rattle.mvo_theory.specs.Sound.{IsDecided, IsWritten}
+use Rattle.mvo_theory.specs.Sound.{IsDecided, IsKeyWritten}
 use Rattle.mvo_theory.proofs.Stamped.{IsOut}
 
 -- ---- the end of the last that passes
@@ -73,7 +73,7 @@ last_both p (x ∷ xs) ys = ap (or_first (cond (p x) (Some x.end) None)) (last_b
 pub last_push : (p : StampedTx → Bool) (xs : List StampedTx) (y : StampedTx) → p y ≡ false → last_end p (xs ++ y ∷ []) ≡ last_end p xs
 last_push p xs y e = last_both p xs (y ∷ []) ∙ ap (λ (b : Bool). or_first (last_end p xs) (cond b (Some y.end) None)) e
 
-written_end : (k : RowKey) (b : ℕ) (xs : List StampedTx) → IsWritten k b xs → (n : ℕ) × (last_end (is_writer k b) xs ≡ Some n)
+written_end : (k : RowKey) (b : ℕ) (xs : List StampedTx) → IsKeyWritten k b xs → (n : ℕ) × (last_end (is_writer k b) xs ≡ Some n)
 written_end k b [] h = absurd h
 written_end k b (x ∷ xs) (inl w) = go (is_writer k b x) w (last_end (is_writer k b) xs)
   where

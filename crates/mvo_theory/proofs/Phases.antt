@@ -12,7 +12,7 @@ use Rattle.mvo_model.specs.Trace.Step.{Begins, Answers, Prepares, Checks, Commit
 use Rattle.mvo_model.proofs.Traces.{phase_of-push_own, phase_of-push_other}
 use Rattle.mvo_theory.specs.State.{EndedTx, State, StampedTx, ActiveTx, active_of, preparing_of, is_active_as, is_preparing_as, is_ended_as, ended_of}
 use Rattle.mvo_theory.specs.Words.{words_now}
-use Rattle.mvo_theory.specs.Changes.{new_active, after_begin, after_operation, with_answer, after_prepare, to_stamped, without, after_check, with_check, after_commit, committed_tx, with_settled, with_flag, active_with_flag, not_at, after_abort_of_active, aborted_tx, after_abort_of_preparing, after_termination, without_ended}
+use Rattle.mvo_theory.specs.Changes.{new_active, after_begin, after_operation, with_answer, after_prepare, to_stamped, without_id, after_check, with_check, after_commit, committed_tx, with_settled, with_flag, active_with_flag, not_at, after_abort_of_active, aborted_tx, after_abort_of_preparing, after_termination, without_ended}
 use Rattle.mvo_theory.proofs.Cases.{is_ended_in}
 use Rattle.mvo_theory.specs.Phases.{phase_by, phase_in}
 use Rattle.mvo_theory.specs.Steps.{after_validate_of, after_validate, after_abort_of, after_abort}
@@ -96,10 +96,10 @@ leads_after_operation s t op a = record { own = same t; others = λ u _. same u 
     same u = stays_like s (after_operation s t op a) u (with_answer s t op a) (λ x. x) (λ x. refl) (find_map (is_active_as u) (with_answer s t op a) s.active (each_always (λ r. is_active_as u r ≡ is_active_as u r) (λ r. refl) s.active)) (same_find (find (is_preparing_as u) s.stamped)) refl
 
 -- ---- precommit
-gone_active : (t u n : ℕ) (rs : List ActiveTx) → t ≡ n → t ≢ u → find (is_active_as u) (without n rs) ≡ find (is_active_as u) rs
+gone_active : (t u n : ℕ) (rs : List ActiveTx) → t ≡ n → t ≢ u → find (is_active_as u) (without_id n rs) ≡ find (is_active_as u) rs
 gone_active t u n rs e ne = find_filter (is_active_as u) (λ q. not (q.id == n)) rs (each_always (λ q. not (q.id == n) ≡ false → (q.id == u) ≡ false) (λ q f. ne_eqb q.id u (λ g. ne (e ∙ sym (eqb-true q.id n (not-false (q.id == n) f)) ∙ g))) rs)
 
-none_active : (s : State) (t n : ℕ) (r : ActiveTx) → active_of t s.active ≡ Some r → t ≡ n → r.id ≡ n → IsSingle s → how_many (is_active_as t) (without n s.active) ≤ 0
+none_active : (s : State) (t n : ℕ) (r : ActiveTx) → active_of t s.active ≡ Some r → t ≡ n → r.id ≡ n → IsSingle s → how_many (is_active_as t) (without_id n s.active) ≤ 0
 none_active s t n r f e is h =
     let l = count_filter_out (is_active_as t) (λ q. not (q.id == n)) s.active r (sym (active_found t s.active) ∙ f) (ap not (eq-eqb r.id n is)) in
     let o = h.once t in
@@ -133,7 +133,7 @@ alone_at before after x r = each_append (λ y. y.end ≡ x.end → y.id ≡ x.id
     (each_weaker (λ y. y.end < x.end) (λ y. y.end ≡ x.end → y.id ≡ x.id) (λ y lt e. absurd (omega arith)) before (rising_before before after x r))
     (λ _. refl, each_weaker (λ y. x.end < y.end) (λ y. y.end ≡ x.end → y.id ≡ x.id) (λ y lt e. absurd (omega arith)) after (rising_after before after x r))
 
-alone_in : (s : State) (t : ℕ) (x : StampedTx) → preparing_of t s.stamped ≡ Some x → IsSound s → AllByRecursion (λ y. y.end ≡ x.end → y.id ≡ t) s.stamped
+pub alone_in : (s : State) (t : ℕ) (x : StampedTx) → preparing_of t s.stamped ≡ Some x → IsSound s → AllByRecursion (λ y. y.end ≡ x.end → y.id ≡ t) s.stamped
 alone_in s t x f k =
     let p = split_at t s.stamped x f in
     subst (λ (n : ℕ). AllByRecursion (λ y. y.end ≡ x.end → y.id ≡ n) s.stamped) p.3

@@ -9,7 +9,7 @@ use Rattle.mvo_theory.specs.State.{State, opened}
 use Rattle.mvo_theory.specs.Claims.{new_claim}
 use Rattle.mvo_theory.specs.Changes.{with_words, after_finish, after_close, after_operation, after_termination, after_trim}
 use Rattle.mvo_theory.specs.Causes.{why_not_finish}
-use Rattle.mvo_theory.specs.Calls.{IsInOrder, Call, Result, Run, why_not, takes_memory, IsRefusal, MayCome, answer_in, after_accepted, steps_of_accepted, after_refused, steps_of_refused, after_call, steps_of, MayRun, after_run, trace_of, IsKept}
+use Rattle.mvo_theory.specs.Calls.{IsCallInOrder, Call, Result, Run, why_not, takes_memory, IsRefusal, MayCome, answer_in, after_accepted, steps_of_accepted, after_refused, steps_of_refused, after_call, steps_of, MayRun, after_run, trace_of, IsKept}
 use Rattle.mvo_theory.specs.Words.{is_done, words_left}
 use Rattle.mvo_theory.proofs.Finishing.{kept_worded, kept_taken_over, kept_closed}
 use Rattle.mvo_theory.proofs.Tales.{serial_after_trace}
@@ -106,7 +106,7 @@ runs_are_serial rows mark cs m =
     serial_after_trace rows (trace_of (opened rows mark) cs) (after_run (opened rows mark) cs) k.sound k.after_trace
 
 -- each call comes to something: where no cause stands it may be accepted, and else it is refused with the first
-pub some_result : (s : State) (c : Call) → IsInOrder s c → (r : Result) × MayCome s c r
+pub some_result : (s : State) (c : Call) → IsCallInOrder s c → (r : Result) × MayCome s c r
 some_result s c o = go (why_not s c) refl
   where
     refusal : (b : Bool) (why : Refusal) → IsRefusal b (Some why) why

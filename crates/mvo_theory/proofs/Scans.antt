@@ -1,14 +1,13 @@
 -- A scan answers by what passes of each key alone.
 use Rattle.std.proofs.Common.{◌≡◌, ℕ, Bool, true, false, cond, List, [], ◌∷◌, None, Some, map, T, refl, sym, ap, ◌∙◌, subst}
-use Rattle.std.specs.Prelude.{◌&&◌}
 use Rattle.std.specs.List.{filter}
-use Rattle.std.specs.Ordering.{eq_by_cmp, is_lt, is_eq}
+use Rattle.std.specs.Ordering.{eq_by_cmp, is_lt}
 use Rattle.std.specs.FinMap as fin
 use Rattle.std.specs.FinMap.Entries.{below_all}
 use Rattle.std.proofs.lemmas.Map.Views.{tells_apart}
 use Rattle.mvo_types.proofs.Maps.{keys_total, exact_keys}
-use Rattle.std.specs.declared.cmp.Ordering.{Ordering}
-use Rattle.std.specs.declared.cmp.Ordering.TheVariants.{Less, Equal, Greater}
+use Rattle.mvo_types.proofs.Ordered.{both}
+use Rattle.mvo_types.proofs.Ranges.{first, lt_not_eq, second}
 use Rattle.mvo_types.specs.declared.row.RowKey.{RowKey}
 use Rattle.mvo_types.specs.RowData.{row_with}
 use Rattle.mvo_types.specs.Keys.{Map, key_cmp}
@@ -26,18 +25,6 @@ filter-map p f (x ∷ xs) = go (p (f x)) (filter-map p f xs)
     go true e = ap (λ ys. f x ∷ ys) e
     go false e = e
 
-first : (a b : Bool) → T (a && b) → T a
-first true b p = tt
-first false b p = p
-
-second : (a b : Bool) → T (a && b) → T b
-second true b p = p
-second false b p = absurd p
-
-both : (a b : Bool) → T a → T b → T (a && b)
-both true b u v = v
-both false b u v = u
-
 below_one : (x : RowKey) (e : Row) (es : List Row) (b : Bool) → T (is_lt (key_cmp x e.0)) → T (below_all key_cmp x es) → T (below_all key_cmp x (cond b (e ∷ es) es))
 below_one x e es true u v = both _ _ u v
 below_one x e es false u v = v
@@ -54,12 +41,7 @@ sorted_filter : (p : Row → Bool) (es : List Row) → T (fin.is_sorted key_cmp 
 sorted_filter p [] h = tt
 sorted_filter p (e ∷ es) h = sorted_one e (filter p es) (p e) (below_filter p e.0 es (first _ _ h)) (sorted_filter p es (second _ _ h))
 
-lt_not_eq : (o : Ordering) → T (is_lt o) → is_eq o ≡ false
-lt_not_eq Less p = refl
-lt_not_eq Equal p = absurd p
-lt_not_eq Greater p = absurd p
-
-find_below : (q : RowKey) (es : List Row) → T (below_all key_cmp q es) → fin.find key_cmp q es ≡ None
+pub find_below : (q : RowKey) (es : List Row) → T (below_all key_cmp q es) → fin.find key_cmp q es ≡ None
 find_below q [] h = refl
 find_below q (e ∷ es) h = ap (λ b. cond b (Some e.1) (fin.find key_cmp q es)) (lt_not_eq (key_cmp q e.0) (first _ _ h)) ∙ find_below q es (second _ _ h)
 

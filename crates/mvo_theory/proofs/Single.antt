@@ -8,7 +8,7 @@ use Rattle.mvo_types.specs.Keys.{Map}
 use Rattle.mvo_types.specs.AnswerData.{AnswerData}
 use Rattle.mvo_theory.specs.State.{EndedTx, State, StampedTx, ActiveTx, opened, active_of, preparing_of, is_active_as, is_preparing_as, is_ended_as}
 use Rattle.mvo_theory.specs.Words.{words_now}
-use Rattle.mvo_theory.specs.Changes.{new_active, after_begin, after_operation, with_answer, after_prepare, to_stamped, without, after_check, with_check, after_commit, committed_tx, with_settled, with_flag, active_with_flag, not_at, after_abort_of_active, aborted_tx, after_abort_of_preparing, after_termination, without_ended}
+use Rattle.mvo_theory.specs.Changes.{new_active, after_begin, after_operation, with_answer, after_prepare, to_stamped, without_id, after_check, with_check, after_commit, committed_tx, with_settled, with_flag, active_with_flag, not_at, after_abort_of_active, aborted_tx, after_abort_of_preparing, after_termination, without_ended}
 use Rattle.mvo_theory.specs.Sound.{IsSound, IsActive, IsPlaced, IsSingle, how_many}
 use Rattle.mvo_theory.proofs.Each.{each_weaker, each_append}
 use Rattle.mvo_theory.proofs.Finds.{find_holds, count_none, count_some, push_no, push_yes, count_map, count_map_out, count_filter, count_filter_out}
@@ -93,7 +93,7 @@ single_after_prepare s r e f le h = record {
   drawn = each_weaker (λ u. u.id ≤ s.clock) (λ u. u.id ≤ e) (λ u d. omega arith) s.ended h.drawn;
 }
   where
-    go : (u : ℕ) (b : Bool) → (r.id == u) ≡ b → how_many (is_active_as u) (without r.id s.active) + (how_many (is_preparing_as u) (s.stamped ++ to_stamped e r ∷ []) + how_many (is_ended_as u) s.ended) ≤ 1
+    go : (u : ℕ) (b : Bool) → (r.id == u) ≡ b → how_many (is_active_as u) (without_id r.id s.active) + (how_many (is_preparing_as u) (s.stamped ++ to_stamped e r ∷ []) + how_many (is_ended_as u) s.ended) ≤ 1
     go u true g =
         let l = count_filter_out (is_active_as u) (λ q. not (q.id == r.id)) s.active r (still_active s r.id u r f g) (ap not (eq-eqb r.id r.id refl)) in
         let m = push_yes (is_preparing_as u) s.stamped (to_stamped e r) in
@@ -159,7 +159,7 @@ single_after_abort_of_active s t r f k h = record {
     found : IsActive s.base s.stamped s.clock r × (is_active_as t r ≡ true)
     found = active_is s t r f k
 
-    go : (u : ℕ) (b : Bool) → (t == u) ≡ b → how_many (is_active_as u) (without t s.active) + (how_many (is_preparing_as u) s.stamped + how_many (is_ended_as u) (s.ended ++ aborted_tx t (words_now s t) ∷ [])) ≤ 1
+    go : (u : ℕ) (b : Bool) → (t == u) ≡ b → how_many (is_active_as u) (without_id t s.active) + (how_many (is_preparing_as u) s.stamped + how_many (is_ended_as u) (s.ended ++ aborted_tx t (words_now s t) ∷ [])) ≤ 1
     go u true e =
         let l = count_filter_out (is_active_as u) (λ q. not (q.id == t)) s.active r (still_active s t u r f e) (ap not found.1) in
         let m = push_yes (is_ended_as u) s.ended (aborted_tx t (words_now s t)) in
@@ -207,7 +207,7 @@ count_without t u (w ∷ ws) = go (w.id == t) (count_without t u ws)
     go true l = omega arith
     go false l = omega arith
 
-each_without : (P : EndedTx → Type 0) (t : ℕ) (us : List EndedTx) → AllByRecursion P us → AllByRecursion P (without_ended t us)
+pub each_without : (P : EndedTx → Type 0) (t : ℕ) (us : List EndedTx) → AllByRecursion P us → AllByRecursion P (without_ended t us)
 each_without P t [] h = tt
 each_without P t (w ∷ ws) h = go (w.id == t) (each_without P t ws h.1)
   where

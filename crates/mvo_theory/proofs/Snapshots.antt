@@ -9,7 +9,7 @@ use Rattle.mvo_model.proofs.Serials.{after_history-append}
 use Rattle.mvo_model.specs.Trace.{Step, history_of}
 use Rattle.mvo_theory.specs.State.{State, StampedTx, ActiveTx, timeline, history_below, seen_by, history_of_active, snapshot}
 use Rattle.mvo_theory.specs.Sound.{AreDistinct, IsPast}
-use Rattle.mvo_theory.specs.Snapshots.{ended_in, rows_below, snapshot_of, ends}
+use Rattle.mvo_theory.specs.Snapshots.{ended_in, rows_below, snapshot_of, ends_with_ids}
 use Rattle.mvo_theory.specs.Causes.{why_not_do}
 use Rattle.mvo_theory.specs.Calls.{answer_in, IsKept}
 use Rattle.mvo_theory.proofs.Who.{active_holds, active_done}
@@ -29,7 +29,7 @@ history_is t (r ∷ rs) d = (
       (λ q n f e. ap (λ (b : Bool). cond b r.history (history_of_active t rs)) (ne_eqb r.id t (λ g. n (e ∙ sym g))) ∙ f e) rs d.0 (history_is t rs d.1),
 )
 
-rows_of_ends : (b : ℕ) (xs : List StampedTx) (steps : List Step) (m : Map) → AllByRecursion (λ x. history_of x.id steps ≡ x.history) xs → rows_below b (ends xs) steps m ≡ after_history (history_below b xs) m
+rows_of_ends : (b : ℕ) (xs : List StampedTx) (steps : List Step) (m : Map) → AllByRecursion (λ x. history_of x.id steps ≡ x.history) xs → rows_below b (ends_with_ids xs) steps m ≡ after_history (history_below b xs) m
 rows_of_ends b [] steps m h = refl
 rows_of_ends b (x ∷ xs) steps m h = rows_of_ends b xs steps (cond (nat_lt x.end b) (after_history (history_of x.id steps) m) m) h.1 ∙ go (nat_lt x.end b)
   where

@@ -7,14 +7,14 @@ use Rattle.mvo_types.specs.declared.row.RowKey.{RowKey}
 use Rattle.mvo_types.specs.Keys.{Map}
 use Rattle.mvo_types.specs.Write.{Effect}
 use Rattle.mvo_model.specs.History.{History, after_history, later, net_write}
-use Rattle.mvo_model.proofs.Serials.{net_write-append}
+use Rattle.mvo_model.proofs.Serials.{net_write-append, later-none}
 use Rattle.mvo_theory.proofs.Each.{each_weaker, each_append, each_map}
 use Rattle.mvo_types.specs.declared.entry.Entry.{Entry}
 use Rattle.mvo_theory.specs.Ranges.{Row, shows}
 use Rattle.mvo_theory.specs.State.{StampedTx, history_below}
 use Rattle.mvo_theory.specs.Dependencies.{is_writer, or_later, last_writer, has_end, with_end, depend_on}
-use Rattle.mvo_theory.specs.Sound.{IsWritten, IsDecided, IsUnchanged, IsClear, IsRising, IsLegal, changes}
-use Rattle.mvo_theory.proofs.Footprints.{none_unless}
+use Rattle.mvo_theory.specs.Sound.{IsKeyWritten, IsDecided, IsUnchanged, IsClear, IsRising, IsLegal, changes}
+use Rattle.mvo_theory.proofs.Footprints.{none_unless, or_right}
 use Rattle.mvo_types.specs.declared.entry.Entry.TheVariants.{Key, Range}
 
 -- ---- who decides a key, after a look
@@ -22,14 +22,14 @@ abbrev IsHeld : Option StampedTx → List ℕ → Type 0
 IsHeld None ds = ⊤
 IsHeld (Some y) ds = y.settled ≡ false → has_end ds y.end ≡ true
 
-no_stamped : (z : StampedTx) → ◌≡◌ {A = Option StampedTx} None (Some z) → ⊥
+pub no_stamped : (z : StampedTx) → ◌≡◌ {A = Option StampedTx} None (Some z) → ⊥
 no_stamped z q = cc
 
-pub written_last : (k : RowKey) (b : ℕ) (stamped : List StampedTx) (y : StampedTx) → last_writer k b stamped ≡ Some y → IsWritten k b stamped
+pub written_last : (k : RowKey) (b : ℕ) (stamped : List StampedTx) (y : StampedTx) → last_writer k b stamped ≡ Some y → IsKeyWritten k b stamped
 written_last k b [] y e = absurd (no_stamped y e)
 written_last k b (x ∷ xs) y e = go (is_writer k b x) refl (last_writer k b xs) refl (λ z g. written_last k b xs z g) e
   where
-    go : (c : Bool) → is_writer k b x ≡ c → (w : Option StampedTx) → last_writer k b xs ≡ w → ((z : StampedTx) → last_writer k b xs ≡ Some z → IsWritten k b xs) → or_later (cond c (Some x) None) w ≡ Some y → (is_writer k b x ≡ true) ⊎ IsWritten k b xs
+    go : (c : Bool) → is_writer k b x ≡ c → (w : Option StampedTx) → last_writer k b xs ≡ w → ((z : StampedTx) → last_writer k b xs ≡ Some z → IsKeyWritten k b xs) → or_later (cond c (Some x) None) w ≡ Some y → (is_writer k b x ≡ true) ⊎ IsKeyWritten k b xs
     go true f w g r h = inl f
     go false f None g r h = absurd (no_stamped y h)
     go false f (Some z) g r h = inr (r z g)
@@ -38,7 +38,7 @@ decided_held : (k : RowKey) (b : ℕ) (ds : List ℕ) (stamped : List StampedTx)
 decided_held k b ds [] h = tt
 decided_held k b ds (x ∷ xs) h = go (last_writer k b xs) refl (is_writer k b x) refl (λ e. decided_held k b ds xs e) h
   where
-    go : (w : Option StampedTx) → last_writer k b xs ≡ w → (c : Bool) → is_writer k b x ≡ c → (IsHeld (last_writer k b xs) ds → IsDecided k b ds xs) → IsHeld (or_later (cond c (Some x) None) w) ds → (x.settled ≡ false → is_writer k b x ≡ true → (has_end ds x.end ≡ true) ⊎ IsWritten k b xs) × IsDecided k b ds xs
+    go : (w : Option StampedTx) → last_writer k b xs ≡ w → (c : Bool) → is_writer k b x ≡ c → (IsHeld (last_writer k b xs) ds → IsDecided k b ds xs) → IsHeld (or_later (cond c (Some x) None) w) ds → (x.settled ≡ false → is_writer k b x ≡ true → (has_end ds x.end ≡ true) ⊎ IsKeyWritten k b xs) × IsDecided k b ds xs
     go (Some z) g c f r h' = (λ _ _. inr (written_last k b xs z g), r (subst (λ v. IsHeld v ds) (sym g) h'))
     go None g true f r h' = (λ o _. inl (h' o), r (subst (λ v. IsHeld v ds) (sym g) tt))
     go None g false f r h' = (λ _ w. absurd (false≢true (sym f ∙ w)), r (subst (λ v. IsHeld v ds) (sym g) tt))
@@ -57,10 +57,6 @@ held_now ds (Some y) = λ o. subst (λ (c : Bool). has_end (cond c ds (with_end 
 -- the key that is looked at now is decided
 pub decided_now : (k : RowKey) (b : ℕ) (ds : List ℕ) (stamped : List StampedTx) → IsDecided k b (depend_on ds (last_writer k b stamped)) stamped
 decided_now k b ds stamped = decided_held k b (depend_on ds (last_writer k b stamped)) stamped (held_now ds (last_writer k b stamped))
-
-or_right : (a b : Bool) → b ≡ true → (a || b) ≡ true
-or_right true b e = refl
-or_right false b e = e
 
 pub has_more : (ds : List ℕ) (d x : ℕ) → has_end ds x ≡ true → has_end (with_end ds d) x ≡ true
 has_more ds d x e = go (has_end ds d)
@@ -102,7 +98,7 @@ history_below-last b xs y h =
 not_writer : (k : RowKey) (b : ℕ) (y : StampedTx) → b ≤ y.end → is_writer k b y ≡ true → ⊥
 not_writer k b y h e = let lt = ltb-true y.end b (and_parts (nat_lt y.end b) (is_some (net_write k y.history)) e).0 in absurd (omega arith)
 
-written_append : (k : RowKey) (b : ℕ) (xs ys : List StampedTx) → IsWritten k b xs → IsWritten k b (xs ++ ys)
+written_append : (k : RowKey) (b : ℕ) (xs ys : List StampedTx) → IsKeyWritten k b xs → IsKeyWritten k b (xs ++ ys)
 written_append k b [] ys h = absurd h
 written_append k b (x ∷ xs) ys (inl p) = inl p
 written_append k b (x ∷ xs) ys (inr q) = inr (written_append k b xs ys q)
@@ -137,7 +133,7 @@ history_below-map f l b (x ∷ xs) =
 writer-like : (f : StampedTx → StampedTx) → IsLike f → (k : RowKey) (b : ℕ) (x : StampedTx) → is_writer k b (f x) ≡ is_writer k b x
 writer-like f l k b x = ap (λ (n : ℕ). nat_lt n b && is_some (net_write k (f x).history)) (l x).0 ∙ ap (λ ts. nat_lt x.end b && is_some (net_write k ts)) (l x).1
 
-written_map : (f : StampedTx → StampedTx) → IsLike f → (k : RowKey) (b : ℕ) (xs : List StampedTx) → IsWritten k b xs → IsWritten k b (map f xs)
+written_map : (f : StampedTx → StampedTx) → IsLike f → (k : RowKey) (b : ℕ) (xs : List StampedTx) → IsKeyWritten k b xs → IsKeyWritten k b (map f xs)
 written_map f l k b [] h = h
 written_map f l k b (x ∷ xs) (inl p) = inl (writer-like f l k b x ∙ p)
 written_map f l k b (x ∷ xs) (inr q) = inr (written_map f l k b xs q)
@@ -172,11 +168,11 @@ unchanged_map f l b c e xs h = each_map f (λ u. b < u.end → u.end < c → cha
 abbrev pub IsOut : (StampedTx → Bool) → List ℕ → StampedTx → Type 0
 IsOut p ds x = p x ≡ false → (x.settled ≡ false) × (has_end ds x.end ≡ false)
 
-written_filter : (p : StampedTx → Bool) (k : RowKey) (b : ℕ) (ds : List ℕ) (xs : List StampedTx) → AllByRecursion (IsOut p ds) xs → IsDecided k b ds xs → IsWritten k b xs → IsWritten k b (filter p xs)
+written_filter : (p : StampedTx → Bool) (k : RowKey) (b : ℕ) (ds : List ℕ) (xs : List StampedTx) → AllByRecursion (IsOut p ds) xs → IsDecided k b ds xs → IsKeyWritten k b xs → IsKeyWritten k b (filter p xs)
 written_filter p k b ds [] o d h = h
 written_filter p k b ds (x ∷ xs) o d h = go (p x) refl (λ q. written_filter p k b ds xs o.1 d.1 q) h
   where
-    go : (c : Bool) → p x ≡ c → (IsWritten k b xs → IsWritten k b (filter p xs)) → (is_writer k b x ≡ true) ⊎ IsWritten k b xs → IsWritten k b (cond c (x ∷ filter p xs) (filter p xs))
+    go : (c : Bool) → p x ≡ c → (IsKeyWritten k b xs → IsKeyWritten k b (filter p xs)) → (is_writer k b x ≡ true) ⊎ IsKeyWritten k b xs → IsKeyWritten k b (cond c (x ∷ filter p xs) (filter p xs))
     go true e r (inl w) = inl w
     go true e r (inr q) = inr (r q)
     go false e r (inl w) = elim (d.0 (o.0 e).0 w) [ inl q ↦ absurd (false≢true (sym (o.0 e).1 ∙ q)) | inr q ↦ r q ]
@@ -186,7 +182,7 @@ pub decided_filter : (p : StampedTx → Bool) (k : RowKey) (b : ℕ) (ds : List 
 decided_filter p k b ds [] o d = tt
 decided_filter p k b ds (x ∷ xs) o d = go (p x) (written_filter p k b ds xs o.1 d.1) (decided_filter p k b ds xs o.1 d.1)
   where
-    go : (c : Bool) → (IsWritten k b xs → IsWritten k b (filter p xs)) → IsDecided k b ds (filter p xs) → IsDecided k b ds (cond c (x ∷ filter p xs) (filter p xs))
+    go : (c : Bool) → (IsKeyWritten k b xs → IsKeyWritten k b (filter p xs)) → IsDecided k b ds (filter p xs) → IsDecided k b ds (cond c (x ∷ filter p xs) (filter p xs))
     go true f r = (λ s w. elim (d.0 s w) [ inl q ↦ inl q | inr q ↦ inr (f q) ], r)
     go false f r = r
 
@@ -203,7 +199,7 @@ later_some : (a b : Option Effect) → is_some b ≡ true → is_some (later a b
 later_some None b e = e
 later_some (Some h) b e = refl
 
-written_seen : (k : RowKey) (b : ℕ) (xs : List StampedTx) → IsWritten k b xs → is_some (net_write k (history_below b xs)) ≡ true
+written_seen : (k : RowKey) (b : ℕ) (xs : List StampedTx) → IsKeyWritten k b xs → is_some (net_write k (history_below b xs)) ≡ true
 written_seen k b [] h = absurd h
 written_seen k b (x ∷ xs) (inl w) =
     let both = and_parts (nat_lt x.end b) (is_some (net_write k x.history)) w in
@@ -212,10 +208,6 @@ written_seen k b (x ∷ xs) (inl w) =
 written_seen k b (x ∷ xs) (inr q) =
     ap is_some (net_write-append k (cond (nat_lt x.end b) x.history []) (history_below b xs))
     ∙ ap is_some (later_there (net_write k (history_below b xs)) (net_write k (cond (nat_lt x.end b) x.history [])) (written_seen k b xs q)) ∙ written_seen k b xs q
-
-later-none : (a : Option Effect) → later a None ≡ a
-later-none None = refl
-later-none (Some h) = refl
 
 -- what is taken out decides nothing
 unseen_one : (k : RowKey) (c : Bool) (us rest all : History) → net_write k rest ≡ net_write k all → ((c && is_some (net_write k us)) ≡ true → is_some (net_write k all) ≡ true) → net_write k rest ≡ net_write k (cond c us [] ++ all)

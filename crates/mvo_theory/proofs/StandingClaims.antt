@@ -17,7 +17,7 @@ use Rattle.mvo_types.specs.AnswerData.AnswerData.{Inserted, Exists, Updated, Del
 use Rattle.mvo_model.specs.Serial.{answer_to}
 use Rattle.mvo_model.specs.History.{History, write_of, write_at, later, net_write, AreSerial, after_write, after_history}
 use Rattle.mvo_model.proofs.Serials.{get-after_write, after_history-append, rows_after-told}
-use Rattle.mvo_theory.specs.State.{StampedTx, Claim, timeline, after_settled, history_below, seen_by}
+use Rattle.mvo_theory.specs.State.{StampedTx, Claim, timeline, history_below, seen_by}
 use Rattle.mvo_theory.specs.Claims.{ended_key, has_claim}
 use Rattle.mvo_theory.specs.Claimed.{HasClaims, is_ended_first}
 use Rattle.mvo_theory.specs.Sound.{IsRising, IsLegal}
@@ -26,6 +26,7 @@ use Rattle.mvo_theory.specs.StandingClaims.{ClaimsIfStanding, SettledClaim}
 use Rattle.mvo_theory.proofs.Each.{each_both, each_append}
 use Rattle.mvo_theory.proofs.AfterTrace.{rising_all}
 use Rattle.mvo_theory.proofs.Footprints.{key_same, none_unless}
+use Rattle.mvo_theory.proofs.Tales.{legal_append}
 
 -- ---- the first answer that writes a row that stands ends it
 at_key : (k j : RowKey) (h : Effect) → is_some (write_at k (Some (j, h))) ≡ true → k ≡ j
@@ -71,10 +72,6 @@ ended_first k (t ∷ ts) m s c w = go (is_some (write_at k (write_of t.0 t.1))) 
         (left (net_write k ts) (write_at k (write_of t.0 t.1)) q w)
 
 -- ---- the rows on which each is serial
-legal_both : (m : Map) (xs ys : List StampedTx) → IsLegal m xs → IsLegal (after_settled xs m) ys → IsLegal m (xs ++ ys)
-legal_both m [] ys h k = k
-legal_both m (x ∷ xs) ys h k = (h.0, legal_both (after_history (cond x.settled x.history []) m) xs ys h.1 k)
-
 none_below : (b : ℕ) (xs : List StampedTx) → AllByRecursion (λ x. b < x.end) xs → history_below b (settled_ones xs) ≡ []
 none_below b [] h = refl
 none_below b (x ∷ xs) h = go x.settled (none_below b xs h.1)
@@ -130,4 +127,4 @@ settled_claim opening steps s k h =
     (λ x c q o w there. claim_of (settled_origin s x.end) k x.claims (q.1 o) (c.complete k (ended_first k x.history (settled_rows opening s x.end) (q.0 o) there w))) (timeline s)
     (each_append (λ x. HasClaims s.marks.opening steps x.id x.history x.claims) s.past s.stamped h.claimed.past h.claimed.stamped)
     (each_both (λ x. x.settled ≡ true → AreSerial x.history (settled_rows opening s x.end)) (λ x. x.settled ≡ true → HaveOrigins (settled_origin s x.end) x.claims) _ (λ x a b. (a, b)) (timeline s)
-    (all_serial opening (timeline s) (rising_all s h.sound h.started) (legal_both opening s.past s.stamped h.after_trace.legal (subst (λ (m : Map). IsLegal m s.stamped) h.after_trace.base h.sound.legal))) h.origins.settled)
+    (all_serial opening (timeline s) (rising_all s h.sound h.started) (legal_append opening s.past s.stamped h.after_trace.legal (subst (λ (m : Map). IsLegal m s.stamped) h.after_trace.base h.sound.legal))) h.origins.settled)

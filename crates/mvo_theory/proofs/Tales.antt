@@ -1,5 +1,5 @@
 -- A commit is put into its place among the commits of a trace.
-use Rattle.std.proofs.Common.{◌≡◌, ◌≢◌, ℕ, ◌<◌, Bool, true, false, cond, List, [], ◌∷◌, ◌++◌, map, refl, sym, ap, ◌∙◌, subst, arith, append_assoc}
+use Rattle.std.proofs.Common.{◌≡◌, ◌≢◌, ℕ, ◌<◌, Bool, true, false, cond, List, [], ◌∷◌, ◌++◌, map, refl, sym, ap, ◌∙◌, subst, arith}
 use Rattle.std.specs.Prelude.{◌==◌, ◌||◌}
 use Rattle.std.specs.List.{AllByRecursion}
 use Rattle.std.specs.List.Sorted.{IsPermutation, IsStrictlySortedBy}
@@ -10,10 +10,11 @@ use Rattle.std.proofs.lemmas.Bool.{lt-ltb, ne_eqb, eq-eqb}
 use Rattle.mvo_types.specs.Keys.{Map}
 use Rattle.mvo_model.specs.History.{History, after_history, AreSerial, Legal}
 use Rattle.mvo_model.proofs.Serials.{rows_after_all-after_history}
-use Rattle.mvo_model.specs.Trace.{Step, history_of, commits, commit_of, end_cmp, committed, IsSerial}
+use Rattle.mvo_model.specs.Trace.{Step, history_of, commits, end_cmp, committed, IsSerial}
 use Rattle.mvo_model.specs.Trace.Step.{Commits}
 use Rattle.mvo_model.proofs.Orders.{in_order_same}
 use Rattle.mvo_model.proofs.Scans.{end_total, only_committed}
+use Rattle.mvo_model.proofs.Traces.{commits-push}
 use Rattle.mvo_theory.proofs.Each.{each_weaker, each_append}
 use Rattle.mvo_theory.specs.State.{State, StampedTx, tale, after_settled}
 use Rattle.mvo_theory.specs.Changes.{with_settled}
@@ -24,14 +25,6 @@ use Rattle.mvo_theory.proofs.Ends.{like_settled}
 use Rattle.mvo_theory.proofs.Settle.{rising_before, rising_after, map-both, or-false, or-true}
 
 -- ---- a commit in the middle
-append-nil : {X : Type 0} (xs : List X) → xs ++ [] ≡ xs
-append-nil [] = refl
-append-nil (x ∷ xs) = ap (λ ys. x ∷ ys) (append-nil xs)
-
-commits-push : (xs : List Step) (x : Step) → commits (xs ++ x ∷ []) ≡ commits xs ++ commit_of x
-commits-push [] x = append-nil (commit_of x)
-commits-push (y ∷ ys) x = ap (λ cs. commit_of y ++ cs) (commits-push ys x) ∙ sym (append_assoc (commit_of y) (commits ys) (commit_of x))
-
 pub pairs-append : (xs ys : List StampedTx) → pairs (xs ++ ys) ≡ pairs xs ++ pairs ys
 pairs-append [] ys = refl
 pairs-append (x ∷ xs) ys = ap (λ ts. cond x.settled ((x.end, x.id) ∷ ts) ts) (pairs-append xs ys) ∙ go x.settled

@@ -13,6 +13,7 @@ use Rattle.mvo_theory.proofs.Apart.{IsIn}
 use Rattle.mvo_theory.proofs.Footprints.{any_right}
 use Rattle.mvo_theory.proofs.Claimed.{in_pairs}
 use Rattle.mvo_theory.proofs.LastWriter.{preparing_phase, preparing_there, found_in}
+use Rattle.mvo_theory.proofs.Exact.{or_cases}
 use Rattle.mvo_theory.specs.Ends.{EndsAt}
 
 -- ---- from the state
@@ -47,10 +48,6 @@ in_list (x ∷ xs) u e h = go x.settled h (λ q. in_list xs u e q)
     go : (b : Bool) → list_any test (cond b ((x.end, x.id) ∷ pairs xs) (pairs xs)) ≡ true → (list_any test (pairs xs) ≡ true → IsThere xs u e) → IsThere (x ∷ xs) u e
     go true g k = two (test (x.end, x.id)) refl g k
     go false g k = there_too x xs u e (k g)
-
-or_cases : (a b : Bool) → (a || b) ≡ true → (a ≡ true) ⊎ (b ≡ true)
-or_cases true b h = inl refl
-or_cases false b h = inr h
 
 -- it is before the start of the tale, or stamped
 pub data IsSomewhere (s : State) (u e : ℕ) : Type 1 where

@@ -114,7 +114,7 @@ traced_after_check opening xs ys s e v k h =
       preparing = each_map (with_check e v) (IsOpenTraced opening (xs ++ ys) (map (with_check e v) s.stamped)) (IsOpenTraced opening (xs ++ ys) (map (with_check e v) s.stamped)) (λ x q. q) s.stamped (preparing_later opening xs ys s (map (with_check e v) s.stamped) k f h);
     }
 
-still_open : (a b : Bool) → (a || b) ≡ false → a ≡ false
+pub still_open : (a b : Bool) → (a || b) ≡ false → a ≡ false
 still_open true b h = absurd (true≢false h)
 still_open false b h = refl
 

@@ -3,7 +3,6 @@ use Rattle.std.proofs.Common.{◌≡◌, ◌≢◌, ℕ, ◌-◌, ◌<◌, ◌�
 use Rattle.std.specs.Prelude.{nat_lt, nat_le, ◌==◌, ◌&&◌, not}
 use Rattle.std.specs.List.{AllByRecursion, filter}
 use Rattle.std.proofs.lemmas.Bool.{ltb-true, leb-true, leb-false, true≢false, and_parts, and_right, not-false}
-use Rattle.mvo_types.specs.declared.refusal.Refusal.{Refusal}
 use Rattle.mvo_types.specs.declared.refusal.Refusal.TheVariants.{NothingToDo}
 use Rattle.mvo_types.specs.Keys.{Map}
 use Rattle.mvo_model.specs.Trace.{Step, history_of}
@@ -22,6 +21,7 @@ use Rattle.mvo_theory.proofs.Single.{preparing_found}
 use Rattle.mvo_theory.proofs.Tales.{pairs-append, legal_append}
 use Rattle.mvo_theory.proofs.Claims.{claimed_it}
 use Rattle.mvo_theory.proofs.Trim.{is_after, parted, after_settled-append, legal_front, IsTrim}
+use Rattle.mvo_theory.proofs.Cases.{none_refusal}
 
 -- ---- where it isn't refused
 least_above : (m n : ℕ) (xs : List ℕ) → m ≤ least n xs → (m ≤ n) × AllByRecursion (λ x. m ≤ x) xs
@@ -32,7 +32,7 @@ least_above m n (x ∷ xs) h = go (nat_le n x) refl (least_above m (cond (nat_le
     go true e q = let a = q.0 in let b = leb-true n x e in (a, (omega arith, q.1))
     go false e q = let a = q.0 in let b = leb-false n x e in (omega arith, (a, q.1))
 
-each_of_map : {X : Type 0} (f : X → ℕ) (P : ℕ → Type 0) (xs : List X) → AllByRecursion P (map f xs) → AllByRecursion (λ x. P (f x)) xs
+pub each_of_map : {X : Type 0} (f : X → ℕ) (P : ℕ → Type 0) (xs : List X) → AllByRecursion P (map f xs) → AllByRecursion (λ x. P (f x)) xs
 each_of_map f P [] h = tt
 each_of_map f P (x ∷ xs) h = (h.0, each_of_map f P xs h.1)
 
@@ -53,10 +53,7 @@ low_below clock (x ∷ xs) r b = go x.settled refl (low_below clock xs r.1 b.1)
     go true e q = (λ f. absurd (true≢false (sym e ∙ f)), q)
     go false e q = let l = b.0 in (λ _. omega arith, each_weaker (λ y. x.end < y.end) (λ y. y.settled ≡ false → x.end - 1 < y.end) (λ y g _. omega arith) xs r.0)
 
-none_refusal : (w : Refusal) → ◌≡◌ {A = Option Refusal} (Some w) None → ⊥
-none_refusal w q = cc
-
-passes : (b : Bool) → first_cause (when (not b) NothingToDo ∷ []) ≡ None → b ≡ true
+pub passes : (b : Bool) → first_cause (when (not b) NothingToDo ∷ []) ≡ None → b ≡ true
 passes true h = refl
 passes false h = absurd (none_refusal NothingToDo h)
 

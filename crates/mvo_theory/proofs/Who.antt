@@ -7,7 +7,7 @@ use Rattle.mvo_types.specs.declared.op.Op.{Op}
 use Rattle.mvo_types.specs.declared.refusal.Refusal.{Refusal}
 use Rattle.mvo_types.specs.declared.refusal.Refusal.TheVariants.{NotActive, NotPreparing, DependencyAborted}
 use Rattle.mvo_theory.specs.State.{EndedTx, ended_of, State, StampedTx, ActiveTx, active_of, preparing_of}
-use Rattle.mvo_theory.proofs.Cases.{not_there_by, do_cases, precommit_cases, validate_none, settle_none, validate_not, settle_not, rollback_none, finish_none, ended_in, or_flagged, not_active, not_preparing, not_done_at, not_op, not_prepared, not_settled_at, not_checked_at, is_ended_in}
+use Rattle.mvo_theory.proofs.Cases.{not_there_by, do_cases, precommit_cases, validate_none, settle_none, validate_not, settle_not, rollback_none, finish_none, ended_in, or_flagged, not_active, not_preparing, not_done_at, not_op, not_prepared, not_settled_at, not_checked_at, is_ended_in, none_refusal}
 use Rattle.mvo_theory.specs.Causes.{why_not_do, why_not_precommit, why_not_settle, why_not_validate, is_failure, why_not_rollback, why_not_finish}
 use Rattle.mvo_theory.proofs.Each.{each_always}
 use Rattle.mvo_theory.proofs.Phases.{IsUnended}
@@ -29,9 +29,6 @@ active_holds P t (q ∷ qs) r e h = go (q.id == t) refl e (λ f. active_holds P 
 
 pub id_of : (t : ℕ) (rs : List ActiveTx) (r : ActiveTx) → active_of t rs ≡ Some r → r.id ≡ t
 id_of t rs r e = (active_holds (λ q. ⊤) t rs r e (each_always (λ q. ⊤) (λ q. tt) rs)).1
-
-none_refusal : (w : Refusal) → ◌≡◌ {A = Option Refusal} (Some w) None → ⊥
-none_refusal w q = cc
 
 some_refusal : (v w : Refusal) → ◌≡◌ {A = Option Refusal} (Some v) (Some w) → v ≡ w
 some_refusal v w e = cc

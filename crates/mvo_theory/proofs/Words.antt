@@ -12,13 +12,13 @@ use Rattle.mvo_types.specs.Keys.{Map}
 use Rattle.mvo_types.specs.AnswerData.{AnswerData}
 use Rattle.mvo_types.specs.AnswerData.AnswerData.{Inserted, Updated, Deleted}
 use Rattle.mvo_model.specs.History.{History, net_write}
-use Rattle.mvo_model.specs.Trace.{Step, history_of, history_by}
+use Rattle.mvo_model.specs.Trace.{Step, history_of}
 use Rattle.mvo_model.specs.Trace.Step.{Aborts, Terminates}
 use Rattle.mvo_theory.specs.Entries.{entries}
 use Rattle.mvo_theory.specs.State.{State, ActiveTx, StampedTx, EndedTx, Claim, Word, Outcome, active_of, preparing_of, ended_of}
 use Rattle.mvo_theory.specs.State.Outcome.{Committed, Aborted}
 use Rattle.mvo_theory.specs.Claims.{ended_key, claims_with, claim_with, new_claim, origin}
-use Rattle.mvo_theory.specs.Words.{words_by, words_behind, words_of, words_in, word_count, words_held, words_now, is_end_of, words_without, is_last_word, is_done, words_left, HasWords}
+use Rattle.mvo_theory.specs.Words.{words_by, words_behind, words_of, word_count_of, word_count, words_held, words_now, is_end_of, words_without, is_last_word, is_done, words_left, HaveFewWords}
 use Rattle.mvo_theory.specs.Changes.{after_check, after_operation, with_words, taken_over, without_ended, after_termination, after_finish, committed_tx, aborted_tx}
 use Rattle.mvo_theory.specs.Causes.{awaited, is_failure, end_of}
 use Rattle.mvo_theory.specs.Steps.{after_precommit_of, after_precommit, after_validate_of, after_validate, after_commit_of, after_settle_unless, after_abort_of, after_abort}
@@ -29,11 +29,12 @@ use Rattle.mvo_theory.specs.Calls.Result.{Accepted, Refused}
 use Rattle.mvo_theory.proofs.Each.{each_weaker, each_append, each_map}
 use Rattle.mvo_theory.proofs.Who.{active_holds}
 use Rattle.mvo_theory.proofs.LastWriter.{found_in}
-use Rattle.mvo_theory.proofs.Cases.{found_is}
+use Rattle.mvo_theory.proofs.Cases.{found_is, no_ended}
 use Rattle.mvo_theory.proofs.Runs.{kept_after_call}
+use Rattle.mvo_theory.proofs.Found.{history_of-append}
 
 -- ---- as many as its operations wrote
-words_by_count : (before : History) (claims : List Claim) (op : Op) (a : AnswerData) → length (words_by before claims op a) ≡ words_in op a
+words_by_count : (before : History) (claims : List Claim) (op : Op) (a : AnswerData) → length (words_by before claims op a) ≡ word_count_of op a
 words_by_count before claims (Insert r) Inserted = refl
 words_by_count before claims (Update r) Updated = refl
 words_by_count before claims (Delete k) Deleted = refl
@@ -44,7 +45,7 @@ words_behind_count before claims [] = refl
 words_behind_count before claims (t ∷ ts) =
     length-append (words_by before claims t.0 t.1) (words_behind (before ++ t ∷ []) claims ts)
     ∙ ap (λ (n : ℕ). n + length (words_behind (before ++ t ∷ []) claims ts)) (words_by_count before claims t.0 t.1)
-    ∙ ap (λ (n : ℕ). words_in t.0 t.1 + n) (words_behind_count (before ++ t ∷ []) claims ts)
+    ∙ ap (λ (n : ℕ). word_count_of t.0 t.1 + n) (words_behind_count (before ++ t ∷ []) claims ts)
 
 -- finishing takes one call for each Inserted or Deleted, and two for each Updated
 pub words_of_count : (ts : History) (claims : List Claim) → length (words_of ts claims) ≡ word_count ts
@@ -53,10 +54,6 @@ words_of_count ts claims = words_behind_count [] claims ts
 word_count-append : (xs ys : History) → word_count (xs ++ ys) ≡ word_count xs + word_count ys
 word_count-append [] ys = omega arith
 word_count-append (x ∷ xs) ys = let e = word_count-append xs ys in omega arith
-
-history_of-append : (u : ℕ) (xs ys : List Step) → history_of u (xs ++ ys) ≡ history_of u xs ++ history_of u ys
-history_of-append u [] ys = refl
-history_of-append u (x ∷ xs) ys = ap (λ ts. history_by x u ++ ts) (history_of-append u xs ys) ∙ sym (append_assoc (history_by x u) (history_of u xs) (history_of u ys))
 
 pub count_later : (u : ℕ) (xs ys : List Step) → word_count (history_of u xs) ≤ word_count (history_of u (xs ++ ys))
 count_later u xs ys = let e = ap word_count (history_of-append u xs ys) ∙ word_count-append (history_of u xs) (history_of u ys) in omega arith
@@ -80,10 +77,10 @@ Few xs u = length u.words ≤ word_count (history_of u.id xs)
 few_later : (xs ys : List Step) (us : List EndedTx) → AllByRecursion (Few xs) us → AllByRecursion (Few (xs ++ ys)) us
 few_later xs ys us h = each_weaker (Few xs) (Few (xs ++ ys)) (λ u l. let c = count_later u.id xs ys in omega arith) us h
 
-same_ended : (xs ys : List Step) (s s' : State) → s'.ended ≡ s.ended → HasWords xs s → HasWords (xs ++ ys) s'
+same_ended : (xs ys : List Step) (s s' : State) → s'.ended ≡ s.ended → HaveFewWords xs s → HaveFewWords (xs ++ ys) s'
 same_ended xs ys s s' e h = subst (AllByRecursion (Few (xs ++ ys))) (sym e) (few_later xs ys s.ended h)
 
-fewer_words : (xs : List Step) (s : State) (f : EndedTx → List Word) → ((u : EndedTx) → length (f u) ≤ length u.words) → HasWords xs s → HasWords xs (with_words f s)
+fewer_words : (xs : List Step) (s : State) (f : EndedTx → List Word) → ((u : EndedTx) → length (f u) ≤ length u.words) → HaveFewWords xs s → HaveFewWords xs (with_words f s)
 fewer_words xs s f g h = each_map {X = EndedTx} {Y = EndedTx} (λ u. record u { words = f u }) (Few xs) (Few xs) (λ u l. let q = g u in omega arith) s.ended h
 
 filter_less : (p : Word → Bool) (ws : List Word) → length (filter p ws) ≤ length ws
@@ -98,7 +95,7 @@ pub without_less : (c : Claim) (o : Outcome) (ws : List Word) → length (words_
 without_less c (Committed e) ws = omega arith
 without_less c Aborted ws = filter_less (λ w. not (is_end_of c w)) ws
 
-taken_less : (xs : List Step) (s : State) (c : Option Claim) → HasWords xs s → HasWords xs (taken_over c s)
+taken_less : (xs : List Step) (s : State) (c : Option Claim) → HaveFewWords xs s → HaveFewWords xs (taken_over c s)
 taken_less xs s None h = h
 taken_less xs s (Some c) h = fewer_words xs s (λ u. words_without c u.outcome u.words) (λ u. without_less c u.outcome u.words) h
 
@@ -133,30 +130,30 @@ ended_validate s (Some x) = go x.valid
     go true = refl
     go false = refl
 
-few_commit : (opening : Map) (xs ys : List Step) (s : State) (t : ℕ) (w : Option StampedTx) → IsAfterTrace opening xs s → HasWords xs s → HasWords (xs ++ ys) (after_commit_of s t w)
+few_commit : (opening : Map) (xs ys : List Step) (s : State) (t : ℕ) (w : Option StampedTx) → IsAfterTrace opening xs s → HaveFewWords xs s → HaveFewWords (xs ++ ys) (after_commit_of s t w)
 few_commit opening xs ys s t None a h = few_later xs ys s.ended h
 few_commit opening xs ys s t (Some x) a h = each_append (Few (xs ++ ys)) s.ended (committed_tx t x.end (words_now s t) ∷ []) (few_later xs ys s.ended h) ((let l = words_now_count opening xs s t a in let c = count_later t xs ys in omega arith), tt)
 
-few_settle : (opening : Map) (xs : List Step) (s : State) (t : ℕ) (w : Option StampedTx) → IsAfterTrace opening xs s → HasWords xs s → HasWords (xs ++ steps_unless t (end_of s t) w) (after_settle_unless s t w)
+few_settle : (opening : Map) (xs : List Step) (s : State) (t : ℕ) (w : Option StampedTx) → IsAfterTrace opening xs s → HaveFewWords xs s → HaveFewWords (xs ++ steps_unless t (end_of s t) w) (after_settle_unless s t w)
 few_settle opening xs s t None a h = few_commit opening xs (steps_unless t (end_of s t) None) s t (preparing_of t s.stamped) a h
 few_settle opening xs s t (Some y) a h = few_later xs [] s.ended h
 
-few_abort : (opening : Map) (xs ys : List Step) (s : State) (t : ℕ) (w : Option StampedTx) → IsAfterTrace opening xs s → HasWords xs s → HasWords (xs ++ ys) (after_abort_of s t w)
+few_abort : (opening : Map) (xs ys : List Step) (s : State) (t : ℕ) (w : Option StampedTx) → IsAfterTrace opening xs s → HaveFewWords xs s → HaveFewWords (xs ++ ys) (after_abort_of s t w)
 few_abort opening xs ys s t w a h = go w (each_append (Few (xs ++ ys)) s.ended (aborted_tx t (words_now s t) ∷ []) (few_later xs ys s.ended h) ((let l = words_now_count opening xs s t a in let c = count_later t xs ys in omega arith), tt))
   where
-    go : (v : Option StampedTx) → AllByRecursion (Few (xs ++ ys)) (s.ended ++ aborted_tx t (words_now s t) ∷ []) → HasWords (xs ++ ys) (after_abort_of s t v)
+    go : (v : Option StampedTx) → AllByRecursion (Few (xs ++ ys)) (s.ended ++ aborted_tx t (words_now s t) ∷ []) → HaveFewWords (xs ++ ys) (after_abort_of s t v)
     go None q = q
     go (Some x) q = q
 
-few_refusal : (opening : Map) (xs : List Step) (s : State) (t : ℕ) (b : Bool) → IsAfterTrace opening xs s → HasWords xs s → HasWords (xs ++ cond b (Aborts t ∷ []) []) (cond b (after_abort s t) s)
+few_refusal : (opening : Map) (xs : List Step) (s : State) (t : ℕ) (b : Bool) → IsAfterTrace opening xs s → HaveFewWords xs s → HaveFewWords (xs ++ cond b (Aborts t ∷ []) []) (cond b (after_abort s t) s)
 few_refusal opening xs s t true a h = few_abort opening xs (Aborts t ∷ []) s t (preparing_of t s.stamped) a h
 few_refusal opening xs s t false a h = few_later xs [] s.ended h
 
-few_finish : (xs : List Step) (s : State) (t : ℕ) (b : Bool) → HasWords xs s → HasWords (xs ++ cond b (Terminates t ∷ []) []) (cond b (after_termination s t) (with_words (words_left t) s))
+few_finish : (xs : List Step) (s : State) (t : ℕ) (b : Bool) → HaveFewWords xs s → HaveFewWords (xs ++ cond b (Terminates t ∷ []) []) (cond b (after_termination s t) (with_words (words_left t) s))
 few_finish xs s t true h = few_later xs (Terminates t ∷ []) (without_ended t s.ended) (few_without xs t s.ended h)
-few_finish xs s t false h = subst (λ ys. HasWords ys (with_words (words_left t) s)) (sym (append-nil xs)) (fewer_words xs s (words_left t) (left_less t) h)
+few_finish xs s t false h = subst (λ ys. HaveFewWords ys (with_words (words_left t) s)) (sym (append-nil xs)) (fewer_words xs s (words_left t) (left_less t) h)
 
-few_accepted : (opening : Map) (xs : List Step) (s : State) (c : Call) → IsAfterTrace opening xs s → HasWords xs s → HasWords (xs ++ steps_of_accepted s c) (after_accepted s c)
+few_accepted : (opening : Map) (xs : List Step) (s : State) (c : Call) → IsAfterTrace opening xs s → HaveFewWords xs s → HaveFewWords (xs ++ steps_of_accepted s c) (after_accepted s c)
 few_accepted opening xs s Begin a h = few_later xs (steps_of_accepted s Begin) s.ended h
 few_accepted opening xs s (Do t op) a h = taken_less (xs ++ steps_of_accepted s (Do t op)) (after_operation s t op (answer_in s t op)) (new_claim s t op (answer_in s t op)) (few_later xs (steps_of_accepted s (Do t op)) s.ended h)
 few_accepted opening xs s (Precommit t) a h = same_ended xs (steps_of_accepted s (Precommit t)) s (after_precommit s t) (ended_precommit s (active_of t s.active)) h
@@ -167,7 +164,7 @@ few_accepted opening xs s (Finish t) a h = few_finish xs s t (is_done s t) h
 few_accepted opening xs s (Trim m) a h = few_later xs [] s.ended h
 few_accepted opening xs s (Close fits g full) a h = few_later xs [] s.ended h
 
-few_refused : (opening : Map) (xs : List Step) (s : State) (c : Call) (r : Refusal) → IsAfterTrace opening xs s → HasWords xs s → HasWords (xs ++ steps_of_refused c r) (after_refused s c r)
+few_refused : (opening : Map) (xs : List Step) (s : State) (c : Call) (r : Refusal) → IsAfterTrace opening xs s → HaveFewWords xs s → HaveFewWords (xs ++ steps_of_refused c r) (after_refused s c r)
 few_refused opening xs s Begin r a h = few_later xs [] s.ended h
 few_refused opening xs s (Do t op) r a h = few_refusal opening xs s t (is_failure r) a h
 few_refused opening xs s (Precommit t) r a h = few_refusal opening xs s t (is_failure r) a h
@@ -178,20 +175,17 @@ few_refused opening xs s (Finish t) r a h = few_later xs [] s.ended h
 few_refused opening xs s (Trim m) r a h = few_later xs [] s.ended h
 few_refused opening xs s (Close fits g full) r a h = few_later xs [] s.ended h
 
-pub words_after_call : (opening : Map) (xs : List Step) (s : State) (c : Call) (r : Result) → IsAfterTrace opening xs s → HasWords xs s → HasWords (xs ++ steps_of s c r) (after_call s c r)
+pub words_after_call : (opening : Map) (xs : List Step) (s : State) (c : Call) (r : Result) → IsAfterTrace opening xs s → HaveFewWords xs s → HaveFewWords (xs ++ steps_of s c r) (after_call s c r)
 words_after_call opening xs s c Accepted a h = few_accepted opening xs s c a h
 words_after_call opening xs s c (Refused r) a h = few_refused opening xs s c r a h
 
-pub words_after_run : (opening : Map) (xs : List Step) (s : State) (cs : Run) → MayRun s cs → IsKept opening xs s → HasWords xs s → HasWords (xs ++ trace_of s cs) (after_run s cs)
+pub words_after_run : (opening : Map) (xs : List Step) (s : State) (cs : Run) → MayRun s cs → IsKept opening xs s → HaveFewWords xs s → HaveFewWords (xs ++ trace_of s cs) (after_run s cs)
 words_after_run opening xs s [] m k h = few_later xs [] s.ended h
 words_after_run opening xs s (c ∷ cs) m k h =
-    subst (λ ys. HasWords ys (after_run (after_call s c.0 c.1) cs)) (append_assoc xs (steps_of s c.0 c.1) (trace_of (after_call s c.0 c.1) cs))
+    subst (λ ys. HaveFewWords ys (after_run (after_call s c.0 c.1) cs)) (append_assoc xs (steps_of s c.0 c.1) (trace_of (after_call s c.0 c.1) cs))
     (words_after_run opening (xs ++ steps_of s c.0 c.1) (after_call s c.0 c.1) cs m.1 (kept_after_call opening xs s c.0 c.1 m.0 k) (words_after_call opening xs s c.0 c.1 k.after_trace h))
 
 -- ---- each call of finishing takes one word away, until Done
-no_ended : (u : EndedTx) → ◌≡◌ {A = Option EndedTx} None (Some u) → ⊥
-no_ended u q = cc
-
 same : (u v : EndedTx) → ◌≡◌ {A = Option EndedTx} (Some u) (Some v) → u ≡ v
 same u v q = cc
 

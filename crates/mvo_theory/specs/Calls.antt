@@ -67,13 +67,13 @@ pub data Result : Type 0 where
   Refused : Refusal → Result
 
 -- a group that is closed is the next one
-abbrev pub IsInOrder : State → Call → Type 0
-IsInOrder s (Close fits g full) = IsNextGroup fits s g
-IsInOrder s c = ⊤
+abbrev pub IsCallInOrder : State → Call → Type 0
+IsCallInOrder s (Close fits g full) = IsNextGroup fits s g
+IsCallInOrder s c = ⊤
 
 -- what a call may come to
 abbrev pub MayCome : State → Call → Result → Type 0
-MayCome s c Accepted = (why_not s c ≡ None) × IsInOrder s c
+MayCome s c Accepted = (why_not s c ≡ None) × IsCallInOrder s c
 MayCome s c (Refused r) = IsRefusal (takes_memory c) (why_not s c) r
 
 -- ---- what a call leaves
@@ -157,13 +157,13 @@ trace_of s [] = []
 trace_of s (c ∷ cs) = steps_of s c.0 c.1 ++ trace_of (after_call s c.0 c.1) cs
 
 -- the groups that the calls closed
-abbrev pub group_of : Call → Result → List Group
-group_of (Close fits g full) Accepted = g ∷ []
-group_of c r = []
+abbrev pub groups_closed_by : Call → Result → List Group
+groups_closed_by (Close fits g full) Accepted = g ∷ []
+groups_closed_by c r = []
 
 abbrev pub groups_of : Run → List Group
 groups_of [] = []
-groups_of (c ∷ cs) = group_of c.0 c.1 ++ groups_of cs
+groups_of (c ∷ cs) = groups_closed_by c.0 c.1 ++ groups_of cs
 
 -- ---- what each call keeps of a state after the trace since the opening
 pub record IsKept (opening : Map) (steps : List Step) (s : State) : Type 0 where

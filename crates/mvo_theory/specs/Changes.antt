@@ -62,8 +62,8 @@ abbrev pub after_answer : State → ℕ → Op → AnswerData → State
 after_answer s t op a = taken_over (new_claim s t op a) (after_operation s t op a)
 
 -- ---- precommit, validation and commit
-abbrev pub without : ℕ → List ActiveTx → List ActiveTx
-without t rs = filter (λ r. not (r.id == t)) rs
+abbrev pub without_id : ℕ → List ActiveTx → List ActiveTx
+without_id t rs = filter (λ r. not (r.id == t)) rs
 
 abbrev pub to_stamped : ℕ → ActiveTx → StampedTx
 to_stamped e r = record {
@@ -83,7 +83,7 @@ to_stamped e r = record {
 abbrev pub after_prepare : State → ActiveTx → ℕ → State
 after_prepare s r e = record s {
   clock = e;
-  active = without r.id s.active;
+  active = without_id r.id s.active;
   stamped = s.stamped ++ to_stamped e r ∷ [];
 }
 
@@ -138,7 +138,7 @@ aborted_tx t ws = record { id = t; outcome = Aborted; words = ws }
 -- the Active transaction t is Aborted: none depends on it
 abbrev pub after_abort_of_active : State → ℕ → State
 after_abort_of_active s t = record s {
-  active = without t s.active;
+  active = without_id t s.active;
   ended = s.ended ++ aborted_tx t (words_now s t) ∷ [];
 }
 

@@ -28,3 +28,4 @@ pub mod Differences
 pub mod Justified
 pub mod Counted
 pub mod CauseLaws
+pub mod rests

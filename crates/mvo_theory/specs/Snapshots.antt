@@ -43,12 +43,12 @@ abbrev pub snapshot_of : Map → List Step → ℕ → Map
 snapshot_of opening steps t =
     after_history (history_of t steps) (rows_below t (ended_in steps) steps opening)
 
-abbrev pub ends : List StampedTx → List (ℕ × ℕ)
-ends xs = map (λ x. (x.end, x.id)) xs
+abbrev pub ends_with_ids : List StampedTx → List (ℕ × ℕ)
+ends_with_ids xs = map (λ x. (x.end, x.id)) xs
 
 -- those with an end in the state are those of the trace
 pub record HasEnds (steps : List Step) (s : State) : Type 0 where
-  pub ends : ended_in steps ≡ ends (timeline s)
+  pub ends : ended_in steps ≡ ends_with_ids (timeline s)
   pub alone :
       AllByRecursion (λ x. AllByRecursion (λ y. y.id ≡ x.id → y.end ≡ x.end) (timeline s))
       (timeline s)

@@ -13,15 +13,15 @@ use Rattle.mvo_theory.specs.Claims.{has_claim}
 use Rattle.mvo_types.specs.declared.entry.Entry.TheVariants.{Key, Range}
 
 -- one of these writes the key below the begin
-abbrev pub IsWritten : RowKey → ℕ → List StampedTx → Type 0
-IsWritten k b [] = ⊥
-IsWritten k b (x ∷ xs) = (is_writer k b x ≡ true) ⊎ IsWritten k b xs
+abbrev pub IsKeyWritten : RowKey → ℕ → List StampedTx → Type 0
+IsKeyWritten k b [] = ⊥
+IsKeyWritten k b (x ∷ xs) = (is_writer k b x ≡ true) ⊎ IsKeyWritten k b xs
 
 -- the key's last writer below the begin is settled, or is depended on
 abbrev pub IsDecided : RowKey → ℕ → List ℕ → List StampedTx → Type 0
 IsDecided k b ds [] = ⊤
 IsDecided k b ds (x ∷ xs) =
-    (x.settled ≡ false → is_writer k b x ≡ true → (has_end ds x.end ≡ true) ⊎ IsWritten k b xs)
+    (x.settled ≡ false → is_writer k b x ≡ true → (has_end ds x.end ≡ true) ⊎ IsKeyWritten k b xs)
     × IsDecided k b ds xs
 
 -- that of each key that counts for the entry

@@ -17,12 +17,12 @@ abbrev pub after_precommit : State → ℕ → State
 after_precommit s t = after_precommit_of s (active_of t s.active)
 
 -- whether no entry is left after the next check
-abbrev pub is_last_check : StampedTx → Bool
-is_last_check x = x.valid || nat_le (length (entries x.history)) (x.checked + 1)
+abbrev pub has_last_check : StampedTx → Bool
+has_last_check x = x.valid || nat_le (length (entries x.history)) (x.checked + 1)
 
 abbrev pub is_valid_at : Option StampedTx → Bool
 is_valid_at None = false
-is_valid_at (Some x) = is_last_check x
+is_valid_at (Some x) = has_last_check x
 
 -- whether the next check answers Valid
 abbrev pub is_valid_now : State → ℕ → Bool

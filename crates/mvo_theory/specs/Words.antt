@@ -41,15 +41,15 @@ abbrev pub words_of : History → List Claim → List Word
 words_of ts claims = words_behind [] claims ts
 
 -- how many they are: one for each Inserted or Deleted, two for each Updated
-abbrev pub words_in : Op → AnswerData → ℕ
-words_in (Insert r) Inserted = 1
-words_in (Update r) Updated = 2
-words_in (Delete k) Deleted = 1
-words_in op a = 0
+abbrev pub word_count_of : Op → AnswerData → ℕ
+word_count_of (Insert r) Inserted = 1
+word_count_of (Update r) Updated = 2
+word_count_of (Delete k) Deleted = 1
+word_count_of op a = 0
 
 abbrev pub word_count : History → ℕ
 word_count [] = 0
-word_count (t ∷ ts) = words_in t.0 t.1 + word_count ts
+word_count (t ∷ ts) = word_count_of t.0 t.1 + word_count ts
 
 -- those of the Active or Preparing transaction t
 abbrev pub words_held : Option ActiveTx → Option StampedTx → List Word
@@ -84,6 +84,6 @@ abbrev pub words_left : ℕ → EndedTx → List Word
 words_left t u = if u.id == t then drop 1 u.words else u.words
 
 -- no ended one has more words left than its operations wrote
-abbrev pub HasWords : List Step → State → Type 0
-HasWords steps s =
+abbrev pub HaveFewWords : List Step → State → Type 0
+HaveFewWords steps s =
     AllByRecursion (λ u. length u.words ≤ word_count (history_of u.id steps)) s.ended

@@ -3,6 +3,8 @@
 
 mod cause_laws;
 mod laws;
+pub mod rests;
 
 pub use cause_laws::laws_of_causes;
 pub use laws::laws_of_finishing;
+pub use rests::laws_of_rests;

@@ -10,9 +10,9 @@ use Rattle.std.specs.FinMap.{FinMap, get, remove, len, len-remove, empty_of_len,
 use Rattle.mvo_txn.specs.declared.mark.Kind.{Kind}
 use Rattle.mvo_txn.specs.declared.mark.Kind.TheVariants.{Begin, OpenEnd}
 use Rattle.mvo_txn.specs.declared.mark.Mark.{Mark}
-use Rattle.mvo_txn.specs.declared.seat.Seat.{Seat}
+use Rattle.mvo_txn.specs.declared.table_seat.TableSeat.{TableSeat}
 use Rattle.mvo_txn.specs.Seats.{SeatMap}
-use Rattle.mvo_txn.specs.Queue.{stamp_in, open_end, is_current, IsRising}
+use Rattle.mvo_txn.specs.Queue.{queue_stamp, open_end, is_current, HasRisingStamps}
 use Rattle.mvo_txn.proofs.Queues.{Stamps, same_some, current_if, rising_filtered}
 use Rattle.mvo_txn.proofs.Stamps.{get_left}
 
@@ -23,7 +23,7 @@ AllCount f m (x ∷ xs) = (f x.id ≡ Some x.stamp) × (is_some (get m x.id) ≡
 
 module _ {X : Type 0} where
   -- those behind the first are others
-  all_others : (f : Stamps) (m : FinMap nat_cmp X) (x : Mark) (low high : ℕ) (xs : List Mark) → f x.id ≡ Some x.stamp → x.stamp < low → IsRising low high xs → AllCount f m xs → AllCount f (remove m x.id) xs
+  all_others : (f : Stamps) (m : FinMap nat_cmp X) (x : Mark) (low high : ℕ) (xs : List Mark) → f x.id ≡ Some x.stamp → x.stamp < low → HasRisingStamps low high xs → AllCount f m xs → AllCount f (remove m x.id) xs
   all_others f m x low high [] here lt r h = tt
   all_others f m x low high (y ∷ ys) here lt r h =
       let other : y.id ≢ x.id = λ e. let same = same_some y.stamp x.stamp (sym h.0 ∙ ap f e ∙ here) in let le : low ≤ y.stamp = r.0 in omega (arith, same, le) in
@@ -34,7 +34,7 @@ module _ {X : Type 0} where
   some_held m k there = ⊎_elim (λ none. absurd (false≢true (sym (ap (λ n. is_some (get n k)) (empty_of_len m none) ∙ ap is_some (get-empty nat_cmp k)) ∙ there)))
       (λ some. let e = len-remove nat_cmp_total m k ∙ ap (λ b. cond b (len m - 1) (len m)) there in omega (arith, e, some)) (cases_eq (len m) 0)
 
-  all_few : (f : Stamps) (m : FinMap nat_cmp X) (low high : ℕ) (xs : List Mark) → IsRising low high xs → AllCount f m xs → length xs ≤ len m
+  all_few : (f : Stamps) (m : FinMap nat_cmp X) (low high : ℕ) (xs : List Mark) → HasRisingStamps low high xs → AllCount f m xs → length xs ≤ len m
   all_few f m low high [] r h = omega arith
   all_few f m low high (x ∷ xs) r h =
       let less : length xs ≤ len (remove m x.id) = all_few f (remove m x.id) (x.stamp + 1) high xs r.1 (all_others f m x (x.stamp + 1) high xs h.0 (omega arith) r.1 h.2) in
@@ -42,18 +42,18 @@ module _ {X : Type 0} where
       omega arith
 
 module _ {P : Type 0} where
-  seat_of : (kind : Kind) (m : SeatMap P) (id stamp : ℕ) (o : Option (Seat P)) → get m id ≡ o → stamp_in kind m id ≡ Some stamp → is_some o ≡ true
+  seat_of : (kind : Kind) (m : SeatMap P) (id stamp : ℕ) (o : Option (TableSeat P)) → get m id ≡ o → queue_stamp kind m id ≡ Some stamp → is_some o ≡ true
   seat_of kind m id stamp (Some s) there e = refl
   seat_of Begin m id stamp None there e = absurd (none-some stamp (sym (ap (option_map (λ _. id)) there) ∙ e))
   seat_of OpenEnd m id stamp None there e = absurd (none-some stamp (sym (ap (λ o. open_end (option_map (λ s. s.state) o)) there) ∙ e))
 
-  all_count : (kind : Kind) (m : SeatMap P) (xs : List Mark) → AllCount (stamp_in kind m) m (filter (is_current (stamp_in kind m)) xs)
+  all_count : (kind : Kind) (m : SeatMap P) (xs : List Mark) → AllCount (queue_stamp kind m) m (filter (is_current (queue_stamp kind m)) xs)
   all_count kind m [] = tt
   all_count kind m (x ∷ xs) =
-      elim (is_current (stamp_in kind m) x) as (λ b. is_current (stamp_in kind m) x ≡ b → AllCount (stamp_in kind m) m (cond b (x ∷ filter (is_current (stamp_in kind m)) xs) (filter (is_current (stamp_in kind m)) xs))) [
-        | true ↦ λ e. let is = current_if (stamp_in kind m) x e in (is, seat_of kind m x.id x.stamp (get m x.id) refl is, all_count kind m xs)
+      elim (is_current (queue_stamp kind m) x) as (λ b. is_current (queue_stamp kind m) x ≡ b → AllCount (queue_stamp kind m) m (cond b (x ∷ filter (is_current (queue_stamp kind m)) xs) (filter (is_current (queue_stamp kind m)) xs))) [
+        | true ↦ λ e. let is = current_if (queue_stamp kind m) x e in (is, seat_of kind m x.id x.stamp (get m x.id) refl is, all_count kind m xs)
         | false ↦ λ e. all_count kind m xs
       ] refl
 
-  pub few_current : (kind : Kind) (m : SeatMap P) (low high : ℕ) (xs : List Mark) → IsRising low high xs → length (filter (is_current (stamp_in kind m)) xs) ≤ len m
-  few_current kind m low high xs r = all_few (stamp_in kind m) m low high (filter (is_current (stamp_in kind m)) xs) (rising_filtered (is_current (stamp_in kind m)) low high xs r) (all_count kind m xs)
+  pub few_current : (kind : Kind) (m : SeatMap P) (low high : ℕ) (xs : List Mark) → HasRisingStamps low high xs → length (filter (is_current (queue_stamp kind m)) xs) ≤ len m
+  few_current kind m low high xs r = all_few (queue_stamp kind m) m low high (filter (is_current (queue_stamp kind m)) xs) (rising_filtered (is_current (queue_stamp kind m)) low high xs r) (all_count kind m xs)

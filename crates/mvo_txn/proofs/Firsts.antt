@@ -7,10 +7,10 @@ use Rattle.std.specs.FinMap.{get}
 use Rattle.mvo_txn.specs.declared.mark.Kind.TheVariants.{Begin, OpenEnd}
 use Rattle.mvo_txn.specs.declared.mark.Mark.{Mark}
 use Rattle.mvo_txn.specs.declared.queue.Queue.{Queue}
-use Rattle.mvo_txn.specs.declared.seat.Seat.{Seat}
+use Rattle.mvo_txn.specs.declared.table_seat.TableSeat.{TableSeat}
 use Rattle.mvo_txn.specs.Seats.{SeatMap}
-use Rattle.mvo_txn.specs.Queue.{stamp_in, first_stamp, IsQueue}
-use Rattle.mvo_txn.specs.Sound.{IsQueueOf, IsSound}
+use Rattle.mvo_txn.specs.Queue.{queue_stamp, first_stamp, IsQueue}
+use Rattle.mvo_txn.specs.Sound.{IsQueueOf, AreSeatsSound}
 use Rattle.mvo_txn.specs.Txns.{HasOpenEnd, IsOldestBegin, IsLowWater, IsTable}
 use Rattle.mvo_txn.proofs.Queues.{Stamps, same_some, listed_above, listed_below}
 use Rattle.mvo_txn.proofs.Stamps.{begin_is_id}
@@ -40,47 +40,47 @@ between f clock id stamp ms q h =
     (omega arith, omega arith)
 
 module _ {P : Type 0} where
-  begin_of : (o : Option (Seat P)) (k : ℕ) → IsSome o → option_map (λ _. k) o ≡ Some k
+  begin_of : (o : Option (TableSeat P)) (k : ℕ) → IsSome o → option_map (λ _. k) o ≡ Some k
   begin_of None k h = absurd (false≢true h)
   begin_of (Some s) k h = refl
 
-  some_begin : (o : Option (Seat P)) (k n : ℕ) → option_map (λ _. k) o ≡ Some n → IsSome o
+  some_begin : (o : Option (TableSeat P)) (k n : ℕ) → option_map (λ _. k) o ≡ Some n → IsSome o
   some_begin None k n e = absurd (none-some n e)
   some_begin (Some s) k n e = refl
 
   pub oldest_some : (clock : ℕ) (m : SeatMap P) (q : Queue) (n : ℕ) → IsQueueOf Begin clock m q → Some n ≡ first_stamp q.marks.items → IsOldestBegin (record { clock = clock; seats = m }) n
   oldest_some clock m q n is e =
-      let first = first_counts (stamp_in Begin m) (clock + 1) n q.marks.items is.queue (sym e) in
+      let first = first_counts (queue_stamp Begin m) (clock + 1) n q.marks.items is.queue (sym e) in
       inl (
         subst (λ k. IsSome (get m k)) (begin_is_id m first.0 n first.1) (some_begin (get m first.0) first.0 n first.1),
-        λ k h. first_least (stamp_in Begin m) (clock + 1) n k k q.marks.items is.queue (sym e) (begin_of (get m k) k h),
+        λ k h. first_least (queue_stamp Begin m) (clock + 1) n k k q.marks.items is.queue (sym e) (begin_of (get m k) k h),
       )
 
   pub oldest_none : (clock : ℕ) (m : SeatMap P) (q : Queue) → IsQueueOf Begin clock m q → None ≡ first_stamp q.marks.items → IsOldestBegin (record { clock = clock; seats = m }) clock
   oldest_none clock m q is e =
-      inr (λ k h. none_counts (stamp_in Begin m) (clock + 1) k k q.marks.items is.queue (sym e) (begin_of (get m k) k h), refl)
+      inr (λ k h. none_counts (queue_stamp Begin m) (clock + 1) k k q.marks.items is.queue (sym e) (begin_of (get m k) k h), refl)
 
   pub low_some : (clock : ℕ) (m : SeatMap P) (q : Queue) (n : ℕ) → IsQueueOf OpenEnd clock m q → Some n ≡ first_stamp q.marks.items → 0 < n × IsLowWater (record { clock = clock; seats = m }) (n - 1)
   low_some clock m q n is e =
-      let first = first_counts (stamp_in OpenEnd m) (clock + 1) n q.marks.items is.queue (sym e) in
+      let first = first_counts (queue_stamp OpenEnd m) (clock + 1) n q.marks.items is.queue (sym e) in
       let above : 1 ≤ n = listed_above 1 (clock + 1) first.0 n q.marks.items is.queue.listing.rising (is.queue.listing.complete first.0 n first.1) in
       let back : n ≡ n - 1 + 1 = omega arith in (
         omega arith,
         inl (
           subst (HasOpenEnd (record { clock = clock; seats = m })) back first,
-          λ k h. subst (λ l. l ≤ k) back (first_least (stamp_in OpenEnd m) (clock + 1) n h.0 k q.marks.items is.queue (sym e) h.1),
+          λ k h. subst (λ l. l ≤ k) back (first_least (queue_stamp OpenEnd m) (clock + 1) n h.0 k q.marks.items is.queue (sym e) h.1),
         ),
       )
 
   pub low_none : (clock : ℕ) (m : SeatMap P) (q : Queue) → IsQueueOf OpenEnd clock m q → None ≡ first_stamp q.marks.items → IsLowWater (record { clock = clock; seats = m }) clock
   low_none clock m q is e =
-      inr (λ k h. none_counts (stamp_in OpenEnd m) (clock + 1) h.0 k q.marks.items is.queue (sym e) h.1, refl)
+      inr (λ k h. none_counts (queue_stamp OpenEnd m) (clock + 1) h.0 k q.marks.items is.queue (sym e) h.1, refl)
 
   -- ---- what always holds
-  pub sound_table : (clock : ℕ) (m : SeatMap P) (b e : Queue) → IsSound clock m b e → IsTable (record { clock = clock; seats = m })
+  pub sound_table : (clock : ℕ) (m : SeatMap P) (b e : Queue) → AreSeatsSound clock m b e → IsTable (record { clock = clock; seats = m })
   sound_table clock m b e s = record {
     stamped = s.stamped;
     few = s.few;
-    begins = λ k h. between (stamp_in Begin m) clock k k b.marks.items s.begins_are.queue (begin_of (get m k) k h);
-    open_ends = λ k h. between (stamp_in OpenEnd m) clock h.0 k e.marks.items s.open_ends_are.queue h.1;
+    begins = λ k h. between (queue_stamp Begin m) clock k k b.marks.items s.begins_are.queue (begin_of (get m k) k h);
+    open_ends = λ k h. between (queue_stamp OpenEnd m) clock h.0 k e.marks.items s.open_ends_are.queue h.1;
   }

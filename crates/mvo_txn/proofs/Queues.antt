@@ -5,7 +5,7 @@ use Rattle.std.proofs.lemmas.Option.{none-some}
 use Rattle.std.specs.Option.{unwrap_or, option_eq}
 use Rattle.std.specs.List.{filter}
 use Rattle.mvo_txn.specs.declared.mark.Mark.{Mark}
-use Rattle.mvo_txn.specs.Queue.{IsRising, IsListed, IsCurrent, IsListing, IsQueue, is_current}
+use Rattle.mvo_txn.specs.Queue.{HasRisingStamps, IsListed, IsCurrent, IsListing, IsQueue, is_current}
 
 abbrev pub Stamps : Type 0
 Stamps = ℕ → Option ℕ
@@ -14,41 +14,41 @@ pub same_some : (a b : ℕ) → Some a ≡ Some b → a ≡ b
 same_some a b e = ap (λ o. unwrap_or o a) e
 
 -- ---- rising timestamps
-pub rising_higher : (low high higher : ℕ) (ms : List Mark) → high ≤ higher → IsRising low high ms → IsRising low higher ms
+pub rising_higher : (low high higher : ℕ) (ms : List Mark) → high ≤ higher → HasRisingStamps low high ms → HasRisingStamps low higher ms
 rising_higher low high higher [] le r = omega arith
 rising_higher low high higher (m ∷ ms) le r = (r.0, rising_higher (m.stamp + 1) high higher ms le r.1)
 
-rising_lower : (lower low high : ℕ) (ms : List Mark) → lower ≤ low → IsRising low high ms → IsRising lower high ms
+rising_lower : (lower low high : ℕ) (ms : List Mark) → lower ≤ low → HasRisingStamps low high ms → HasRisingStamps lower high ms
 rising_lower lower low high [] le r = omega arith
 rising_lower lower low high (m ∷ ms) le r = let at : low ≤ m.stamp = r.0 in (omega arith, r.1)
 
-rising_behind : (low high higher : ℕ) (ms : List Mark) (m : Mark) → high ≤ m.stamp → m.stamp < higher → IsRising low high ms → IsRising low higher (ms ++ m ∷ [])
+rising_behind : (low high higher : ℕ) (ms : List Mark) (m : Mark) → high ≤ m.stamp → m.stamp < higher → HasRisingStamps low high ms → HasRisingStamps low higher (ms ++ m ∷ [])
 rising_behind low high higher [] m at lt r = (omega arith, omega arith)
 rising_behind low high higher (n ∷ ms) m at lt r = (r.0, rising_behind (n.stamp + 1) high higher ms m at lt r.1)
 
-rising_rest : (low high : ℕ) (m : Mark) (ms : List Mark) → IsRising low high (m ∷ ms) → IsRising low high ms
+rising_rest : (low high : ℕ) (m : Mark) (ms : List Mark) → HasRisingStamps low high (m ∷ ms) → HasRisingStamps low high ms
 rising_rest low high m ms r = let at : low ≤ m.stamp = r.0 in rising_lower low (m.stamp + 1) high ms (omega arith) r.1
 
-pub rising_filtered : (p : Mark → Bool) (low high : ℕ) (ms : List Mark) → IsRising low high ms → IsRising low high (filter p ms)
+pub rising_filtered : (p : Mark → Bool) (low high : ℕ) (ms : List Mark) → HasRisingStamps low high ms → HasRisingStamps low high (filter p ms)
 rising_filtered p low high [] r = r
 rising_filtered p low high (m ∷ ms) r =
-    elim (p m) as (λ b. IsRising low high (cond b (m ∷ filter p ms) (filter p ms))) [
+    elim (p m) as (λ b. HasRisingStamps low high (cond b (m ∷ filter p ms) (filter p ms))) [
       | true ↦ (r.0, rising_filtered p (m.stamp + 1) high ms r.1)
       | false ↦ rising_filtered p low high ms (rising_rest low high m ms r)
     ]
 
 -- a listed timestamp lies between
-pub listed_above : (low high id stamp : ℕ) (ms : List Mark) → IsRising low high ms → IsListed id stamp ms → low ≤ stamp
+pub listed_above : (low high id stamp : ℕ) (ms : List Mark) → HasRisingStamps low high ms → IsListed id stamp ms → low ≤ stamp
 listed_above low high id stamp [] r h = absurd h
 listed_above low high id stamp (m ∷ ms) r h =
     let at : low ≤ m.stamp = r.0 in
     ⊎_elim (λ same. let is : m.stamp ≡ stamp = same.1 in omega arith) (λ later. let le : m.stamp + 1 ≤ stamp = listed_above (m.stamp + 1) high id stamp ms r.1 later in omega arith) h
 
-rising_ends : (low high : ℕ) (ms : List Mark) → IsRising low high ms → low ≤ high
+rising_ends : (low high : ℕ) (ms : List Mark) → HasRisingStamps low high ms → low ≤ high
 rising_ends low high [] r = r
 rising_ends low high (m ∷ ms) r = let at : low ≤ m.stamp = r.0 in let le : m.stamp + 1 ≤ high = rising_ends (m.stamp + 1) high ms r.1 in omega arith
 
-pub listed_below : (low high id stamp : ℕ) (ms : List Mark) → IsRising low high ms → IsListed id stamp ms → stamp < high
+pub listed_below : (low high id stamp : ℕ) (ms : List Mark) → HasRisingStamps low high ms → IsListed id stamp ms → stamp < high
 listed_below low high id stamp [] r h = absurd h
 listed_below low high id stamp (m ∷ ms) r h =
     ⊎_elim (λ same. let is : m.stamp ≡ stamp = same.1 in let le : m.stamp + 1 ≤ high = rising_ends (m.stamp + 1) high ms r.1 in omega arith)

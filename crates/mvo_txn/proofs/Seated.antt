@@ -10,7 +10,7 @@ use Rattle.mvo_types.specs.declared.ids.Stamp.{Stamp}
 use Rattle.mvo_types.specs.declared.limits.TheConstants.{MAX_UNFINISHED}
 use Rattle.slab.specs.Slab.{Slab, get, with_value, slab_len, HasRoomFor, Updates}
 use Rattle.mvo_txn.specs.declared.chair.Chair.{Chair}
-use Rattle.mvo_txn.specs.declared.seat.Seat.{Seat}
+use Rattle.mvo_txn.specs.declared.table_seat.TableSeat.{TableSeat}
 use Rattle.mvo_txn.specs.declared.directory.Directory.{Directory}
 use Rattle.mvo_txn.specs.declared.state.TxState.{TxState}
 use Rattle.mvo_txn.specs.declared.state.TxState.TheVariants.{Active, Preparing, Committed, Aborted}
@@ -59,14 +59,14 @@ module _ {P : Type 0} where
   pub alike : (d d' : Directory) (s : Slab (Chair P)) → KnowsAlike d d' → AreSeats d s → AreSeats d' s
   alike d d' s same are = record { directory = directory_alike d d' s same are.directory; room = are.room }
 
-  pub put_seats : (d d' : Directory) (s s' : Slab (Chair P)) (m : SeatMap P) (n id : ℕ) (seat : Seat P) → AreSeats d s → seat_map s ≡ m → map.get m id ≡ None
+  pub put_seats : (d d' : Directory) (s s' : Slab (Chair P)) (m : SeatMap P) (n id : ℕ) (seat : TableSeat P) → AreSeats d s → seat_map s ≡ m → map.get m id ≡ None
       → Notes d d' s id n → Updates s s' n (Some (record { id = id; seat = seat })) → s'.capacity ≡ s.capacity → AreSeats d' s'
   put_seats d d' s s' m n id seat are view none notes put same = record {
     directory = directory_put d d' s s' n id (record { id = id; seat = seat }) put.changed refl put.others (nobody d s m id are view none) notes are.directory;
     room = subst (λ k. MAX_UNFINISHED ≤ k) (sym same) are.room;
   }
 
-  pub put_map : (d d' : Directory) (s s' : Slab (Chair P)) (m : SeatMap P) (n id : ℕ) (seat : Seat P) → AreSeats d s → AreSeats d' s' → seat_map s ≡ m → get s n ≡ None
+  pub put_map : (d d' : Directory) (s s' : Slab (Chair P)) (m : SeatMap P) (n id : ℕ) (seat : TableSeat P) → AreSeats d s → AreSeats d' s' → seat_map s ≡ m → get s n ≡ None
       → Updates s s' n (Some (record { id = id; seat = seat })) → seat_map s' ≡ map.insert m id seat
   put_map d d' s s' m n id seat are are' view free put =
       one_put (seats_of s.slots) (seats_of s'.slots) id seat
@@ -85,17 +85,17 @@ module _ {P : Type 0} where
       ∙ ap (λ x. map.remove x id) view
 
   -- a chair is given another seat
-  abbrev pub with_seat : Slab (Chair P) → ℕ → Chair P → Seat P → Slab (Chair P)
+  abbrev pub with_seat : Slab (Chair P) → ℕ → Chair P → TableSeat P → Slab (Chair P)
   with_seat s n c seat = with_value s n (record c { seat = seat })
 
-  pub written_seats : (d : Directory) (s : Slab (Chair P)) (n : ℕ) (c : Chair P) (seat : Seat P) → AreSeats d s → get s n ≡ Some c → AreSeats d (with_seat s n c seat)
+  pub written_seats : (d : Directory) (s : Slab (Chair P)) (n : ℕ) (c : Chair P) (seat : TableSeat P) → AreSeats d s → get s n ≡ Some c → AreSeats d (with_seat s n c seat)
   written_seats d s n c seat are here = record {
     directory = directory_written d s (with_seat s n c seat) n c (record c { seat = seat }) here (at_set s.slots n c (Some (record c { seat = seat })) here) refl
         (λ m ne. at_others s.slots n (Some (record c { seat = seat })) m ne) are.directory;
     room = are.room;
   }
 
-  pub written_map : (d : Directory) (s : Slab (Chair P)) (m : SeatMap P) (n id : ℕ) (c : Chair P) (seat : Seat P) → AreSeats d s → seat_map s ≡ m → get s n ≡ Some c → is_of (get s n) id ≡ true
+  pub written_map : (d : Directory) (s : Slab (Chair P)) (m : SeatMap P) (n id : ℕ) (c : Chair P) (seat : TableSeat P) → AreSeats d s → seat_map s ≡ m → get s n ≡ Some c → is_of (get s n) id ≡ true
       → seat_map (with_seat s n c seat) ≡ map.insert m id seat
   written_map d s m n id c seat are view here is =
       one_put (seats_of s.slots) (seats_of (with_seat s n c seat).slots) id seat
@@ -119,9 +119,9 @@ put_twice m id a b = map.same_map nat_cmp_total map.nat_cmp-IsAntisymmetric (map
     (λ ne. get_beside (map.insert m id a) id b q ne ∙ get_beside m id a q ne ∙ sym (get_beside m id b q ne)) (cases_eq q id))
 
 -- one that has another state, and of which this is kept
-pub restated : {P : Type 0} (m : SeatMap P) (id : ℕ) (state : TxState) (old : Seat P) (kept : P) → map.get m id ≡ Some old → map.insert m id (record { state = state; kept = kept }) ≡ with_kept (with_state m id state) id kept
+pub restated : {P : Type 0} (m : SeatMap P) (id : ℕ) (state : TxState) (old : TableSeat P) (kept : P) → map.get m id ≡ Some old → map.insert m id (record { state = state; kept = kept }) ≡ with_kept (with_state m id state) id kept
 restated {P} m id state old kept there =
-    let stood : Seat P = record old { state = state } in
+    let stood : TableSeat P = record old { state = state } in
     sym (ap (λ o. with_kept (with_state_at o m id state) id kept) there
     ∙ ap (λ o. with_kept_at o (map.insert m id stood) id kept) (get_inserted m id stood) ∙ put_twice m id stood (record { state = state; kept = kept }))
 

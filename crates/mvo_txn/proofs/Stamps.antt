@@ -9,9 +9,9 @@ use Rattle.std.specs.Ordering.{nat_cmp, eq_by_cmp}
 use Rattle.std.specs.FinMap.{FinMap, get, insert, remove, len, contains_key, get-insert, get-remove, len-insert, len-remove}
 use Rattle.mvo_txn.specs.declared.mark.Kind.{Kind}
 use Rattle.mvo_txn.specs.declared.mark.Kind.TheVariants.{Begin, OpenEnd}
-use Rattle.mvo_txn.specs.declared.seat.Seat.{Seat}
+use Rattle.mvo_txn.specs.declared.table_seat.TableSeat.{TableSeat}
 use Rattle.mvo_txn.specs.Seats.{SeatMap}
-use Rattle.mvo_txn.specs.Queue.{stamp_in, open_end}
+use Rattle.mvo_txn.specs.Queue.{queue_stamp, open_end}
 
 tied : (a b : ℕ) → a ≡ b → eq_by_cmp nat_cmp a b ≡ true
 tied a b e = unsigned_tied a b ∙ eq-eqb a b e
@@ -52,20 +52,20 @@ module _ {X : Type 0} where
 
 module _ {P : Type 0} where
   -- ---- an id with its begin is its own
-  begin_at : (o : Option (Seat P)) (id stamp : ℕ) → option_map (λ _. id) o ≡ Some stamp → id ≡ stamp
+  begin_at : (o : Option (TableSeat P)) (id stamp : ℕ) → option_map (λ _. id) o ≡ Some stamp → id ≡ stamp
   begin_at None id stamp e = absurd (none-some stamp e)
   begin_at (Some s) id stamp e = ap (λ o. Rattle.std.specs.Option.unwrap_or o id) e
 
-  pub begin_is_id : (m : SeatMap P) (id stamp : ℕ) → stamp_in Begin m id ≡ Some stamp → id ≡ stamp
+  pub begin_is_id : (m : SeatMap P) (id stamp : ℕ) → queue_stamp Begin m id ≡ Some stamp → id ≡ stamp
   begin_is_id m id stamp e = begin_at (get m id) id stamp e
 
   -- ---- stamps that a change leaves
-  pub same_beside : (kind : Kind) (m n : SeatMap P) (q : ℕ) → get n q ≡ get m q → stamp_in kind n q ≡ stamp_in kind m q
+  pub same_beside : (kind : Kind) (m n : SeatMap P) (q : ℕ) → get n q ≡ get m q → queue_stamp kind n q ≡ queue_stamp kind m q
   same_beside Begin m n q e = ap (option_map (λ _. q)) e
   same_beside OpenEnd m n q e = ap (λ o. open_end (option_map (λ s. s.state) o)) e
 
   -- the seats with another at an id that has one
-  pub same_begins : (m : SeatMap P) (id : ℕ) (old new : Seat P) → get m id ≡ Some old → (q : ℕ) → stamp_in Begin (insert m id new) q ≡ stamp_in Begin m q
+  pub same_begins : (m : SeatMap P) (id : ℕ) (old new : TableSeat P) → get m id ≡ Some old → (q : ℕ) → queue_stamp Begin (insert m id new) q ≡ queue_stamp Begin m q
   same_begins m id old new there q =
       ⊎_elim
       (λ is. ap (λ i. option_map (λ _. q) (get (insert m id new) i)) is ∙ ap (option_map (λ _. q)) (get_inserted m id new) ∙ sym (ap (λ i. option_map (λ _. q) (get m i)) is ∙ ap (option_map (λ _. q)) there))
@@ -73,9 +73,9 @@ module _ {P : Type 0} where
       (cases_eq q id)
 
   -- the seats with another at an id, whose end is open or not as before
-  pub same_ends : (m : SeatMap P) (id : ℕ) (new : Seat P) → open_end (Some new.state) ≡ stamp_in OpenEnd m id → (q : ℕ) → stamp_in OpenEnd (insert m id new) q ≡ stamp_in OpenEnd m q
+  pub same_ends : (m : SeatMap P) (id : ℕ) (new : TableSeat P) → open_end (Some new.state) ≡ queue_stamp OpenEnd m id → (q : ℕ) → queue_stamp OpenEnd (insert m id new) q ≡ queue_stamp OpenEnd m q
   same_ends m id new same q =
       ⊎_elim
-      (λ is. ap (stamp_in OpenEnd (insert m id new)) is ∙ ap (λ o. open_end (option_map (λ s. s.state) o)) (get_inserted m id new) ∙ same ∙ sym (ap (stamp_in OpenEnd m) is))
+      (λ is. ap (queue_stamp OpenEnd (insert m id new)) is ∙ ap (λ o. open_end (option_map (λ s. s.state) o)) (get_inserted m id new) ∙ same ∙ sym (ap (queue_stamp OpenEnd m) is))
       (λ ne. same_beside OpenEnd m (insert m id new) q (get_beside m id new q ne))
       (cases_eq q id)

@@ -4,11 +4,11 @@ use Rattle.mvo_types.specs.declared.limits.TheConstants.{MAX_UNFINISHED}
 use Rattle.slab.specs.Slab.{Slab}
 use Rattle.mvo_txn.specs.declared.directory.Directory.{Directory}
 use Rattle.mvo_txn.specs.declared.chair.Chair.{Chair}
-use Rattle.mvo_txn.specs.declared.seat.Seat.{Seat}
+use Rattle.mvo_txn.specs.declared.table_seat.TableSeat.{TableSeat}
 use Rattle.mvo_txn.specs.Directory.{IsDirectory}
 
 -- the seats with their ids
-abbrev pub seats_of : {P : Type 0} → List (Option (Chair P)) → List (ℕ × Seat P)
+abbrev pub seats_of : {P : Type 0} → List (Option (Chair P)) → List (ℕ × TableSeat P)
 seats_of [] = []
 seats_of (None ∷ chairs) = seats_of chairs
 seats_of (Some chair ∷ chairs) = (chair.id, chair.seat) ∷ seats_of chairs

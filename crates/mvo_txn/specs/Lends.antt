@@ -6,7 +6,7 @@ use Rattle.mvo_types.specs.declared.refusal.Refusal.{Refusal}
 use Rattle.mvo_txn.specs.declared.state.TxState.{TxState}
 use Rattle.mvo_txn.specs.declared.state.TxState.TheVariants.{Committed}
 use Rattle.mvo_txn.specs.Seats.{SeatMap, with_state, with_kept}
-use Rattle.mvo_txn.specs.Txns.{Txns, after_prepare, after_change, after_write}
+use Rattle.mvo_txn.specs.Txns.{Txns, table_after_prepare, table_after_change, table_after_write}
 use Rattle.mvo_txn.specs.contracts.seats.Seats.{the_row as seats_row}
 use Rattle.mvo_txn.specs.contracts.table.TxnTable.{the_row as table_row}
 
@@ -16,7 +16,7 @@ abbrev pub LendsKeptOfSeats : (T : RattleType)
 LendsKeptOfSeats T m id r = LendsIf (seats_row T) T m r (with_kept m.now id) m.now
 
 abbrev pub LendsKept : (T : RattleType) → MutBor (Txns T.Denot) → ℕ → Option (MutBor T.Denot) → Fml
-LendsKept T t id r = LendsIf (table_row T) T t r (after_write t.now id) t.now
+LendsKept T t id r = LendsIf (table_row T) T t r (table_after_write t.now id) t.now
 
 -- it has this state, and what was last written is kept of it
 abbrev pub LendsRestated : (T : RattleType)
@@ -33,10 +33,10 @@ LendsSettled T m id r =
 abbrev pub LendsPrepared : (T : RattleType)
     → MutBor (Txns T.Denot) → ℕ → Result (MutBor T.Denot) Refusal → Fml
 LendsPrepared T t id r =
-    LendsIfOk (table_row T) T t r (after_write (after_prepare t.now id) id) t.now
+    LendsIfOk (table_row T) T t r (table_after_write (table_after_prepare t.now id) id) t.now
 
 -- it is Committed with this end, and what was last written is kept of it
 abbrev pub LendsCommitted : (T : RattleType)
     → MutBor (Txns T.Denot) → ℕ → Stamp × MutBor T.Denot → Fml
 LendsCommitted T t id r =
-    Lends (table_row T) T t r.1 (after_write (after_change t.now id (Committed r.0)) id)
+    Lends (table_row T) T t r.1 (table_after_write (table_after_change t.now id (Committed r.0)) id)

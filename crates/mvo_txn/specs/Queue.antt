@@ -18,9 +18,9 @@ open_end (Some (Committed end)) = None
 open_end (Some Aborted) = None
 
 -- the timestamp of a transaction that counts
-abbrev pub stamp_in : {P : Type 0} → Kind → SeatMap P → ℕ → Option ℕ
-stamp_in Begin m id = option_map (λ _. id) (map.get m id)
-stamp_in OpenEnd m id = open_end (state_in m id)
+abbrev pub queue_stamp : {P : Type 0} → Kind → SeatMap P → ℕ → Option ℕ
+queue_stamp Begin m id = option_map (λ _. id) (map.get m id)
+queue_stamp OpenEnd m id = open_end (state_in m id)
 
 -- the same, where one transaction doesn't count
 abbrev pub stamp_without : ℕ → (ℕ → Option ℕ) → ℕ → Option ℕ
@@ -35,9 +35,9 @@ first_stamp [] = None
 first_stamp (m ∷ ms) = Some m.stamp
 
 -- the timestamps rise, from the first number on and below the second
-abbrev pub IsRising : ℕ → ℕ → List Mark → Type 0
-IsRising low high [] = low ≤ high
-IsRising low high (m ∷ ms) = (low ≤ m.stamp) × IsRising (m.stamp + 1) high ms
+abbrev pub HasRisingStamps : ℕ → ℕ → List Mark → Type 0
+HasRisingStamps low high [] = low ≤ high
+HasRisingStamps low high (m ∷ ms) = (low ≤ m.stamp) × HasRisingStamps (m.stamp + 1) high ms
 
 -- the transaction stands in the queue with this timestamp
 abbrev pub IsListed : ℕ → ℕ → List Mark → Type 0
@@ -50,7 +50,7 @@ IsCurrent stamp_of (m ∷ ms) = stamp_of m.id ≡ Some m.stamp
 
 -- the timestamps rise from 1 on, and each transaction that counts is there
 pub record IsListing (stamp_of : ℕ → Option ℕ) (high : ℕ) (ms : List Mark) : Type 0 where
-  pub rising : IsRising 1 high ms
+  pub rising : HasRisingStamps 1 high ms
   pub complete : (id stamp : ℕ) → stamp_of id ≡ Some stamp → IsListed id stamp ms
 
 -- the same, and the first counts
@@ -63,8 +63,8 @@ abbrev pub with_mark : List Mark → ℕ → ℕ → List Mark
 with_mark ms stamp id = ms ++ record { stamp = stamp; id = id } ∷ []
 
 -- one that was a queue still is
-abbrev pub Keeps : (ℕ → Option ℕ) → List Mark → List Mark → Type 0
-Keeps stamp_of old new = (high : ℕ) → IsQueue stamp_of high old → IsQueue stamp_of high new
+abbrev pub StaysQueue : (ℕ → Option ℕ) → List Mark → List Mark → Type 0
+StaysQueue stamp_of old new = (high : ℕ) → IsQueue stamp_of high old → IsQueue stamp_of high new
 
 -- one whose first need not have counted is a queue
 abbrev pub Trims : (ℕ → Option ℕ) → List Mark → List Mark → Type 0

@@ -6,11 +6,11 @@ use Rattle.std.specs.Coded.{Coded, code_by, coded×, coded_ℕ}
 use Rattle.std.specs.FinMap as map
 use Rattle.mvo_txn.specs.declared.state.TxState.{TxState}
 use Rattle.mvo_txn.specs.declared.state.TxState.TheVariants.{Active, Preparing, Committed, Aborted}
-use Rattle.mvo_txn.specs.declared.seat.Seat.{Seat}
+use Rattle.mvo_txn.specs.declared.table_seat.TableSeat.{TableSeat}
 
 -- a finite map from ids to what is held
 abbrev pub SeatMap : Type 0 → Type 0
-SeatMap P = map.FinMap nat_cmp (Seat P)
+SeatMap P = map.FinMap nat_cmp (TableSeat P)
 
 -- a state as how it stands, and the end timestamp
 abbrev pub state_pair : TxState → ℕ × ℕ
@@ -35,7 +35,7 @@ abbrev pub coded_state : Coded TxState
 coded_state =
     code_by (ℕ × ℕ) (coded× coded_ℕ coded_ℕ) state_pair (λ p. state_of_pair p.0 p.1) state_back
 
-abbrev pub coded_seat : {P : Type 0} → Coded P → Coded (Seat P)
+abbrev pub coded_seat : {P : Type 0} → Coded P → Coded (TableSeat P)
 coded_seat {P} c =
     code_by (TxState × P) (coded× coded_state c)
     (λ s. (s.state, s.kept)) (λ p. record { state = p.0; kept = p.1 }) (λ _. refl)
@@ -51,7 +51,7 @@ state_in m id = option_map (λ seat. seat.state) (map.get m id)
 abbrev pub kept_in : {P : Type 0} → SeatMap P → ℕ → Option P
 kept_in m id = option_map (λ seat. seat.kept) (map.get m id)
 
-abbrev pub with_state_at : {P : Type 0} → Option (Seat P) → SeatMap P → ℕ → TxState → SeatMap P
+abbrev pub with_state_at : {P : Type 0} → Option (TableSeat P) → SeatMap P → ℕ → TxState → SeatMap P
 with_state_at None m id state = m
 with_state_at (Some seat) m id state = map.insert m id (record seat { state = state })
 
@@ -59,7 +59,7 @@ with_state_at (Some seat) m id state = map.insert m id (record seat { state = st
 abbrev pub with_state : {P : Type 0} → SeatMap P → ℕ → TxState → SeatMap P
 with_state m id state = with_state_at (map.get m id) m id state
 
-abbrev pub with_kept_at : {P : Type 0} → Option (Seat P) → SeatMap P → ℕ → P → SeatMap P
+abbrev pub with_kept_at : {P : Type 0} → Option (TableSeat P) → SeatMap P → ℕ → P → SeatMap P
 with_kept_at None m id kept = m
 with_kept_at (Some seat) m id kept = map.insert m id (record seat { kept = kept })
 

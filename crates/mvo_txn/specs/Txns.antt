@@ -33,8 +33,8 @@ abbrev pub kept_of : {P : Type 0} → Txns P → ℕ → Option P
 kept_of t id = kept_in t.seats id
 
 -- ---- how one stands
-abbrev pub IsPreparing : Option TxState → Type 0
-IsPreparing state = IsSome (open_end state)
+abbrev pub IsPreparingState : Option TxState → Type 0
+IsPreparingState state = IsSome (open_end state)
 
 -- Active or Preparing
 abbrev pub IsUnended : Option TxState → Type 0
@@ -54,26 +54,26 @@ IsEnded (Some Aborted) = Unit {0}
 
 -- ---- what calls leave
 -- a transaction begins, and this is kept of it
-abbrev pub after_begin : {P : Type 0} → Txns P → P → Txns P
-after_begin t kept = record {
+abbrev pub table_after_begin : {P : Type 0} → Txns P → P → Txns P
+table_after_begin t kept = record {
   clock = t.clock + 1;
   seats = map.insert t.seats (t.clock + 1) (record { state = Active; kept = kept });
 }
 
 -- it draws its end
-abbrev pub after_prepare : {P : Type 0} → Txns P → ℕ → Txns P
-after_prepare t id = record {
+abbrev pub table_after_prepare : {P : Type 0} → Txns P → ℕ → Txns P
+table_after_prepare t id = record {
   clock = t.clock + 1;
   seats = with_state t.seats id (Preparing (record { 0 = t.clock + 1 }));
 }
 
 -- it stands so
-abbrev pub after_change : {P : Type 0} → Txns P → ℕ → TxState → Txns P
-after_change t id state = record t { seats = with_state t.seats id state }
+abbrev pub table_after_change : {P : Type 0} → Txns P → ℕ → TxState → Txns P
+table_after_change t id state = record t { seats = with_state t.seats id state }
 
 -- this is kept of it
-abbrev pub after_write : {P : Type 0} → Txns P → ℕ → P → Txns P
-after_write t id kept = record t { seats = with_kept t.seats id kept }
+abbrev pub table_after_write : {P : Type 0} → Txns P → ℕ → P → Txns P
+table_after_write t id kept = record t { seats = with_kept t.seats id kept }
 
 -- it leaves
 abbrev pub after_terminate : {P : Type 0} → Txns P → ℕ → Txns P
@@ -89,9 +89,9 @@ why_not_begun t =
     if nat_le MAX_UNFINISHED (map.len t.seats) then Some TableFull else spent_clock t.clock
 
 -- the refusal that has a cause, and out of memory where none has
-abbrev pub IsRefusal : Option Refusal → Refusal → Type 0
-IsRefusal (Some why) refusal = refusal ≡ why
-IsRefusal None refusal = refusal ≡ OutOfMemory
+abbrev pub IsTableRefusal : Option Refusal → Refusal → Type 0
+IsTableRefusal (Some why) refusal = refusal ≡ why
+IsTableRefusal None refusal = refusal ≡ OutOfMemory
 
 -- ---- oldest begin and low-water
 -- the least of the numbers that are so

@@ -1,8 +1,8 @@
-use crate::seat::Seat;
+use crate::table_seat::TableSeat;
 
 /// A seat with the id of the transaction that has it.
 #[derive(Drop)]
 pub(crate) struct Chair<P> {
     pub(crate) id: u64,
-    pub(crate) seat: Seat<P>,
+    pub(crate) seat: TableSeat<P>,
 }

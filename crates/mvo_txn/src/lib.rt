@@ -9,12 +9,12 @@ mod directory;
 mod located;
 mod mark;
 mod queue;
-mod seat;
 mod seats;
 mod state;
 mod table;
+mod table_seat;
 
 pub use located::{Located, SeatNo};
-pub use seat::Seat;
 pub use state::TxState;
 pub use table::TxnTable;
+pub use table_seat::TableSeat;

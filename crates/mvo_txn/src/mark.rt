@@ -1,5 +1,5 @@
 ghost use Rattle.std.specs.Prelude.{◌≡◌};
-ghost use Rattle.mvo_txn.specs.Queue.{stamp_in, stamp_without, is_current};
+ghost use Rattle.mvo_txn.specs.Queue.{queue_stamp, stamp_without, is_current};
 
 use crate::seats::Seats;
 use crate::state::TxState;
@@ -16,7 +16,7 @@ pub(crate) enum Kind {
 impl Kind {
     /// The timestamp of a transaction, if it counts.
     pub(crate) fn stamp_in<P>(self, seats: &Seats<P>, id: u64) -> Option<u64>
-        ensures { result ≡ stamp_in self seats.now id }
+        ensures { result ≡ queue_stamp self seats.now id }
     {
         let Some(seat) = seats.at_place(id) else {
             return None;
@@ -32,14 +32,14 @@ impl Kind {
 
     /// Whether the mark's transaction counts, with the mark's timestamp.
     pub(crate) fn is_current<P>(self, seats: &Seats<P>, mark: Mark) -> bool
-        ensures { result ≡ is_current (stamp_in self seats.now) mark }
+        ensures { result ≡ is_current (queue_stamp self seats.now) mark }
     {
         self.stamp_in(seats, mark.id) == Some(mark.stamp)
     }
 
     /// The same, where one transaction is to count no longer: that one isn't looked up.
     pub(crate) fn is_left<P>(self, seats: &Seats<P>, mark: Mark, gone: u64) -> bool
-        ensures { result ≡ is_current (stamp_without gone (stamp_in self seats.now)) mark }
+        ensures { result ≡ is_current (stamp_without gone (queue_stamp self seats.now)) mark }
     {
         mark.id != gone && self.is_current(seats, mark)
     }

@@ -10,8 +10,8 @@ ghost use Rattle.mvo_txn.specs.Seats.{kept_in, state_in, with_state};
 
 use crate::chair::Chair;
 use crate::directory::Directory;
-use crate::seat::Seat;
 use crate::state::TxState;
+use crate::table_seat::TableSeat;
 use mvo_types::{MAX_UNFINISHED, Stamp};
 use slab::Slab;
 use std::alloc::{AllocError, Global};
@@ -80,7 +80,7 @@ impl<P> Seats<P> {
 
     /// The seat of a transaction, which is looked for at this number first.
     #[inline(always)]
-    pub(crate) fn get(&self, id: u64, first: usize) -> Option<&Seat<P>>
+    pub(crate) fn get(&self, id: u64, first: usize) -> Option<&TableSeat<P>>
         ensures { option_copied result ≡ map.get self.now id }
     {
         match self.chairs.get(first) {
@@ -91,7 +91,7 @@ impl<P> Seats<P> {
 
     /// The same, which is looked for at the id's place first.
     #[inline(always)]
-    pub(crate) fn at_place(&self, id: u64) -> Option<&Seat<P>>
+    pub(crate) fn at_place(&self, id: u64) -> Option<&TableSeat<P>>
         ensures { option_copied result ≡ map.get self.now id }
     {
         self.get(id, self.directory.hinted(id))
@@ -99,7 +99,7 @@ impl<P> Seats<P> {
 
     /// The same, wherever the seat is.
     #[inline(never)]
-    fn sought(&self, id: u64) -> Option<&Seat<P>>
+    fn sought(&self, id: u64) -> Option<&TableSeat<P>>
         ensures { option_copied result ≡ map.get self.now id }
     {
         let Some(number) = self.directory.search(&self.chairs, id) else {
@@ -181,7 +181,7 @@ impl<P> Seats<P> {
     }
 
     /// Gives a new transaction a seat. It takes memory only to list an id whose place is another's.
-    pub(crate) fn insert(&mut self, id: u64, seat: Seat<P>) -> Result<(), AllocError>
+    pub(crate) fn insert(&mut self, id: u64, seat: TableSeat<P>) -> Result<(), AllocError>
     where
         P: Drop,
         requires new { map.get self.old id ≡ None }
@@ -196,7 +196,7 @@ impl<P> Seats<P> {
     }
 
     /// Takes a transaction's seat away, and answers what was there.
-    pub(crate) fn remove(&mut self, id: u64, first: usize) -> Option<Seat<P>>
+    pub(crate) fn remove(&mut self, id: u64, first: usize) -> Option<TableSeat<P>>
         ensures before { result ≡ map.get self.old id }
         ensures gone { self.new ≡ map.remove self.old id }
     {

@@ -4,16 +4,16 @@ ghost use Rattle.std.specs.FinMap as map;
 ghost use Rattle.std.specs.Borrow.{sem};
 ghost use Rattle.mvo_types.specs.declared.limits.TheConstants.{MAX_STAMP};
 ghost use Rattle.mvo_txn.specs.Lends.{LendsKept, LendsPrepared, LendsCommitted};
-ghost use Rattle.mvo_txn.specs.Txns.{no_txns, state_of, kept_of, IsPreparing, IsUnended, IsEnded, IsTable};
-ghost use Rattle.mvo_txn.specs.Txns.{after_begin, after_prepare, after_change, after_terminate};
-ghost use Rattle.mvo_txn.specs.Txns.{why_not_begun, spent_clock, IsRefusal, IsOldestBegin, IsLowWater};
+ghost use Rattle.mvo_txn.specs.Txns.{no_txns, state_of, kept_of, IsPreparingState, IsUnended, IsEnded, IsTable};
+ghost use Rattle.mvo_txn.specs.Txns.{table_after_begin, table_after_prepare, table_after_change, after_terminate};
+ghost use Rattle.mvo_txn.specs.Txns.{why_not_begun, spent_clock, IsTableRefusal, IsOldestBegin, IsLowWater};
 
 use crate::located::{Located, SeatNo};
 use crate::mark::Kind;
 use crate::queue::Queue;
-use crate::seat::Seat;
 use crate::seats::Seats;
 use crate::state::TxState;
+use crate::table_seat::TableSeat;
 use mvo_types::{MAX_STAMP, MAX_UNFINISHED, Refusal, Stamp, TxId};
 use std::alloc::{AllocError, Global};
 use std::marker::Model;
@@ -40,11 +40,11 @@ impl<P> Model for TxnTable<P> {
 
     ghost coded = { coded_txns P.code };
 
-    ghost use Rattle.mvo_txn.specs.Sound.{IsSound};
+    ghost use Rattle.mvo_txn.specs.Sound.{AreSeatsSound};
 
     ghost view = { λ t. record { clock = t.clock; seats = t.seats } };
 
-    ghost invariant = { λ t. IsSound t.clock t.seats t.begins t.open_ends };
+    ghost invariant = { λ t. AreSeatsSound t.clock t.seats t.begins t.open_ends };
 }
 
 impl<P> TxnTable<P> {
@@ -104,7 +104,7 @@ impl<P> TxnTable<P> {
 
     /// How the transaction stands, with what is kept of it.
     #[inline(always)]
-    pub fn get(&self, tx: Located) -> Option<&Seat<P>>
+    pub fn get(&self, tx: Located) -> Option<&TableSeat<P>>
         ensures { option_copied result ≡ map.get self.now.seats tx.id.0 }
     {
         self.seats.get(tx.id.0, tx.seat.0)
@@ -138,9 +138,9 @@ impl<P> TxnTable<P> {
     where
         P: Drop,
         ensures id { IfOk result (λ id. id.0 ≡ self.new.clock) }
-        ensures ok { OnOk result (self.new ≡ after_begin self.old kept) }
+        ensures ok { OnOk result (self.new ≡ table_after_begin self.old kept) }
         ensures no_cause { OnOk result (why_not_begun self.old ≡ None) }
-        ensures refused { IfErr result (IsRefusal (why_not_begun self.old)) }
+        ensures refused { IfErr result (IsTableRefusal (why_not_begun self.old)) }
         ensures err { OnErr result (self.new ≡ self.old) }
     {
         if let Some(refusal) = self.why_not_begun() {
@@ -148,7 +148,7 @@ impl<P> TxnTable<P> {
         }
         let id = self.clock + 1;
         self.begins.make_room(&self.seats);
-        let seat = Seat {
+        let seat = TableSeat {
             state: TxState::Active,
             kept,
         };
@@ -182,7 +182,7 @@ impl<P> TxnTable<P> {
     /// Settles a Preparing transaction, and answers its end timestamp, with what is kept of it for
     /// writing.
     pub fn commit(&mut self, tx: Located) -> (Stamp, &mut P)
-        requires { IsPreparing (state_of self.old tx.id.0) }
+        requires { IsPreparingState (state_of self.old tx.id.0) }
         ensures* writes_back { sem 𝓛 (LendsCommitted P.row self.entry tx.id.0 result) }
         ensures end { state_of self.old tx.id.0 ≡ Some (TxState.Preparing result.0) }
         ensures value { kept_of self.old tx.id.0 ≡ Some result.1.now }
@@ -194,7 +194,7 @@ impl<P> TxnTable<P> {
     /// Undoes an Active or Preparing transaction.
     pub fn abort(&mut self, tx: Located)
         requires { IsUnended (state_of self.old tx.id.0) }
-        ensures { self.new ≡ after_change self.old tx.id.0 TxState.Aborted }
+        ensures { self.new ≡ table_after_change self.old tx.id.0 TxState.Aborted }
     {
         self.open_ends.trim(&self.seats, tx.id.0);
         self.seats.set_state(tx.id.0, tx.seat.0, TxState::Aborted);
@@ -208,7 +208,7 @@ impl<P> TxnTable<P> {
     {
         let seat = self.seats.remove(tx.id.0, tx.seat.0).unwrap();
         self.begins.trim(&self.seats, tx.id.0);
-        let Seat { state: _, kept } = seat;
+        let TableSeat { state: _, kept } = seat;
         kept
     }
 

@@ -8,10 +8,11 @@ use Rattle.mvo_visible.specs.declared.change.Change.{Change}
 use Rattle.mvo_visible.specs.declared.seen.Seen.{Seen}
 use Rattle.mvo_visible.specs.declared.seen.Seen.TheVariants.{Nothing, Settled, Speculative}
 use Rattle.mvo_visible.specs.Words.{States, seen_of}
-use Rattle.mvo_visible.specs.Versions.{Numbered}
+use Rattle.mvo_visible.specs.Versions.{NumberedVersion}
 use Rattle.mvo_visible.specs.Changes.{changes_by, changes_of, greater, greatest, greatest_below}
 use Rattle.mvo_visible.proofs.Decides.{greatest_below-append}
 use Rattle.mvo_visible.proofs.Walks.{changes_one, changes-append, IsFallingAt}
+use Rattle.mvo_visible.proofs.Behind.{all_append}
 use Rattle.mvo_validate.specs.Between.{is_above, stamp_between, is_before}
 
 pub stamp_between-append : (b e : ℕ) (cs ds : List Change) → stamp_between b e (cs ++ ds) ≡ greatest (stamp_between b e cs) (stamp_between b e ds)
@@ -22,15 +23,15 @@ greatest-none None = refl
 greatest-none (Some s) = refl
 
 -- the stamps that versions say
-abbrev pub seen_between : States → ℕ → ℕ → List Numbered → Option ℕ
+abbrev pub seen_between : States → ℕ → ℕ → List NumberedVersion → Option ℕ
 seen_between states b e vs = stamp_between b e (changes_of states vs)
 
-pub seen_between-append : (states : States) (b e : ℕ) (xs ys : List Numbered) → seen_between states b e (xs ++ ys) ≡ greatest (seen_between states b e xs) (seen_between states b e ys)
+pub seen_between-append : (states : States) (b e : ℕ) (xs ys : List NumberedVersion) → seen_between states b e (xs ++ ys) ≡ greatest (seen_between states b e xs) (seen_between states b e ys)
 seen_between-append states b e xs ys =
     ap (stamp_between b e) (changes-append states xs ys) ∙ stamp_between-append b e (changes_of states xs) (changes_of states ys)
 
 -- one version more, if it passes
-pub more : (states : States) (b e : ℕ) (p : Numbered → Bool) (xs : List Numbered) (v : Numbered) → seen_between states b e (filter p (xs ++ v ∷ [])) ≡ cond (p v) (greatest (seen_between states b e (filter p xs)) (stamp_between b e (changes_by states v))) (seen_between states b e (filter p xs))
+pub more : (states : States) (b e : ℕ) (p : NumberedVersion → Bool) (xs : List NumberedVersion) (v : NumberedVersion) → seen_between states b e (filter p (xs ++ v ∷ [])) ≡ cond (p v) (greatest (seen_between states b e (filter p xs)) (stamp_between b e (changes_by states v))) (seen_between states b e (filter p xs))
 more states b e p xs v = ap (seen_between states b e) (filter-append p xs (v ∷ [])) ∙ go (p v)
   where
     go : (c : Bool) → seen_between states b e (filter p xs ++ cond c (v ∷ []) []) ≡ cond c (greatest (seen_between states b e (filter p xs)) (stamp_between b e (changes_by states v))) (seen_between states b e (filter p xs))
@@ -48,16 +49,12 @@ all_second : (P : Change → Type 0) (cs ds : List Change) → AllByRecursion P 
 all_second P [] ds h = h
 all_second P (c ∷ cs) ds h = all_second P cs ds h.1
 
-all_both : (P : Change → Type 0) (cs ds : List Change) → AllByRecursion P cs → AllByRecursion P ds → AllByRecursion P (cs ++ ds)
-all_both P [] ds h k = k
-all_both P (c ∷ cs) ds h k = (h.0, all_both P cs ds h.1 k)
-
-all_filtered : (P : Change → Type 0) (states : States) (p : Numbered → Bool) (vs : List Numbered) → AllByRecursion P (changes_of states vs) → AllByRecursion P (changes_of states (filter p vs))
+all_filtered : (P : Change → Type 0) (states : States) (p : NumberedVersion → Bool) (vs : List NumberedVersion) → AllByRecursion P (changes_of states vs) → AllByRecursion P (changes_of states (filter p vs))
 all_filtered P states p [] h = tt
 all_filtered P states p (v ∷ vs) h =
     let rest = all_filtered P states p vs (all_second P (changes_by states v) (changes_of states vs) h) in
     elim (p v) as (λ b. AllByRecursion P (changes_of states (cond b (v ∷ filter p vs) (filter p vs)))) [
-      | true ↦ all_both P (changes_by states v) (changes_of states (filter p vs)) (all_first P (changes_by states v) (changes_of states vs) h) rest
+      | true ↦ all_append P (changes_by states v) (changes_of states (filter p vs)) (all_first P (changes_by states v) (changes_of states vs) h) rest
       | false ↦ rest
     ]
 
@@ -68,13 +65,13 @@ none_above b s (c ∷ cs) most h =
     cond-false (ltb b c.stamp.0) (c ∷ filter (is_above b) cs) (filter (is_above b) cs) (le-ltb b c.stamp.0 (omega (arith, low, most)))
     ∙ none_above b s cs most h.1
 
-record IsSettledBefore (states : States) (b : ℕ) (e : Numbered) : Type 0 where
+record IsSettledBefore (states : States) (b : ℕ) (e : NumberedVersion) : Type 0 where
   pub stamp : Stamp
   pub put : seen_of states e.1.begin ≡ Settled stamp
   pub most : stamp.0 ≤ b
 
 -- behind a put that is settled with a stamp of at most the begin there are none
-pub none_behind : (states : States) (b e : ℕ) (p : Numbered → Bool) (v : Numbered) (rest : List Numbered) → is_before b (seen_of states v.1.begin) ≡ true → IsFallingAt states v rest → seen_between states b e (filter p rest) ≡ None
+pub none_behind : (states : States) (b e : ℕ) (p : NumberedVersion → Bool) (v : NumberedVersion) (rest : List NumberedVersion) → is_before b (seen_of states v.1.begin) ≡ true → IsFallingAt states v rest → seen_between states b e (filter p rest) ≡ None
 none_behind states b e p v rest h falling =
     let s = settled (seen_of states v.1.begin) refl h in
     ap (greatest_below e) (none_above b s.stamp.0 (changes_of states (filter p rest)) s.most (all_filtered (λ c. c.stamp.0 ≤ s.stamp.0) states p rest (falling s.stamp s.put).below))
@@ -85,7 +82,7 @@ none_behind states b e p v rest h falling =
     settled (Speculative s t) is q = cc
 
 -- so what comes behind adds nothing
-pub no_more : (states : States) (b e : ℕ) (p : Numbered → Bool) (xs : List Numbered) (v : Numbered) (rest : List Numbered) → is_before b (seen_of states v.1.begin) ≡ true → IsFallingAt states v rest → seen_between states b e (filter p (xs ++ v ∷ [])) ≡ seen_between states b e (filter p ((xs ++ v ∷ []) ++ rest))
+pub no_more : (states : States) (b e : ℕ) (p : NumberedVersion → Bool) (xs : List NumberedVersion) (v : NumberedVersion) (rest : List NumberedVersion) → is_before b (seen_of states v.1.begin) ≡ true → IsFallingAt states v rest → seen_between states b e (filter p (xs ++ v ∷ [])) ≡ seen_between states b e (filter p ((xs ++ v ∷ []) ++ rest))
 no_more states b e p xs v rest h falling =
     sym (ap (seen_between states b e) (filter-append p (xs ++ v ∷ []) rest)
     ∙ seen_between-append states b e (filter p (xs ++ v ∷ [])) (filter p rest)

@@ -1,10 +1,10 @@
 -- The runs at each place where a version is put, changes its words, comes to the front, or goes.
 use Rattle.std.proofs.Common.{◌≡◌, ℕ, ◌+◌, ◌-◌, ◌<◌, ◌≤◌, ◌^◌, Bool, true, false, cond, not, eqb, ◌||◌, List, [], ◌∷◌, length, Option, None, Some, IsSome, refl, sym, ap, ◌∙◌, subst, arith, inl, inr}
 use Rattle.std.specs.Prelude.{◌==◌, ◌&&◌, is_some, slice_index_or, slice_set}
-use Rattle.std.specs.List.{IsDistinct, AllByRecursion}
+use Rattle.std.specs.List.{IsDistinct}
 use Rattle.std.specs.Option.{option_map}
 use Rattle.std.specs.Ordering.{eq_by_cmp}
-use Rattle.std.proofs.lemmas.Bool.{eq-eqb, true≢false, or_parts, or_left}
+use Rattle.std.proofs.lemmas.Bool.{eq-eqb, true≢false, or_left}
 use Rattle.std.proofs.lemmas.List.{get_or-set_same, get_or-set_other}
 use Rattle.std.proofs.lemmas.Map.Steps.{length-le_from_distinct_below}
 use Rattle.std.proofs.lemmas.Map.Views.{tells_apart}
@@ -15,18 +15,19 @@ use Rattle.mvo_theory.specs.Sound.{how_many}
 use Rattle.mvo_chain.specs.declared.version.Version.{Version}
 use Rattle.mvo_chain.specs.declared.version.VersionNo.{VersionNo}
 use Rattle.mvo_chain.specs.Slots.{Slots, version_at, with_room, with_slot, IsHole}
-use Rattle.mvo_hash.specs.Lists.{Lists, numbers_of, newest_of, without, is_among, newer_of, older_of, IsFresh}
-use Rattle.mvo_range.specs.declared.place.Place.{Place}
+use Rattle.mvo_hash.specs.Lists.{Lists, numbers_of, newest_of, without_number, is_among, newer_of, older_of, IsNewNumber}
+use Rattle.mvo_hash.proofs.Chains.{all_apart}
+use Rattle.mvo_range.specs.declared.sort_place.SortPlace.{SortPlace}
 use Rattle.mvo_validate.specs.Entries.{key_at}
 use Rattle.mvo_visible.specs.Fronts.{with_new, with_front, with_less}
-use Rattle.mvo_representation.specs.Indexes.{is_of_key, HasNumbers, place_of}
-use Rattle.mvo_representation.proofs.Numbers.{without_same}
+use Rattle.mvo_representation.specs.Indexes.{is_of_key, HasNumbers, version_place}
+use Rattle.mvo_representation.proofs.Numbers.{without_same, numbers_with}
 use Rattle.mvo_versions.specs.Data.{VersionsData, AreIndexed}
 use Rattle.mvo_versions.specs.Changes.{is_slot_at, is_number_at}
 use Rattle.mvo_versions.specs.Runs.{runs_behind, runs_at, passes, count_at, is_newest_at, place_at, AreCounted}
 use Rattle.mvo_versions.proofs.Counting.{one, runs_alike, in_front, passed_over, few_runs, any_runs, newer_among, newest_stays}
 use Rattle.mvo_versions.proofs.Entries.{same, same_is, count_is, stands, one_at_place, one_at_passes, fewer}
-use Rattle.mvo_versions.proofs.Indexing.{numbers_with, hole_inside, hole_empty, room_same, inside_of, none_of, empty_fresh, key_of_itself, at_key, found_at}
+use Rattle.mvo_versions.proofs.Indexing.{hole_inside, hole_empty, room_same, inside_of, none_of, empty_fresh, key_of_itself, at_key, found_at}
 
 -- what counts stands under its key and at its place
 pub indexed : (v : VersionsData) → AreCounted v → AreIndexed v
@@ -41,10 +42,6 @@ indexed v h = record {
 one_most : (b : Bool) → one b ≤ 1
 one_most true = omega arith
 one_most false = omega arith
-
-all_apart : (n : ℕ) (ns : List ℕ) → is_among n ns ≡ false → AllByRecursion (λ m. eqb n m ≡ false) ns
-all_apart n [] a = tt
-all_apart n (m ∷ ns) a = let h = or_parts (eqb n m) (is_among n ns) a in (h.0, all_apart n ns h.1)
 
 distinct : (ns : List ℕ) → ((i : ℕ) → how_many (λ m. m == i) ns ≤ 1) → IsDistinct eqb ns
 unfolding IsDistinct
@@ -72,7 +69,7 @@ within slots lists k m h a = go (slice_index_or slots m None) refl (key_number s
     go None e t = absurd (true≢false (sym t))
     go (Some v) e t = inside_of slots m v e
 
-pub few_at : (v : VersionsData) (p : Place) → AreCounted v → count_at v.places p + 1 < 2 ^ 32
+pub few_at : (v : VersionsData) (p : SortPlace) → AreCounted v → count_at v.places p + 1 < 2 ^ 32
 few_at v p h =
     let ns = numbers_of v.lists (key_at p) in
     let short : length ns ≤ length v.slots = length-le_from_distinct_below ns (length v.slots) (distinct ns (once_each v.slots v.lists (key_at p) h.numbers)) (λ m a. within v.slots v.lists (key_at p) m h.numbers a) in
@@ -82,17 +79,17 @@ few_at v p h =
     omega (arith, short, few, is, small)
 
 -- ---- which numbers stand at a place
-abbrev at_place : Slots → Place → ℕ → Bool
+abbrev at_place : Slots → SortPlace → ℕ → Bool
 at_place slots q m = is_number_at slots q m
 
-number_key : (slots : Slots) (lists : Lists) (k : RowKey) (q : Place) (m : ℕ) → HasNumbers slots lists → is_among m (numbers_of lists k) ≡ true → is_number_at slots q m ≡ true → key_at q ≡ k
+number_key : (slots : Slots) (lists : Lists) (k : RowKey) (q : SortPlace) (m : ℕ) → HasNumbers slots lists → is_among m (numbers_of lists k) ≡ true → is_number_at slots q m ≡ true → key_at q ≡ k
 number_key slots lists k q m h a t = go (slice_index_or slots m None) (key_number slots lists k m h a) t
   where
     go : (o : Option Version) → is_of_key k o ≡ true → is_slot_at q o ≡ true → key_at q ≡ k
     go None e f = absurd (true≢false (sym e))
     go (Some v) e f = sym (at_key q v f) ∙ sym (tells_apart exact_keys k v.row.key e)
 
-others_same : (slots : Slots) (n : ℕ) (o : Option Version) (q : Place) (m : ℕ) → (m ≡ n → ⊥) → is_number_at (slice_set slots n o) q m ≡ is_number_at slots q m
+others_same : (slots : Slots) (n : ℕ) (o : Option Version) (q : SortPlace) (m : ℕ) → (m ≡ n → ⊥) → is_number_at (slice_set slots n o) q m ≡ is_number_at slots q m
 others_same slots n o q m d = ap (is_slot_at q) (get_or-set_other slots n m o None d)
 
 not_itself : (n : ℕ) (ns : List ℕ) (m : ℕ) → is_among n ns ≡ false → is_among m ns ≡ true → m ≡ n → ⊥
@@ -102,7 +99,7 @@ newest_alike : (p q : ℕ → Bool) (ns : List ℕ) → ((n : ℕ) → is_among 
 newest_alike p q [] alike = refl
 newest_alike p q (n ∷ ns) alike = alike n (or_left (eqb n n) (is_among n ns) (eq-eqb n n refl))
 
-same_key : (q p : Place) (k : RowKey) → key_at p ≡ k → eq_by_cmp key_cmp (key_at q) k ≡ false → same q p ≡ false
+same_key : (q p : SortPlace) (k : RowKey) → key_at p ≡ k → eq_by_cmp key_cmp (key_at q) k ≡ false → same q p ≡ false
 same_key q p k e d = go (same q p) refl
   where
     go : (b : Bool) → same q p ≡ b → b ≡ false
@@ -122,7 +119,7 @@ new_runs true false false r r' f e = omega (arith, e)
 new_runs false h true r r' f e = omega (arith, e)
 new_runs false h false r r' f e = omega (arith, e)
 
-pub comes_runs : (slots : Slots) (lists : Lists) (n : VersionNo) (w : Version) (q : Place) → IsHole (with_room slots) n → HasNumbers slots lists → runs_at (with_slot (with_room slots) n (Some w)) (with_new lists w.row.key n.0) q ≡ runs_at slots lists q + cond (is_newest_at slots lists (place_of w)) 0 (one (same q (place_of w)))
+pub comes_runs : (slots : Slots) (lists : Lists) (n : VersionNo) (w : Version) (q : SortPlace) → IsHole (with_room slots) n → HasNumbers slots lists → runs_at (with_slot (with_room slots) n (Some w)) (with_new lists w.row.key n.0) q ≡ runs_at slots lists q + cond (is_newest_at slots lists (version_place w)) 0 (one (same q (version_place w)))
 comes_runs slots lists n w q hole h =
     ap (runs_behind false (at_place filled q)) (numbers_with lists w.row.key (n.0 ∷ numbers_of lists w.row.key) (key_at q))
     ∙ go (eq_by_cmp key_cmp (key_at q) w.row.key) refl
@@ -130,7 +127,7 @@ comes_runs slots lists n w q hole h =
     filled : Slots
     filled = slice_set (with_room slots) n.0 (Some w)
 
-    fresh : IsFresh lists n.0
+    fresh : IsNewNumber lists n.0
     fresh = empty_fresh slots lists n.0 h (sym (room_same slots n.0) ∙ hole_empty (with_room slots) n.0 hole)
 
     alike : (k : RowKey) (m : ℕ) → is_among m (numbers_of lists k) ≡ true → is_number_at filled q m ≡ is_number_at slots q m
@@ -138,25 +135,25 @@ comes_runs slots lists n w q hole h =
         others_same (with_room slots) n.0 (Some w) q m (not_itself n.0 (numbers_of lists k) m (fresh.at k) a)
         ∙ ap (is_slot_at q) (room_same slots m)
 
-    itself : is_number_at filled q n.0 ≡ same q (place_of w)
+    itself : is_number_at filled q n.0 ≡ same q (version_place w)
     itself = ap (is_slot_at q) (get_or-set_same (with_room slots) n.0 (Some w) None (hole_inside (with_room slots) n.0 hole))
 
-    joins : same q (place_of w) ≡ true → passes (at_place slots q) (newest_of (numbers_of lists w.row.key)) ≡ is_newest_at slots lists (place_of w)
-    joins e = ap (λ i. passes (at_place slots i) (newest_of (numbers_of lists w.row.key))) (same_is q (place_of w) e)
+    joins : same q (version_place w) ≡ true → passes (at_place slots q) (newest_of (numbers_of lists w.row.key)) ≡ is_newest_at slots lists (version_place w)
+    joins e = ap (λ i. passes (at_place slots i) (newest_of (numbers_of lists w.row.key))) (same_is q (version_place w) e)
 
-    go : (b : Bool) → eq_by_cmp key_cmp (key_at q) w.row.key ≡ b → runs_behind false (at_place filled q) (cond b (n.0 ∷ numbers_of lists w.row.key) (numbers_of lists (key_at q))) ≡ runs_at slots lists q + cond (is_newest_at slots lists (place_of w)) 0 (one (same q (place_of w)))
+    go : (b : Bool) → eq_by_cmp key_cmp (key_at q) w.row.key ≡ b → runs_behind false (at_place filled q) (cond b (n.0 ∷ numbers_of lists w.row.key) (numbers_of lists (key_at q))) ≡ runs_at slots lists q + cond (is_newest_at slots lists (version_place w)) 0 (one (same q (version_place w)))
     go true e =
         let ns = numbers_of lists w.row.key in
-        new_runs (same q (place_of w)) (passes (at_place slots q) (newest_of ns)) (is_newest_at slots lists (place_of w)) (runs_at slots lists q) _ joins
+        new_runs (same q (version_place w)) (passes (at_place slots q) (newest_of ns)) (is_newest_at slots lists (version_place w)) (runs_at slots lists q) _ joins
         (ap (λ b. runs_behind false (at_place filled q) (n.0 ∷ ns) + one (b && passes (at_place slots q) (newest_of ns))) (sym itself)
         ∙ ap (λ b. runs_behind false (at_place filled q) (n.0 ∷ ns) + one (is_number_at filled q n.0 && b)) (sym (newest_alike (at_place filled q) (at_place slots q) ns (alike w.row.key)))
         ∙ in_front (at_place filled q) n.0 ns
         ∙ ap (λ b. one b + runs_behind false (at_place filled q) ns) itself
-        ∙ ap (λ m. one (same q (place_of w)) + m) (runs_alike (at_place filled q) (at_place slots q) false ns (alike w.row.key))
-        ∙ ap (λ k. one (same q (place_of w)) + runs_behind false (at_place slots q) (numbers_of lists k)) (sym (tells_apart exact_keys (key_at q) w.row.key e)))
+        ∙ ap (λ m. one (same q (version_place w)) + m) (runs_alike (at_place filled q) (at_place slots q) false ns (alike w.row.key))
+        ∙ ap (λ k. one (same q (version_place w)) + runs_behind false (at_place slots q) (numbers_of lists k)) (sym (tells_apart exact_keys (key_at q) w.row.key e)))
     go false e =
         runs_alike (at_place filled q) (at_place slots q) false (numbers_of lists (key_at q)) (alike (key_at q))
-        ∙ (let z = no_more (is_newest_at slots lists (place_of w)) (same q (place_of w)) (same_key q (place_of w) w.row.key refl e) in omega (arith, z))
+        ∙ (let z = no_more (is_newest_at slots lists (version_place w)) (same q (version_place w)) (same_key q (version_place w) w.row.key refl e) in omega (arith, z))
 
 -- ---- a version goes
 less_runs : (x a b : Bool) (r w : ℕ) → w + (one (x && not a) + one (b && not x)) ≡ r + one (b && not a) → w ≡ r - cond x (one (not (a || b))) (one (a && b))
@@ -198,11 +195,11 @@ pub record AreNeighbours (lists : Lists) (k : RowKey) (n : ℕ) (newer older : O
   pub front : option_map (λ (m : VersionNo). m.0) newer ≡ newer_of n (numbers_of lists k)
   pub back : option_map (λ (m : VersionNo). m.0) older ≡ older_of n (numbers_of lists k)
 
-stands_as : (slots : Slots) (q : Place) (o : Option VersionNo) (i : Option ℕ) → option_map (λ (m : VersionNo). m.0) o ≡ i → passes (at_place slots q) i ≡ stands q (place_at slots o)
+stands_as : (slots : Slots) (q : SortPlace) (o : Option VersionNo) (i : Option ℕ) → option_map (λ (m : VersionNo). m.0) o ≡ i → passes (at_place slots q) i ≡ stands q (place_at slots o)
 stands_as slots q o i e = ap (passes (at_place slots q)) (sym e) ∙ sym (one_at_passes slots q o) ∙ one_at_place slots q o
 
 -- a newer neighbour stands at no place of another key
-other_newer : (slots : Slots) (lists : Lists) (k : RowKey) (n : ℕ) (q : Place) → HasNumbers slots lists → eq_by_cmp key_cmp (key_at q) k ≡ false → passes (at_place slots q) (newer_of n (numbers_of lists k)) ≡ false
+other_newer : (slots : Slots) (lists : Lists) (k : RowKey) (n : ℕ) (q : SortPlace) → HasNumbers slots lists → eq_by_cmp key_cmp (key_at q) k ≡ false → passes (at_place slots q) (newer_of n (numbers_of lists k)) ≡ false
 other_newer slots lists k n q h d = go (newer_of n (numbers_of lists k)) refl
   where
     at : (m : ℕ) → is_among m (numbers_of lists k) ≡ true → (b : Bool) → is_number_at slots q m ≡ b → b ≡ false
@@ -216,50 +213,50 @@ other_newer slots lists k n q h d = go (newer_of n (numbers_of lists k)) refl
       | inr a ↦ at m a (is_number_at slots q m) refl
     ]
 
-module _ (slots : Slots) (lists : Lists) (n : VersionNo) (w : Version) (newer older : Option VersionNo) (q : Place) (e : version_at slots n ≡ Some w) (h : HasNumbers slots lists) (near : AreNeighbours lists w.row.key n.0 newer older) where
-  itself_at : is_number_at slots q n.0 ≡ same q (place_of w)
+module _ (slots : Slots) (lists : Lists) (n : VersionNo) (w : Version) (newer older : Option VersionNo) (q : SortPlace) (e : version_at slots n ≡ Some w) (h : HasNumbers slots lists) (near : AreNeighbours lists w.row.key n.0 newer older) where
+  itself_at : is_number_at slots q n.0 ≡ same q (version_place w)
   itself_at = ap (is_slot_at q) e
 
   once_there : how_many (λ i. i == n.0) (numbers_of lists w.row.key) ≡ 1
   once_there = h.at w.row.key n.0 ∙ ap (λ x. one (is_of_key w.row.key x)) e ∙ ap one (key_of_itself w.row.key)
 
-  rest_sum : runs_behind false (at_place slots q) (without n.0 (numbers_of lists w.row.key)) + (one (same q (place_of w) && not (stands q (place_at slots newer))) + one (stands q (place_at slots older) && not (same q (place_of w)))) ≡ runs_behind false (at_place slots q) (numbers_of lists w.row.key) + one (stands q (place_at slots older) && not (stands q (place_at slots newer)))
+  rest_sum : runs_behind false (at_place slots q) (without_number n.0 (numbers_of lists w.row.key)) + (one (same q (version_place w) && not (stands q (place_at slots newer))) + one (stands q (place_at slots older) && not (same q (version_place w)))) ≡ runs_behind false (at_place slots q) (numbers_of lists w.row.key) + one (stands q (place_at slots older) && not (stands q (place_at slots newer)))
   rest_sum =
       let ns = numbers_of lists w.row.key in
       let r = runs_behind false (at_place slots q) ns in
-      let rest = runs_behind false (at_place slots q) (without n.0 ns) in
+      let rest = runs_behind false (at_place slots q) (without_number n.0 ns) in
       subst (λ x. rest + (one (x && not (stands q (place_at slots newer))) + one (stands q (place_at slots older) && not x)) ≡ r + one (stands q (place_at slots older) && not (stands q (place_at slots newer)))) itself_at
       (subst (λ a. rest + (one (is_number_at slots q n.0 && not a) + one (stands q (place_at slots older) && not (is_number_at slots q n.0))) ≡ r + one (stands q (place_at slots older) && not a)) (stands_as slots q newer (newer_of n.0 ns) near.front)
       (subst (λ b. rest + (one (is_number_at slots q n.0 && not (passes (at_place slots q) (newer_of n.0 ns))) + one (b && not (is_number_at slots q n.0))) ≡ r + one (b && not (passes (at_place slots q) (newer_of n.0 ns)))) (stands_as slots q older (older_of n.0 ns) near.back)
       (passed_over (at_place slots q) n.0 None ns once_there)))
 
   -- none fewer at a place of another key
-  pub none_elsewhere : eq_by_cmp key_cmp (key_at q) w.row.key ≡ false → fewer (place_of w) (place_at slots newer) (place_at slots older) q ≡ 0
+  pub none_elsewhere : eq_by_cmp key_cmp (key_at q) w.row.key ≡ false → fewer (version_place w) (place_at slots newer) (place_at slots older) q ≡ 0
   none_elsewhere d =
-      ap (λ x. cond x (one (not (stands q (place_at slots newer) || stands q (place_at slots older)))) (one (stands q (place_at slots newer) && stands q (place_at slots older)))) (same_key q (place_of w) w.row.key refl d)
+      ap (λ x. cond x (one (not (stands q (place_at slots newer) || stands q (place_at slots older)))) (one (stands q (place_at slots newer) && stands q (place_at slots older)))) (same_key q (version_place w) w.row.key refl d)
       ∙ ap (λ a. one (a && stands q (place_at slots older))) (sym (stands_as slots q newer (newer_of n.0 (numbers_of lists w.row.key)) near.front) ∙ other_newer slots lists w.row.key n.0 q h d)
 
-  pub goes_runs : runs_at (with_slot slots n None) (with_less lists w.row.key n.0) q ≡ runs_at slots lists q - fewer (place_of w) (place_at slots newer) (place_at slots older) q
+  pub goes_runs : runs_at (with_slot slots n None) (with_less lists w.row.key n.0) q ≡ runs_at slots lists q - fewer (version_place w) (place_at slots newer) (place_at slots older) q
   goes_runs =
-      ap (runs_behind false (at_place (slice_set slots n.0 None) q)) (numbers_with lists w.row.key (without n.0 (numbers_of lists w.row.key)) (key_at q))
+      ap (runs_behind false (at_place (slice_set slots n.0 None) q)) (numbers_with lists w.row.key (without_number n.0 (numbers_of lists w.row.key)) (key_at q))
       ∙ go (eq_by_cmp key_cmp (key_at q) w.row.key) refl
     where
       alike : (ns : List ℕ) → is_among n.0 ns ≡ false → (m : ℕ) → is_among m ns ≡ true → is_number_at (slice_set slots n.0 None) q m ≡ is_number_at slots q m
       alike ns f m a = others_same slots n.0 None q m (not_itself n.0 ns m f a)
 
-      go : (b : Bool) → eq_by_cmp key_cmp (key_at q) w.row.key ≡ b → runs_behind false (at_place (slice_set slots n.0 None) q) (cond b (without n.0 (numbers_of lists w.row.key)) (numbers_of lists (key_at q))) ≡ runs_at slots lists q - fewer (place_of w) (place_at slots newer) (place_at slots older) q
+      go : (b : Bool) → eq_by_cmp key_cmp (key_at q) w.row.key ≡ b → runs_behind false (at_place (slice_set slots n.0 None) q) (cond b (without_number n.0 (numbers_of lists w.row.key)) (numbers_of lists (key_at q))) ≡ runs_at slots lists q - fewer (version_place w) (place_at slots newer) (place_at slots older) q
       go true t =
-          runs_alike (at_place (slice_set slots n.0 None) q) (at_place slots q) false (without n.0 (numbers_of lists w.row.key)) (alike (without n.0 (numbers_of lists w.row.key)) (none_of n.0 (without n.0 (numbers_of lists w.row.key)) (without_same n.0 (numbers_of lists w.row.key))))
-          ∙ less_runs (same q (place_of w)) (stands q (place_at slots newer)) (stands q (place_at slots older)) (runs_behind false (at_place slots q) (numbers_of lists w.row.key)) (runs_behind false (at_place slots q) (without n.0 (numbers_of lists w.row.key))) rest_sum
-          ∙ ap (λ k. runs_behind false (at_place slots q) (numbers_of lists k) - fewer (place_of w) (place_at slots newer) (place_at slots older) q) (sym (tells_apart exact_keys (key_at q) w.row.key t))
+          runs_alike (at_place (slice_set slots n.0 None) q) (at_place slots q) false (without_number n.0 (numbers_of lists w.row.key)) (alike (without_number n.0 (numbers_of lists w.row.key)) (none_of n.0 (without_number n.0 (numbers_of lists w.row.key)) (without_same n.0 (numbers_of lists w.row.key))))
+          ∙ less_runs (same q (version_place w)) (stands q (place_at slots newer)) (stands q (place_at slots older)) (runs_behind false (at_place slots q) (numbers_of lists w.row.key)) (runs_behind false (at_place slots q) (without_number n.0 (numbers_of lists w.row.key))) rest_sum
+          ∙ ap (λ k. runs_behind false (at_place slots q) (numbers_of lists k) - fewer (version_place w) (place_at slots newer) (place_at slots older) q) (sym (tells_apart exact_keys (key_at q) w.row.key t))
       go false d =
           runs_alike (at_place (slice_set slots n.0 None) q) (at_place slots q) false (numbers_of lists (key_at q)) (alike (numbers_of lists (key_at q)) (none_of n.0 (numbers_of lists (key_at q)) (h.at (key_at q) n.0 ∙ ap (λ x. one (is_of_key (key_at q) x)) e ∙ ap one d)))
           ∙ (let z = none_elsewhere d in omega (arith, z))
 
   -- it comes to the front, where it isn't
-  pub front_runs : IsSome newer → runs_at slots (with_front lists w.row.key n.0) q ≡ (runs_at slots lists q + cond (is_newest_at slots lists (place_of w)) 0 (one (same q (place_of w)))) - fewer (place_of w) (place_at slots newer) (place_at slots older) q
+  pub front_runs : IsSome newer → runs_at slots (with_front lists w.row.key n.0) q ≡ (runs_at slots lists q + cond (is_newest_at slots lists (version_place w)) 0 (one (same q (version_place w)))) - fewer (version_place w) (place_at slots newer) (place_at slots older) q
   front_runs there =
-      ap (runs_behind false (at_place slots q)) (numbers_with lists w.row.key (n.0 ∷ without n.0 (numbers_of lists w.row.key)) (key_at q))
+      ap (runs_behind false (at_place slots q)) (numbers_with lists w.row.key (n.0 ∷ without_number n.0 (numbers_of lists w.row.key)) (key_at q))
       ∙ go (eq_by_cmp key_cmp (key_at q) w.row.key) refl
     where
       ns : List ℕ
@@ -269,23 +266,23 @@ module _ (slots : Slots) (lists : Lists) (n : VersionNo) (w : Version) (newer ol
       some_number None i = absurd (true≢false (sym i))
       some_number (Some m) i = refl
 
-      stays : newest_of (without n.0 ns) ≡ newest_of ns
+      stays : newest_of (without_number n.0 ns) ≡ newest_of ns
       stays = newest_stays n.0 None ns refl (ap is_some (sym near.front) ∙ some_number newer there)
 
-      joins : same q (place_of w) ≡ true → passes (at_place slots q) (newest_of ns) ≡ is_newest_at slots lists (place_of w)
-      joins s = ap (λ i. passes (at_place slots i) (newest_of ns)) (same_is q (place_of w) s)
+      joins : same q (version_place w) ≡ true → passes (at_place slots q) (newest_of ns) ≡ is_newest_at slots lists (version_place w)
+      joins s = ap (λ i. passes (at_place slots i) (newest_of ns)) (same_is q (version_place w) s)
 
-      first : runs_behind false (at_place slots q) (n.0 ∷ without n.0 ns) + one (same q (place_of w) && passes (at_place slots q) (newest_of ns)) ≡ one (same q (place_of w)) + runs_behind false (at_place slots q) (without n.0 ns)
+      first : runs_behind false (at_place slots q) (n.0 ∷ without_number n.0 ns) + one (same q (version_place w) && passes (at_place slots q) (newest_of ns)) ≡ one (same q (version_place w)) + runs_behind false (at_place slots q) (without_number n.0 ns)
       first =
-          subst (λ x. runs_behind false (at_place slots q) (n.0 ∷ without n.0 ns) + one (x && passes (at_place slots q) (newest_of ns)) ≡ one x + runs_behind false (at_place slots q) (without n.0 ns)) itself_at
-          (subst (λ o. runs_behind false (at_place slots q) (n.0 ∷ without n.0 ns) + one (is_number_at slots q n.0 && passes (at_place slots q) o) ≡ one (is_number_at slots q n.0) + runs_behind false (at_place slots q) (without n.0 ns)) stays
-          (in_front (at_place slots q) n.0 (without n.0 ns)))
+          subst (λ x. runs_behind false (at_place slots q) (n.0 ∷ without_number n.0 ns) + one (x && passes (at_place slots q) (newest_of ns)) ≡ one x + runs_behind false (at_place slots q) (without_number n.0 ns)) itself_at
+          (subst (λ o. runs_behind false (at_place slots q) (n.0 ∷ without_number n.0 ns) + one (is_number_at slots q n.0 && passes (at_place slots q) o) ≡ one (is_number_at slots q n.0) + runs_behind false (at_place slots q) (without_number n.0 ns)) stays
+          (in_front (at_place slots q) n.0 (without_number n.0 ns)))
 
-      go : (b : Bool) → eq_by_cmp key_cmp (key_at q) w.row.key ≡ b → runs_behind false (at_place slots q) (cond b (n.0 ∷ without n.0 ns) (numbers_of lists (key_at q))) ≡ (runs_at slots lists q + cond (is_newest_at slots lists (place_of w)) 0 (one (same q (place_of w)))) - fewer (place_of w) (place_at slots newer) (place_at slots older) q
+      go : (b : Bool) → eq_by_cmp key_cmp (key_at q) w.row.key ≡ b → runs_behind false (at_place slots q) (cond b (n.0 ∷ without_number n.0 ns) (numbers_of lists (key_at q))) ≡ (runs_at slots lists q + cond (is_newest_at slots lists (version_place w)) 0 (one (same q (version_place w)))) - fewer (version_place w) (place_at slots newer) (place_at slots older) q
       go true t =
-          front_sum (same q (place_of w)) (stands q (place_at slots newer)) (stands q (place_at slots older)) (passes (at_place slots q) (newest_of ns)) (is_newest_at slots lists (place_of w)) (runs_behind false (at_place slots q) ns) (runs_behind false (at_place slots q) (without n.0 ns)) (runs_behind false (at_place slots q) (n.0 ∷ without n.0 ns)) joins rest_sum first
-          ∙ ap (λ k. (runs_behind false (at_place slots q) (numbers_of lists k) + cond (is_newest_at slots lists (place_of w)) 0 (one (same q (place_of w)))) - fewer (place_of w) (place_at slots newer) (place_at slots older) q) (sym (tells_apart exact_keys (key_at q) w.row.key t))
+          front_sum (same q (version_place w)) (stands q (place_at slots newer)) (stands q (place_at slots older)) (passes (at_place slots q) (newest_of ns)) (is_newest_at slots lists (version_place w)) (runs_behind false (at_place slots q) ns) (runs_behind false (at_place slots q) (without_number n.0 ns)) (runs_behind false (at_place slots q) (n.0 ∷ without_number n.0 ns)) joins rest_sum first
+          ∙ ap (λ k. (runs_behind false (at_place slots q) (numbers_of lists k) + cond (is_newest_at slots lists (version_place w)) 0 (one (same q (version_place w)))) - fewer (version_place w) (place_at slots newer) (place_at slots older) q) (sym (tells_apart exact_keys (key_at q) w.row.key t))
       go false d =
           let z = none_elsewhere d in
-          let y = no_more (is_newest_at slots lists (place_of w)) (same q (place_of w)) (same_key q (place_of w) w.row.key refl d) in
+          let y = no_more (is_newest_at slots lists (version_place w)) (same q (version_place w)) (same_key q (version_place w) w.row.key refl d) in
           omega (arith, z, y)

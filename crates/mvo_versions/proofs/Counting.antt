@@ -4,8 +4,8 @@ use Rattle.std.specs.Prelude.{◌==◌, ◌&&◌, is_some, is_none}
 use Rattle.std.specs.List.{list_any}
 use Rattle.std.proofs.lemmas.Bool.{eq-eqb, eqb-true, ne_eqb, cases_eq, true≢false, or_left, or_right}
 use Rattle.mvo_theory.specs.Sound.{how_many}
-use Rattle.mvo_hash.specs.Lists.{newest_of, is_among, without, older_of, newer_behind}
-use Rattle.mvo_versions.specs.Runs.{runs_behind, entry_of, or_none, passes}
+use Rattle.mvo_hash.specs.Lists.{newest_of, is_among, without_number, older_of, newer_behind}
+use Rattle.mvo_versions.specs.Runs.{runs_behind, runs_entry, or_none, passes}
 
 abbrev pub one : Bool → ℕ
 one b = cond b 1 0
@@ -37,22 +37,22 @@ in_front p n ns = go (p n) (runs_behind (p n) p ns) (one (p n && passes p (newes
     go true r j all e = omega (arith, e)
     go false r j all e = omega (arith, e)
 
-pub without_absent : (n : ℕ) (ns : List ℕ) → how_many (λ i. i == n) ns ≡ 0 → without n ns ≡ ns
+pub without_absent : (n : ℕ) (ns : List ℕ) → how_many (λ i. i == n) ns ≡ 0 → without_number n ns ≡ ns
 without_absent n [] e = refl
 without_absent n (m ∷ ns) e = go (cases_eq n m) (without_absent n ns)
   where
-    go : (n ≡ m) ⊎ (n ≡ m → ⊥) → (how_many (λ i. i == n) ns ≡ 0 → without n ns ≡ ns) → without n (m ∷ ns) ≡ m ∷ ns
+    go : (n ≡ m) ⊎ (n ≡ m → ⊥) → (how_many (λ i. i == n) ns ≡ 0 → without_number n ns ≡ ns) → without_number n (m ∷ ns) ≡ m ∷ ns
     go (inl q) again = absurd (let c : one (m == n) ≡ 1 = ap one (eq-eqb m n (sym q)) in omega (arith, e, c))
     go (inr d) again =
         let z : how_many (λ i. i == n) ns ≡ 0 = let c : one (m == n) ≡ 0 = ap one (ne_eqb m n (λ q. d (sym q))) in omega (arith, e, c) in
-        ap (λ b. cond (not b) (m ∷ without n ns) (without n ns)) (ne_eqb n m d) ∙ ap (λ ms. m ∷ ms) (again z)
+        ap (λ b. cond (not b) (m ∷ without_number n ns) (without_number n ns)) (ne_eqb n m d) ∙ ap (λ ms. m ∷ ms) (again z)
 
 abbrev pub IsPassed : (ℕ → Bool) → ℕ → Option ℕ → List ℕ → Type 0
-IsPassed p n front ns = runs_behind (passes p front) p (without n ns) + (one (p n && not (passes p (newer_behind front n ns))) + one (passes p (older_of n ns) && not (p n))) ≡ runs_behind (passes p front) p ns + one (passes p (older_of n ns) && not (passes p (newer_behind front n ns)))
+IsPassed p n front ns = runs_behind (passes p front) p (without_number n ns) + (one (p n && not (passes p (newer_behind front n ns))) + one (passes p (older_of n ns) && not (p n))) ≡ runs_behind (passes p front) p ns + one (passes p (older_of n ns) && not (passes p (newer_behind front n ns)))
 
 -- what is due of one that goes, where the first is it or isn't
 abbrev Over : (ℕ → Bool) → ℕ → ℕ → Option ℕ → List ℕ → Bool → Type 0
-Over p n m front ns b = runs_behind (passes p front) p (cond (not b) (m ∷ without n ns) (without n ns)) + (one (p n && not (passes p (cond b front (newer_behind (Some m) n ns)))) + one (passes p (cond b (newest_of ns) (older_of n ns)) && not (p n))) ≡ runs_behind (passes p front) p (m ∷ ns) + one (passes p (cond b (newest_of ns) (older_of n ns)) && not (passes p (cond b front (newer_behind (Some m) n ns))))
+Over p n m front ns b = runs_behind (passes p front) p (cond (not b) (m ∷ without_number n ns) (without_number n ns)) + (one (p n && not (passes p (cond b front (newer_behind (Some m) n ns)))) + one (passes p (cond b (newest_of ns) (older_of n ns)) && not (p n))) ≡ runs_behind (passes p front) p (m ∷ ns) + one (passes p (cond b (newest_of ns) (older_of n ns)) && not (passes p (cond b front (newer_behind (Some m) n ns))))
 
 -- One that goes from between its neighbours ends a run where neither passes as it does, and joins
 -- theirs where they pass and it doesn't.
@@ -95,22 +95,22 @@ few_runs p b (n ∷ ns) = go b (p n) (runs_behind (p n) p ns) (length ns) (few_r
     go false false r l h = omega (arith, h)
 
 -- ---- entries
-pub some_entry : (n : ℕ) → 0 < n → is_some (entry_of n) ≡ true
+pub some_entry : (n : ℕ) → 0 < n → is_some (runs_entry n) ≡ true
 some_entry zero h = absurd (omega (arith, h))
 some_entry (suc n) h = refl
 
-pub entry_back : (n : ℕ) → or_none (entry_of n) ≡ n
+pub entry_back : (n : ℕ) → or_none (runs_entry n) ≡ n
 entry_back zero = refl
 entry_back (suc n) = refl
 
 -- there is a run where one passes
-pub any_runs : (p : ℕ → Bool) (ns : List ℕ) → is_some (entry_of (runs_behind false p ns)) ≡ list_any p ns
+pub any_runs : (p : ℕ → Bool) (ns : List ℕ) → is_some (runs_entry (runs_behind false p ns)) ≡ list_any p ns
 any_runs p [] = refl
 any_runs p (n ∷ ns) = go (p n) (any_runs p ns)
   where
-    go : (c : Bool) → is_some (entry_of (runs_behind false p ns)) ≡ list_any p ns → is_some (entry_of (one (c && not false) + runs_behind c p ns)) ≡ (c || list_any p ns)
+    go : (c : Bool) → is_some (runs_entry (runs_behind false p ns)) ≡ list_any p ns → is_some (runs_entry (one (c && not false) + runs_behind c p ns)) ≡ (c || list_any p ns)
     go true h = some_entry (1 + runs_behind true p ns) (omega arith)
-    go false h = ap (λ m. is_some (entry_of m)) (omega arith) ∙ h
+    go false h = ap (λ m. is_some (runs_entry m)) (omega arith) ∙ h
 
 -- where all numbers are one there is one run at most
 pub one_run : (p : ℕ → Bool) (ns : List ℕ) → ((i j : ℕ) → is_among i ns ≡ true → is_among j ns ≡ true → i ≡ j) → ((i : ℕ) → how_many (λ m. m == i) ns ≤ 1) → runs_behind false p ns ≡ one (list_any p ns)
@@ -141,11 +141,11 @@ newer_among n front (i ∷ ns) m e = go (eqb n i) e (newer_among n (Some i) ns m
     ]
 
 -- one with another in front isn't the newest
-pub newest_stays : (n : ℕ) (front : Option ℕ) (ns : List ℕ) → front ≡ None → is_some (newer_behind front n ns) ≡ true → newest_of (without n ns) ≡ newest_of ns
+pub newest_stays : (n : ℕ) (front : Option ℕ) (ns : List ℕ) → front ≡ None → is_some (newer_behind front n ns) ≡ true → newest_of (without_number n ns) ≡ newest_of ns
 newest_stays n front [] f e = refl
 newest_stays n front (m ∷ ns) f e = go (eqb n m) e
   where
-    go : (b : Bool) → is_some (cond b front (newer_behind (Some m) n ns)) ≡ true → newest_of (cond (not b) (m ∷ without n ns) (without n ns)) ≡ Some m
+    go : (b : Bool) → is_some (cond b front (newer_behind (Some m) n ns)) ≡ true → newest_of (cond (not b) (m ∷ without_number n ns) (without_number n ns)) ≡ Some m
     go true g = absurd (true≢false (sym g ∙ ap is_some f))
     go false g = refl
 

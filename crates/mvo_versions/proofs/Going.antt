@@ -17,17 +17,17 @@ use Rattle.mvo_theory.specs.Sound.{how_many}
 use Rattle.mvo_chain.specs.declared.version.Version.{Version}
 use Rattle.mvo_chain.specs.declared.version.VersionNo.{VersionNo}
 use Rattle.mvo_chain.specs.Slots.{Slots, version_at, with_slot, with_change}
-use Rattle.mvo_hash.specs.Lists.{Lists, or_empty, with_numbers, numbers_of, newest_of, without, is_among, newer_of, IsHeld, IsNewer, IsOlder}
-use Rattle.mvo_range.specs.declared.place.Place.{Place}
-use Rattle.mvo_range.specs.Place.{Map as Places}
+use Rattle.mvo_hash.specs.Lists.{Lists, or_empty, with_numbers, numbers_of, newest_of, without_number, is_among, newer_of, IsHeld, IsNewer, IsOlder}
+use Rattle.mvo_range.specs.declared.sort_place.SortPlace.{SortPlace}
+use Rattle.mvo_range.specs.Place.{PlaceNumbers as Places}
 use Rattle.mvo_range.proofs.Places.{places_total}
 use Rattle.std.proofs.lemmas.Cmp.{eq_by_cmp_equiv}
 use Rattle.mvo_validate.specs.Entries.{key_at}
 use Rattle.mvo_visible.specs.Fronts.{with_front, with_less}
-use Rattle.mvo_representation.specs.Indexes.{all_versions, is_at_place, is_of_key, place_of, HasNumbers}
+use Rattle.mvo_representation.specs.Indexes.{all_versions, is_at_place, is_of_key, version_place, HasNumbers}
 use Rattle.mvo_versions.specs.Data.{VersionsData}
 use Rattle.mvo_versions.specs.Changes.{is_slot_at, is_number_at, HaveSamePlaces, IsInFront}
-use Rattle.mvo_versions.specs.Runs.{runs_at, entry_of, or_none, is_newest_at, place_at, left, entered, AreCounted}
+use Rattle.mvo_versions.specs.Runs.{runs_at, runs_entry, or_none, is_newest_at, place_at, left, entered, AreCounted}
 use Rattle.mvo_versions.proofs.Counting.{one, runs_alike, without_absent, newest_is}
 use Rattle.mvo_versions.proofs.Entries.{same, Has, entered_has, left_is, left_has, fewer}
 use Rattle.mvo_versions.proofs.Indexing.{set_itself, number_among, key_of_itself, reworded_numbers, front_numbers, less_numbers, inside_of, slot_there}
@@ -54,13 +54,13 @@ told v n P w e h = subst (λ o. IfSome o P) e h
 pub is_held : (v : VersionsData) (n : VersionNo) → IsSome (version_at v.slots n) → HasNumbers v.slots v.lists → IsHeld v.lists n.0
 is_held v n s h = let f = found v n s in (f.0.row.key, number_among v.slots v.lists n.0 f.0 h f.1)
 
-pub live_among : (v : VersionsData) (n : VersionNo) (p : Place) → IsSome (version_at v.slots n) → IfSome (version_at v.slots n) (λ w. p ≡ place_of w) → AreCounted v → is_among n.0 (numbers_of v.lists (key_at p)) ≡ true
+pub live_among : (v : VersionsData) (n : VersionNo) (p : SortPlace) → IsSome (version_at v.slots n) → IfSome (version_at v.slots n) (λ w. p ≡ version_place w) → AreCounted v → is_among n.0 (numbers_of v.lists (key_at p)) ≡ true
 live_among v n p s i h =
     let f = found v n s in
-    ap (λ q. is_among n.0 (numbers_of v.lists (key_at q))) (told v n (λ w. p ≡ place_of w) f.0 f.1 i) ∙ number_among v.slots v.lists n.0 f.0 h.numbers f.1
+    ap (λ q. is_among n.0 (numbers_of v.lists (key_at q))) (told v n (λ w. p ≡ version_place w) f.0 f.1 i) ∙ number_among v.slots v.lists n.0 f.0 h.numbers f.1
 
 -- ---- words
-reworded_runs : (slots : Slots) (lists : Lists) (n : ℕ) (v w : Version) (q : Place) → slice_index_or slots n None ≡ Some v → v.row ≡ w.row → runs_at (slice_set slots n (Some w)) lists q ≡ runs_at slots lists q
+reworded_runs : (slots : Slots) (lists : Lists) (n : ℕ) (v w : Version) (q : SortPlace) → slice_index_or slots n None ≡ Some v → v.row ≡ w.row → runs_at (slice_set slots n (Some w)) lists q ≡ runs_at slots lists q
 reworded_runs slots lists n v w q e r = runs_alike _ _ false (numbers_of lists (key_at q)) (λ m a. go m (cases_eq m n))
   where
     go : (m : ℕ) → (m ≡ n) ⊎ (m ≡ n → ⊥) → is_number_at (slice_set slots n (Some w)) q m ≡ is_number_at slots q m
@@ -82,7 +82,7 @@ reworded v n change alike h = go (version_at v.slots n) refl
     go None e = subst (λ ss. AreCounted (record v { slots = ss })) (sym (ap (λ o. slice_set v.slots n.0 (option_map change o)) e ∙ unchanged e)) h
     go (Some w) e = subst (λ ss. AreCounted (record v { slots = ss })) (sym (ap (λ o. slice_set v.slots n.0 (option_map change o)) e)) (record {
       numbers = reworded_numbers v.slots v.lists n.0 w (change w) e (sym (alike w)) h.numbers;
-      runs = λ q. h.runs q ∙ ap entry_of (sym (reworded_runs v.slots v.lists n.0 w (change w) q e (sym (alike w))));
+      runs = λ q. h.runs q ∙ ap runs_entry (sym (reworded_runs v.slots v.lists n.0 w (change w) q e (sym (alike w))));
       small = subst (λ l. l ≤ 2 ^ 32) (sym (length-set v.slots n.0 (Some (change w)))) h.small;
     })
 
@@ -90,8 +90,8 @@ reworded v n change alike h = go (version_at v.slots n) refl
 near_from : (lists : Lists) (k : RowKey) (n : ℕ) (newer older : Option VersionNo) → is_among n (numbers_of lists k) ≡ true → IsNewer lists n (option_map (λ (m : VersionNo). m.0) newer) → IsOlder lists n (option_map (λ (m : VersionNo). m.0) older) → AreNeighbours lists k n newer older
 near_from lists k n newer older a front back = record { front = front.at k a; back = back.at k a }
 
-module _ (v : VersionsData) (n : VersionNo) (p : Place) (k : RowKey) (newer older : Option VersionNo)
-    (s : IsSome (version_at v.slots n)) (i : IfSome (version_at v.slots n) (λ w. p ≡ place_of w)) (ki : k ≡ key_at p)
+module _ (v : VersionsData) (n : VersionNo) (p : SortPlace) (k : RowKey) (newer older : Option VersionNo)
+    (s : IsSome (version_at v.slots n)) (i : IfSome (version_at v.slots n) (λ w. p ≡ version_place w)) (ki : k ≡ key_at p)
     (front : IsNewer v.lists n.0 (option_map (λ (m : VersionNo). m.0) newer)) (back : IsOlder v.lists n.0 (option_map (λ (m : VersionNo). m.0) older))
     (h : AreCounted v) where
   w : Version
@@ -101,8 +101,8 @@ module _ (v : VersionsData) (n : VersionNo) (p : Place) (k : RowKey) (newer olde
   unfolding w found
   there = (found v n s).1
 
-  place_is : p ≡ place_of w
-  place_is = told v n (λ w. p ≡ place_of w) w there i
+  place_is : p ≡ version_place w
+  place_is = told v n (λ w. p ≡ version_place w) w there i
 
   key_is : k ≡ w.row.key
   key_is = ki ∙ ap key_at place_is
@@ -110,11 +110,11 @@ module _ (v : VersionsData) (n : VersionNo) (p : Place) (k : RowKey) (newer olde
   near : AreNeighbours v.lists w.row.key n.0 newer older
   near = near_from v.lists w.row.key n.0 newer older (number_among v.slots v.lists n.0 w h.numbers there) front back
 
-  left_places : (places : Places) (f : Place → ℕ) → Has places f → Has (left v.slots places p newer older) (λ q. f q - fewer (place_of w) (place_at v.slots newer) (place_at v.slots older) q)
+  left_places : (places : Places) (f : SortPlace → ℕ) → Has places f → Has (left v.slots places p newer older) (λ q. f q - fewer (version_place w) (place_at v.slots newer) (place_at v.slots older) q)
   left_places places f has =
-      subst (λ x. Has x (λ q. f q - fewer (place_of w) (place_at v.slots newer) (place_at v.slots older) q))
-      (sym (ap (λ x. left v.slots places x newer older) place_is ∙ left_is v.slots places (place_of w) newer older))
-      (left_has places f (place_of w) (place_at v.slots newer) (place_at v.slots older) has)
+      subst (λ x. Has x (λ q. f q - fewer (version_place w) (place_at v.slots newer) (place_at v.slots older) q))
+      (sym (ap (λ x. left v.slots places x newer older) place_is ∙ left_is v.slots places (version_place w) newer older))
+      (left_has places f (version_place w) (place_at v.slots newer) (place_at v.slots older) has)
 
   pub went : (slots : Slots) (lists : Lists) (places : Places) → slots ≡ with_slot v.slots n None → lists ≡ with_less v.lists k n.0 → places ≡ left v.slots v.places p newer older → AreCounted (with_all slots lists places)
   went slots lists places ss ls ps =
@@ -122,7 +122,7 @@ module _ (v : VersionsData) (n : VersionNo) (p : Place) (k : RowKey) (newer olde
       (subst (λ x. AreCounted (with_all (with_slot v.slots n None) x places)) (sym (ls ∙ ap (λ x. with_less v.lists x n.0) key_is))
       (subst (λ x. AreCounted (with_all (with_slot v.slots n None) (with_less v.lists w.row.key n.0) x)) (sym ps) (record {
         numbers = less_numbers v.slots v.lists n w there h.numbers;
-        runs = λ q. left_places v.places (runs_at v.slots v.lists) h.runs q ∙ ap entry_of (sym (goes_runs v.slots v.lists n w newer older q there h.numbers near));
+        runs = λ q. left_places v.places (runs_at v.slots v.lists) h.runs q ∙ ap runs_entry (sym (goes_runs v.slots v.lists n w newer older q there h.numbers near));
         small = subst (λ l. l ≤ 2 ^ 32) (sym (length-set v.slots n.0 None)) h.small;
       })))
 
@@ -132,35 +132,35 @@ module _ (v : VersionsData) (n : VersionNo) (p : Place) (k : RowKey) (newer olde
       subst (λ x. AreCounted (with_all v.slots x places)) (sym (ls ∙ ap (λ x. with_front v.lists x n.0) key_is))
       (subst (λ x. AreCounted (with_all v.slots (with_front v.lists w.row.key n.0) x)) (sym (ps ∙ ap (λ x. left v.slots x p newer older) between_is)) (record {
         numbers = front_numbers v.slots v.lists n.0 w there h.numbers;
-        runs = λ q. left_places (entered newest v.places (place_of w)) (λ r. runs_at v.slots v.lists r + cond newest 0 (one (same r (place_of w)))) (entered_has newest v.places (runs_at v.slots v.lists) (place_of w) h.runs) q
-            ∙ ap entry_of (sym (front_runs v.slots v.lists n w newer older q there h.numbers near behind));
+        runs = λ q. left_places (entered newest v.places (version_place w)) (λ r. runs_at v.slots v.lists r + cond newest 0 (one (same r (version_place w)))) (entered_has newest v.places (runs_at v.slots v.lists) (version_place w) h.runs) q
+            ∙ ap runs_entry (sym (front_runs v.slots v.lists n w newer older q there h.numbers near behind));
         small = h.small;
       }))
     where
       newest : Bool
-      newest = is_newest_at v.slots v.lists (place_of w)
+      newest = is_newest_at v.slots v.lists (version_place w)
 
-      between_is : between ≡ entered newest v.places (place_of w)
+      between_is : between ≡ entered newest v.places (version_place w)
       between_is = bs ∙ ap (λ x. entered x v.places p) (j ∙ ap (is_newest_at v.slots v.lists) place_is) ∙ ap (entered newest v.places) place_is
 
   -- the place of what is there has an entry
   pub has_entry : fin.get v.places p ≡ None → ⊥
-  has_entry e = true≢false (sym (ap is_some (sym e) ∙ (indexed v h).order.at p ∙ ap (λ x. list_any (is_at_place x) (all_versions v.slots)) place_is ∙ slot_there (place_of w) v.slots n.0 (ap (is_slot_at (place_of w)) there ∙ place_of_itself)))
+  has_entry e = true≢false (sym (ap is_some (sym e) ∙ (indexed v h).order.at p ∙ ap (λ x. list_any (is_at_place x) (all_versions v.slots)) place_is ∙ slot_there (version_place w) v.slots n.0 (ap (is_slot_at (version_place w)) there ∙ place_of_itself)))
     where
-      place_of_itself : same (place_of w) (place_of w) ≡ true
-      place_of_itself = (eq_by_cmp_equiv places_total).refl (place_of w)
+      place_of_itself : same (version_place w) (version_place w) ≡ true
+      place_of_itself = (eq_by_cmp_equiv places_total).refl (version_place w)
 
 -- the places of the same versions are the same
 pub same_places : (slots : Slots) (lists lists' : Lists) (places places' : Places) → AreCounted (with_all slots lists places) → AreCounted (with_all slots lists' places') → HaveSamePlaces places places'
 same_places slots lists lists' places places' h i = record { at = λ p. (indexed (with_all slots lists' places') i).order.at p ∙ sym ((indexed (with_all slots lists places) h).order.at p) }
 
 -- what is in front already stays there
-front_list : (n : ℕ) (ns : List ℕ) → newest_of ns ≡ Some n → how_many (λ i. i == n) ns ≡ 1 → n ∷ without n ns ≡ ns
+front_list : (n : ℕ) (ns : List ℕ) → newest_of ns ≡ Some n → how_many (λ i. i == n) ns ≡ 1 → n ∷ without_number n ns ≡ ns
 front_list n [] e once = absurd cc
 front_list n (m ∷ ns) e once =
     let is : m ≡ n = ap or_none e in
     let rest : how_many (λ i. i == n) ns ≡ 0 = let c : one (m == n) ≡ 1 = ap one (eq-eqb m n is) in omega (arith, once, c) in
-    ap (λ b. n ∷ cond (not b) (m ∷ without n ns) (without n ns)) (eq-eqb n m (sym is))
+    ap (λ b. n ∷ cond (not b) (m ∷ without_number n ns) (without_number n ns)) (eq-eqb n m (sym is))
     ∙ ap (λ ms. n ∷ ms) (without_absent n ns rest) ∙ ap (λ i. i ∷ ns) (sym is)
 
 put_itself : (lists : Lists) (k : RowKey) (ns : List ℕ) → (o : Option (List ℕ)) → fin.get lists k ≡ o → ns ≡ or_empty o → (n : ℕ) → newest_of ns ≡ Some n → with_numbers lists k ns ≡ lists
@@ -187,8 +187,8 @@ stays_front v n h front = record {
 }
 
 -- the key of the place is that of the version
-pub key_there : (v : VersionsData) (n : VersionNo) (p : Place) (k : RowKey) (w : Version) → IfSome (version_at v.slots n) (λ w. p ≡ place_of w) → k ≡ key_at p → version_at v.slots n ≡ Some w → k ≡ w.row.key
-key_there v n p k w i ki e = ki ∙ ap key_at (told v n (λ u. p ≡ place_of u) w e i)
+pub key_there : (v : VersionsData) (n : VersionNo) (p : SortPlace) (k : RowKey) (w : Version) → IfSome (version_at v.slots n) (λ w. p ≡ version_place w) → k ≡ key_at p → version_at v.slots n ≡ Some w → k ≡ w.row.key
+key_there v n p k w i ki e = ki ∙ ap key_at (told v n (λ u. p ≡ version_place u) w e i)
 
 -- what is refused only without an entry isn't refused with one
 pub made_anyway : {X E P Q : Type 0} (r : Result X E) → OnOk r P → OnErr r Q → (Q → ⊥) → P

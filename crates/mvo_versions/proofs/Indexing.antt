@@ -17,34 +17,20 @@ use Rattle.mvo_chain.specs.declared.version.Version.{Version}
 use Rattle.mvo_chain.specs.declared.version.VersionNo.{VersionNo}
 use Rattle.mvo_chain.specs.Slots.{Slots, version_at, with_room, with_slot, with_change, hole_count}
 use Rattle.std.specs.Option.{option_map}
-use Rattle.mvo_hash.specs.Lists.{Lists, or_empty, numbers_of, with_numbers, without, is_among, IsFresh}
-use Rattle.mvo_range.specs.declared.place.Place.{Place}
-use Rattle.mvo_range.specs.Place.{Map as Places}
+use Rattle.mvo_hash.specs.Lists.{Lists, numbers_of, without_number, is_among, IsNewNumber}
+use Rattle.mvo_range.specs.declared.sort_place.SortPlace.{SortPlace}
+use Rattle.mvo_range.specs.Place.{PlaceNumbers as Places}
 use Rattle.mvo_range.proofs.Places.{exact_places}
 use Rattle.mvo_validate.specs.Entries.{key_at}
 use Rattle.mvo_visible.specs.Fronts.{with_front, with_less}
-use Rattle.mvo_representation.specs.Indexes.{all_versions, is_of_key, HasNumbers, place_of, is_at_place, HasPlaces}
+use Rattle.mvo_representation.specs.Indexes.{all_versions, is_of_key, HasNumbers, version_place, is_at_place, HasPlaces}
 use Rattle.mvo_representation.specs.Steps.{IsOneChanged}
 use Rattle.mvo_representation.proofs.Slots.{room_made, slot_changed}
-use Rattle.mvo_representation.proofs.Numbers.{numbers_gone}
+use Rattle.mvo_representation.proofs.Numbers.{numbers_gone, numbers_with}
 use Rattle.mvo_representation.proofs.Indexed.{places_same}
 use Rattle.mvo_versions.specs.Data.{VersionsData, AreIndexed}
 use Rattle.mvo_versions.specs.Changes.{is_slot_at, is_number_at}
-
-abbrev one : Bool → ℕ
-one b = cond b 1 0
-
-pub numbers_with : (lists : Lists) (k : RowKey) (ns : List ℕ) (q : RowKey) → numbers_of (with_numbers lists k ns) q ≡ cond (eq_by_cmp key_cmp q k) ns (numbers_of lists q)
-numbers_with lists k [] q = ap or_empty (fin.get-remove keys_total lists k q) ∙ go (eq_by_cmp key_cmp q k)
-  where
-    go : (b : Bool) → or_empty (cond b None (fin.get lists q)) ≡ cond b [] (numbers_of lists q)
-    go true = refl
-    go false = refl
-numbers_with lists k (n ∷ ns) q = ap or_empty (fin.get-insert keys_total lists k (n ∷ ns) q) ∙ go (eq_by_cmp key_cmp q k)
-  where
-    go : (b : Bool) → or_empty (cond b (Some (n ∷ ns)) (fin.get lists q)) ≡ cond b (n ∷ ns) (numbers_of lists q)
-    go true = refl
-    go false = refl
+use Rattle.mvo_versions.proofs.Counting.{one}
 
 -- ---- slots
 pub set_itself : (slots : Slots) (n : ℕ) → slice_set slots n (slice_index_or slots n None) ≡ slots
@@ -122,7 +108,7 @@ some_of n (m ∷ ns) e = go (cases_eq m n) (some_of n ns)
         ∙ again (let c : one (m == n) ≡ 0 = ap one (ne_eqb m n d) in omega (arith, e, c))
 
 -- no key has the number of an empty slot
-pub empty_fresh : (slots : Slots) (lists : Lists) (n : ℕ) → HasNumbers slots lists → slice_index_or slots n None ≡ None → IsFresh lists n
+pub empty_fresh : (slots : Slots) (lists : Lists) (n : ℕ) → HasNumbers slots lists → slice_index_or slots n None ≡ None → IsNewNumber lists n
 empty_fresh slots lists n h e = record { at = λ k. none_of n (numbers_of lists k) (h.at k n ∙ ap (λ x. one (is_of_key k x)) e) }
 
 pub key_of_itself : (k : RowKey) → eq_by_cmp key_cmp k k ≡ true
@@ -163,34 +149,34 @@ reworded v n change same h = go (version_at v.slots n) refl
     })
 
 -- ---- the front
-without_none : (n j : ℕ) (ns : List ℕ) → how_many (λ i. i == n) (without n ns) ≡ 0
+without_none : (n j : ℕ) (ns : List ℕ) → how_many (λ i. i == n) (without_number n ns) ≡ 0
 without_none n j [] = refl
 without_none n j (m ∷ ns) = go (cases_eq n m) (without_none n j ns)
   where
-    go : (n ≡ m) ⊎ (n ≡ m → ⊥) → how_many (λ i. i == n) (without n ns) ≡ 0 → how_many (λ i. i == n) (cond (not (eqb n m)) (m ∷ without n ns) (without n ns)) ≡ 0
-    go (inl q) z = ap (λ b. how_many (λ i. i == n) (cond (not b) (m ∷ without n ns) (without n ns))) (eq-eqb n m q) ∙ z
+    go : (n ≡ m) ⊎ (n ≡ m → ⊥) → how_many (λ i. i == n) (without_number n ns) ≡ 0 → how_many (λ i. i == n) (cond (not (eqb n m)) (m ∷ without_number n ns) (without_number n ns)) ≡ 0
+    go (inl q) z = ap (λ b. how_many (λ i. i == n) (cond (not b) (m ∷ without_number n ns) (without_number n ns))) (eq-eqb n m q) ∙ z
     go (inr d) z =
-        ap (λ b. how_many (λ i. i == n) (cond (not b) (m ∷ without n ns) (without n ns))) (ne_eqb n m d)
+        ap (λ b. how_many (λ i. i == n) (cond (not b) (m ∷ without_number n ns) (without_number n ns))) (ne_eqb n m d)
         ∙ (let c : one (m == n) ≡ 0 = ap one (ne_eqb m n (λ q. d (sym q))) in omega (arith, z, c))
 
-without_others : (n j : ℕ) (ns : List ℕ) → (j ≡ n → ⊥) → how_many (λ i. i == j) (without n ns) ≡ how_many (λ i. i == j) ns
+without_others : (n j : ℕ) (ns : List ℕ) → (j ≡ n → ⊥) → how_many (λ i. i == j) (without_number n ns) ≡ how_many (λ i. i == j) ns
 without_others n j [] d = refl
 without_others n j (m ∷ ns) d = go (cases_eq n m) (without_others n j ns d)
   where
-    go : (n ≡ m) ⊎ (n ≡ m → ⊥) → how_many (λ i. i == j) (without n ns) ≡ how_many (λ i. i == j) ns → how_many (λ i. i == j) (cond (not (eqb n m)) (m ∷ without n ns) (without n ns)) ≡ one (m == j) + how_many (λ i. i == j) ns
+    go : (n ≡ m) ⊎ (n ≡ m → ⊥) → how_many (λ i. i == j) (without_number n ns) ≡ how_many (λ i. i == j) ns → how_many (λ i. i == j) (cond (not (eqb n m)) (m ∷ without_number n ns) (without_number n ns)) ≡ one (m == j) + how_many (λ i. i == j) ns
     go (inl q) z =
-        ap (λ b. how_many (λ i. i == j) (cond (not b) (m ∷ without n ns) (without n ns))) (eq-eqb n m q)
+        ap (λ b. how_many (λ i. i == j) (cond (not b) (m ∷ without_number n ns) (without_number n ns))) (eq-eqb n m q)
         ∙ (let c : one (m == j) ≡ 0 = ap one (ne_eqb m j (λ i. d (sym i ∙ sym q))) in omega (arith, z, c))
     go (inr e) z =
-        ap (λ b. how_many (λ i. i == j) (cond (not b) (m ∷ without n ns) (without n ns))) (ne_eqb n m e)
+        ap (λ b. how_many (λ i. i == j) (cond (not b) (m ∷ without_number n ns) (without_number n ns))) (ne_eqb n m e)
         ∙ ap (λ x. one (m == j) + x) z
 
 pub front_numbers : (slots : Slots) (lists : Lists) (n : ℕ) (v : Version) → slice_index_or slots n None ≡ Some v → HasNumbers slots lists → HasNumbers slots (with_front lists v.row.key n)
-front_numbers slots lists n v e h = record { at = λ q m. ap (how_many (λ i. i == m)) (numbers_with lists v.row.key (n ∷ without n (numbers_of lists v.row.key)) q) ∙ go q m (eq_by_cmp key_cmp q v.row.key) refl ∙ h.at q m }
+front_numbers slots lists n v e h = record { at = λ q m. ap (how_many (λ i. i == m)) (numbers_with lists v.row.key (n ∷ without_number n (numbers_of lists v.row.key)) q) ∙ go q m (eq_by_cmp key_cmp q v.row.key) refl ∙ h.at q m }
   where
-    same : (m : ℕ) → (m ≡ n) ⊎ (m ≡ n → ⊥) → how_many (λ i. i == m) (n ∷ without n (numbers_of lists v.row.key)) ≡ how_many (λ i. i == m) (numbers_of lists v.row.key)
+    same : (m : ℕ) → (m ≡ n) ⊎ (m ≡ n → ⊥) → how_many (λ i. i == m) (n ∷ without_number n (numbers_of lists v.row.key)) ≡ how_many (λ i. i == m) (numbers_of lists v.row.key)
     same m (inl q) =
-        ap (λ j. how_many (λ i. i == j) (n ∷ without n (numbers_of lists v.row.key))) q
+        ap (λ j. how_many (λ i. i == j) (n ∷ without_number n (numbers_of lists v.row.key))) q
         ∙ (let c : one (n == n) ≡ 1 = ap one (eq-eqb n n refl) in
         let z = without_none n n (numbers_of lists v.row.key) in
         let l : how_many (λ i. i == n) (numbers_of lists v.row.key) ≡ 1 = h.at v.row.key n ∙ ap (λ x. one (is_of_key v.row.key x)) e ∙ ap one (key_of_itself v.row.key) in
@@ -201,13 +187,13 @@ front_numbers slots lists n v e h = record { at = λ q m. ap (how_many (λ i. i 
         let o = without_others n m (numbers_of lists v.row.key) d in
         omega (arith, c, o)
 
-    go : (q : RowKey) (m : ℕ) (b : Bool) → eq_by_cmp key_cmp q v.row.key ≡ b → how_many (λ i. i == m) (cond b (n ∷ without n (numbers_of lists v.row.key)) (numbers_of lists q)) ≡ how_many (λ i. i == m) (numbers_of lists q)
+    go : (q : RowKey) (m : ℕ) (b : Bool) → eq_by_cmp key_cmp q v.row.key ≡ b → how_many (λ i. i == m) (cond b (n ∷ without_number n (numbers_of lists v.row.key)) (numbers_of lists q)) ≡ how_many (λ i. i == m) (numbers_of lists q)
     go q m true k = same m (cases_eq m n) ∙ ap (λ j. how_many (λ i. i == m) (numbers_of lists j)) (sym (tells_apart exact_keys q v.row.key k))
     go q m false k = refl
 
 -- ---- a version goes
 -- where a version stands at the place, one of the key's numbers does, and where one does, it does
-pub slot_there : (place : Place) (slots : Slots) (n : ℕ) → is_number_at slots place n ≡ true → list_any (is_at_place place) (all_versions slots) ≡ true
+pub slot_there : (place : SortPlace) (slots : Slots) (n : ℕ) → is_number_at slots place n ≡ true → list_any (is_at_place place) (all_versions slots) ≡ true
 slot_there place [] zero e = absurd (true≢false (sym e))
 slot_there place [] (suc n) e = absurd (true≢false (sym e))
 slot_there place (None ∷ xs) zero e = absurd (true≢false (sym e))
@@ -219,13 +205,13 @@ slot_there place (Some v ∷ xs) (suc n) e = ap (λ b. is_at_place place v || b)
     or_true true = refl
     or_true false = refl
 
-record IsThere (place : Place) (slots : Slots) : Type 0 where
+record IsThere (place : SortPlace) (slots : Slots) : Type 0 where
   number : ℕ
   version : Version
   at : slice_index_or slots number None ≡ Some version
   place' : is_at_place place version ≡ true
 
-there_slot : (place : Place) (slots : Slots) → list_any (is_at_place place) (all_versions slots) ≡ true → IsThere place slots
+there_slot : (place : SortPlace) (slots : Slots) → list_any (is_at_place place) (all_versions slots) ≡ true → IsThere place slots
 there_slot place [] e = absurd (true≢false (sym e))
 there_slot place (None ∷ xs) e = let h = there_slot place xs e in record { number = suc h.number; version = h.version; at = h.at; place' = h.place' }
 there_slot place (Some v ∷ xs) e = go (is_at_place place v) refl e (there_slot place xs)
@@ -254,10 +240,10 @@ any_of p (m ∷ ns) e = go (p m) refl e (any_of p ns)
     go true q f again = (m, q)
     go false q f again = again f
 
-pub at_key : (place : Place) (v : Version) → is_at_place place v ≡ true → v.row.key ≡ key_at place
-at_key place v e = sym (ap key_at (tells_apart exact_places place (place_of v) e))
+pub at_key : (place : SortPlace) (v : Version) → is_at_place place v ≡ true → v.row.key ≡ key_at place
+at_key place v e = sym (ap key_at (tells_apart exact_places place (version_place v) e))
 
-pub found_at : (slots : Slots) (lists : Lists) (place : Place) → HasNumbers slots lists → list_any (is_number_at slots place) (numbers_of lists (key_at place)) ≡ list_any (is_at_place place) (all_versions slots)
+pub found_at : (slots : Slots) (lists : Lists) (place : SortPlace) → HasNumbers slots lists → list_any (is_number_at slots place) (numbers_of lists (key_at place)) ≡ list_any (is_at_place place) (all_versions slots)
 found_at slots lists place h = go (list_any (is_number_at slots place) (numbers_of lists (key_at place))) refl (list_any (is_at_place place) (all_versions slots)) refl
   where
     go : (a : Bool) → list_any (is_number_at slots place) (numbers_of lists (key_at place)) ≡ a → (b : Bool) → list_any (is_at_place place) (all_versions slots) ≡ b → a ≡ b

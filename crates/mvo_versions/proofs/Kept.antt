@@ -13,16 +13,17 @@ use Rattle.mvo_types.specs.Keys.{key_cmp}
 use Rattle.mvo_chain.specs.declared.version.Version.{Version}
 use Rattle.mvo_chain.specs.declared.version.VersionNo.{VersionNo}
 use Rattle.mvo_chain.specs.Slots.{Slots, version_at, with_room}
-use Rattle.mvo_hash.specs.Lists.{Lists, number, numbers_of, with_numbers, without, is_among}
+use Rattle.mvo_hash.specs.Lists.{Lists, number, numbers_of, with_numbers, without_number, is_among}
 use Rattle.mvo_visible.specs.Fronts.{with_new, with_front, with_less}
 use Rattle.mvo_representation.specs.Indexes.{is_of_key, HasNumbers}
 use Rattle.mvo_representation.specs.Steps.{fresh}
+use Rattle.mvo_representation.proofs.Numbers.{numbers_with}
 use Rattle.mvo_versions.specs.declared.skips.Post.{Post}
 use Rattle.mvo_versions.specs.declared.skip.Skip.{Skip}
 use Rattle.mvo_versions.specs.Data.{VersionsData, AreIndexed}
 use Rattle.mvo_versions.specs.Changes.{IsPut, IsRoomed, IsReworded, IsInFront, IsTakenOut}
 use Rattle.mvo_versions.specs.Skips.{begin_of_ended, is_ended_from, from_on, leads, skip_at, HasNoMore, IsForgotten, IsNoted, IsSkip, AreSkips, HasSkips, IsUnlessEnded}
-use Rattle.mvo_versions.proofs.Indexing.{number_among, numbers_with, none_of, room_same}
+use Rattle.mvo_versions.proofs.Indexing.{number_among, none_of, room_same}
 use Rattle.mvo_versions.proofs.Going.{found}
 use Rattle.mvo_versions.proofs.Posts.{none_known}
 use Rattle.mvo_versions.proofs.Words.{not_ended}
@@ -39,20 +40,20 @@ two x y p q = ap (λ b. b && y) p ∙ q
 
 -- ---- a skip up to a version, where another one changes
 -- as it goes
-pub leads_without : (old new : Slots) (n b to : ℕ) → DifferAtOne old new n → to ≢ n → (ms : List ℕ) → leads old b to ms ≡ true → leads new b to (without n ms) ≡ true
+pub leads_without : (old new : Slots) (n b to : ℕ) → DifferAtOne old new n → to ≢ n → (ms : List ℕ) → leads old b to ms ≡ true → leads new b to (without_number n ms) ≡ true
 leads_without old new n b to d t [] h = absurd (true≢false (sym h))
 leads_without old new n b to d t (m ∷ ms) h =
     let parts = and_parts (is_ended_from old b m) (eqb m to || leads old b to ms) h in
     elim (cases_eq n m) [
       | inl q ↦
           let passed : leads old b to ms ≡ true = sym (ap (λ x. x || leads old b to ms) (ne_eqb m to (λ e. t (sym e ∙ sym q)))) ∙ parts.1 in
-          ap (λ x. leads new b to (cond (not x) (m ∷ without n ms) (without n ms))) (eq-eqb n m q) ∙ leads_without old new n b to d t ms passed
+          ap (λ x. leads new b to (cond (not x) (m ∷ without_number n ms) (without_number n ms))) (eq-eqb n m q) ∙ leads_without old new n b to d t ms passed
       | inr c ↦
-          ap (λ x. leads new b to (cond (not x) (m ∷ without n ms) (without n ms))) (ne_eqb n m c)
-          ∙ two (is_ended_from new b m) (eqb m to || leads new b to (without n ms)) (ended_same old new n b m d (λ e. c (sym e)) ∙ parts.0)
+          ap (λ x. leads new b to (cond (not x) (m ∷ without_number n ms) (without_number n ms))) (ne_eqb n m c)
+          ∙ two (is_ended_from new b m) (eqb m to || leads new b to (without_number n ms)) (ended_same old new n b m d (λ e. c (sym e)) ∙ parts.0)
           (elim (or_cases (eqb m to) (leads old b to ms) parts.1) [
-            | inl e ↦ or_left (eqb m to) (leads new b to (without n ms)) e
-            | inr e ↦ or_right (eqb m to) (leads new b to (without n ms)) (leads_without old new n b to d t ms e)
+            | inl e ↦ or_left (eqb m to) (leads new b to (without_number n ms)) e
+            | inr e ↦ or_right (eqb m to) (leads new b to (without_number n ms)) (leads_without old new n b to d t ms e)
           ])
     ]
 
@@ -108,25 +109,25 @@ leads_head slots b to p (m ∷ ms) h =
     ]
 
 -- ---- the numbers from one on
-from_without : (p n : ℕ) → p ≢ n → (ms : List ℕ) → from_on p (without n ms) ≡ without n (from_on p ms)
+from_without : (p n : ℕ) → p ≢ n → (ms : List ℕ) → from_on p (without_number n ms) ≡ without_number n (from_on p ms)
 from_without p n d [] = refl
 from_without p n d (m ∷ ms) =
     elim (cases_eq n m) [
       | inl q ↦
-          ap (λ x. from_on p (cond (not x) (m ∷ without n ms) (without n ms))) (eq-eqb n m q)
+          ap (λ x. from_on p (cond (not x) (m ∷ without_number n ms) (without_number n ms))) (eq-eqb n m q)
           ∙ from_without p n d ms
-          ∙ ap (without n) (sym (cond-false (eqb p m) (m ∷ ms) (from_on p ms) (ne_eqb p m (λ e. d (e ∙ sym q)))))
+          ∙ ap (without_number n) (sym (cond-false (eqb p m) (m ∷ ms) (from_on p ms) (ne_eqb p m (λ e. d (e ∙ sym q)))))
       | inr c ↦
-          ap (λ x. from_on p (cond (not x) (m ∷ without n ms) (without n ms))) (ne_eqb n m c)
+          ap (λ x. from_on p (cond (not x) (m ∷ without_number n ms) (without_number n ms))) (ne_eqb n m c)
           ∙ elim (cases_Bool (eqb p m)) [
             | inl t ↦
-                cond-true (eqb p m) (m ∷ without n ms) (from_on p (without n ms)) t
-                ∙ sym (ap (λ x. cond (not x) (m ∷ without n ms) (without n ms)) (ne_eqb n m c))
-                ∙ ap (without n) (sym (cond-true (eqb p m) (m ∷ ms) (from_on p ms) t))
+                cond-true (eqb p m) (m ∷ without_number n ms) (from_on p (without_number n ms)) t
+                ∙ sym (ap (λ x. cond (not x) (m ∷ without_number n ms) (without_number n ms)) (ne_eqb n m c))
+                ∙ ap (without_number n) (sym (cond-true (eqb p m) (m ∷ ms) (from_on p ms) t))
             | inr f ↦
-                cond-false (eqb p m) (m ∷ without n ms) (from_on p (without n ms)) f
+                cond-false (eqb p m) (m ∷ without_number n ms) (from_on p (without_number n ms)) f
                 ∙ from_without p n d ms
-                ∙ ap (without n) (sym (cond-false (eqb p m) (m ∷ ms) (from_on p ms) f))
+                ∙ ap (without_number n) (sym (cond-false (eqb p m) (m ∷ ms) (from_on p ms) f))
           ]
     ]
 
@@ -144,13 +145,13 @@ from_among p n (m ∷ ms) a =
 among_old : (p n : ℕ) → p ≢ n → (ms : List ℕ) → is_among p (n ∷ ms) ≡ true → is_among p ms ≡ true
 among_old p n d ms a = sym (ap (λ x. x || is_among p ms) (ne_eqb p n d)) ∙ a
 
-among_with : (p n : ℕ) (ms : List ℕ) → is_among p (without n ms) ≡ true → is_among p ms ≡ true
+among_with : (p n : ℕ) (ms : List ℕ) → is_among p (without_number n ms) ≡ true → is_among p ms ≡ true
 among_with p n [] a = a
 among_with p n (m ∷ ms) a =
     elim (cases_Bool (eqb n m)) [
-      | inl t ↦ or_right (eqb p m) (is_among p ms) (among_with p n ms (sym (ap (λ x. is_among p (cond (not x) (m ∷ without n ms) (without n ms))) t) ∙ a))
+      | inl t ↦ or_right (eqb p m) (is_among p ms) (among_with p n ms (sym (ap (λ x. is_among p (cond (not x) (m ∷ without_number n ms) (without_number n ms))) t) ∙ a))
       | inr f ↦
-          elim (or_cases (eqb p m) (is_among p (without n ms)) (sym (ap (λ x. is_among p (cond (not x) (m ∷ without n ms) (without n ms))) f) ∙ a)) [
+          elim (or_cases (eqb p m) (is_among p (without_number n ms)) (sym (ap (λ x. is_among p (cond (not x) (m ∷ without_number n ms) (without_number n ms))) f) ∙ a)) [
             | inl e ↦ or_left (eqb p m) (is_among p ms) e
             | inr e ↦ or_right (eqb p m) (is_among p ms) (among_with p n ms e)
           ]
@@ -214,7 +215,7 @@ gone_skips v w n x old new there numbered i f h = record { each = λ p r q. reco
         let d : p ≢ n.0 = λ s. f.begins r (subst (λ m. skip_at new m ≡ Some r) s q) in
         let t : r.to.0 ≢ n.0 = f.ends p r q in
         let skip = (h.each p r (f.was p r q)).at in
-        numbers_at v.lists x.row.key (without n.0 (numbers_of v.lists x.row.key)) key
+        numbers_at v.lists x.row.key (without_number n.0 (numbers_of v.lists x.row.key)) key
         (λ s is. (let ns = numbers_of v.lists x.row.key in
         ap (λ xs. leads w.slots r.least.0 r.to.0 (from_on p xs)) (e ∙ is)
         ∙ ap (leads w.slots r.least.0 r.to.0) (from_without p n.0 d ns)
@@ -269,15 +270,15 @@ front_skips v w n x old new there numbered i u h =
     at none p r q key ms e a =
         let f = not_ended v.slots r.least.0 n.0 none in
         let skip = (h.each p r q).at in
-        numbers_at v.lists x.row.key (n.0 ∷ without n.0 (numbers_of v.lists x.row.key)) key
+        numbers_at v.lists x.row.key (n.0 ∷ without_number n.0 (numbers_of v.lists x.row.key)) key
         (λ s is. (let ns = numbers_of v.lists x.row.key in
         elim (cases_eq p n.0) [
           | inl c ↦ absurd (true≢false (sym (leads_head v.slots r.least.0 r.to.0 p ns (skip x.row.key (ap (λ m. is_among m ns) c ∙ number_among v.slots v.lists n.0 x numbered there))) ∙ ap (is_ended_from v.slots r.least.0) c ∙ f))
           | inr d ↦
-              let led = skip x.row.key (among_with p n.0 ns (among_old p n.0 d (without n.0 ns) (sym (ap (is_among p) (e ∙ is)) ∙ a))) in
+              let led = skip x.row.key (among_with p n.0 ns (among_old p n.0 d (without_number n.0 ns) (sym (ap (is_among p) (e ∙ is)) ∙ a))) in
               let t : r.to.0 ≢ n.0 = λ c. true≢false (sym (leads_end v.slots r.least.0 r.to.0 (from_on p ns) led) ∙ ap (is_ended_from v.slots r.least.0) c ∙ f) in
               ap (λ xs. leads w.slots r.least.0 r.to.0 (from_on p xs)) (e ∙ is)
-              ∙ ap (leads w.slots r.least.0 r.to.0) (from_new p n.0 d (without n.0 ns) ∙ from_without p n.0 d ns)
+              ∙ ap (leads w.slots r.least.0 r.to.0) (from_new p n.0 d (without_number n.0 ns) ∙ from_without p n.0 d ns)
               ∙ leads_without v.slots w.slots n.0 r.least.0 r.to.0 same t (from_on p ns) led
         ]))
         (λ s is. (let ns = numbers_of v.lists key in

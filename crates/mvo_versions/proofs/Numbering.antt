@@ -8,7 +8,7 @@ use Rattle.mvo_types.specs.Keys.{key_cmp}
 use Rattle.mvo_theory.specs.Sound.{how_many}
 use Rattle.mvo_chain.specs.declared.version.Version.{Version}
 use Rattle.mvo_chain.specs.Slots.{Slots}
-use Rattle.mvo_hash.specs.Lists.{Lists, or_empty, IsFresh}
+use Rattle.mvo_hash.specs.Lists.{Lists, or_empty, IsNewNumber}
 use Rattle.mvo_visible.specs.Fronts.{with_new}
 use Rattle.mvo_representation.specs.Indexes.{is_of_key, HasNumbers}
 use Rattle.mvo_representation.proofs.Numbers.{numbers_added}
@@ -44,7 +44,7 @@ none_numbered slots lists e =
     subst (λ (l : Lists). HasNumbers [] l) (sym e)
     (record { at = λ k n. ap (λ (o : Option (List ℕ)). how_many (λ m. m == n) (or_empty o)) (fin.get-empty key_cmp k) })
 
-pub next_fresh : (slots : Slots) (lists : Lists) (i : ℕ) → i < length slots → HasNumbers (take i slots) lists → IsFresh lists i
+pub next_fresh : (slots : Slots) (lists : Lists) (i : ℕ) → i < length slots → HasNumbers (take i slots) lists → IsNewNumber lists i
 next_fresh slots lists i lt h = empty_fresh (take i slots) lists i h (past_end (take i slots) i (let is = length-take-le i slots (omega (arith, lt)) in omega (arith, is)))
 
 -- one slot more

@@ -1,5 +1,5 @@
 -- A walk over the versions of a key, past those in front that tell nothing below a begin.
-use Rattle.std.proofs.Common.{◌≡◌, ℕ, ◌≤◌, true, eqb, ◌||◌, List, [], ◌∷◌, ◌++◌, map, Option, None, Some, refl, sym, ap, ◌∙◌, subst, append_assoc, inl, inr}
+use Rattle.std.proofs.Common.{◌≡◌, ℕ, ◌≤◌, true, eqb, ◌||◌, List, [], ◌∷◌, ◌++◌, map, Option, None, Some, sym, ap, ◌∙◌, subst, append_assoc, inl, inr}
 use Rattle.std.specs.Option.{MatchOption}
 use Rattle.std.proofs.lemmas.Bool.{cases_Bool, and_parts, eqb-true, true≢false}
 use Rattle.mvo_types.specs.declared.row.RowKey.{RowKey}
@@ -7,11 +7,11 @@ use Rattle.mvo_chain.specs.declared.version.Version.{Version}
 use Rattle.mvo_chain.specs.declared.version.VersionNo.{VersionNo}
 use Rattle.mvo_chain.specs.Slots.{Slots, version_at}
 use Rattle.mvo_hash.specs.Lists.{Lists, number, numbers_of, is_among, foremost, LeadsTo}
-use Rattle.mvo_hash.proofs.Passing.{plain, plain_numbers}
+use Rattle.mvo_hash.proofs.Passing.{plain, plain_numbers, plain_split}
 use Rattle.mvo_visible.specs.declared.outcome.Shown.{Shown}
 use Rattle.mvo_visible.specs.Words.{States}
-use Rattle.mvo_visible.specs.Versions.{Numbered, and_version, versions_by, versions_at}
-use Rattle.mvo_visible.specs.Shown.{IsInOrder, shown_to}
+use Rattle.mvo_visible.specs.Versions.{NumberedVersion, and_version, versions_by, versions_at}
+use Rattle.mvo_visible.specs.Shown.{AreVersionsInOrder, shown_to}
 use Rattle.mvo_visible.specs.Walked.{AreLater}
 use Rattle.mvo_visible.proofs.Passed.{shown_behind}
 use Rattle.mvo_visible.proofs.Walks.{versions_by-append}
@@ -21,19 +21,15 @@ use Rattle.mvo_versions.specs.Skips.{begin_of_ended, is_ended_from, is_later_one
 use Rattle.mvo_versions.proofs.Words.{at_least_lower, ended_later}
 use Rattle.mvo_versions.proofs.Older.{among_split, from_split, once}
 
-plain_split : (front : List VersionNo) (n : VersionNo) (rest : List VersionNo) → plain (front ++ n ∷ rest) ≡ plain front ++ n.0 ∷ plain rest
-plain_split [] n rest = refl
-plain_split (m ∷ front) n rest = ap (λ ms. m.0 ∷ ms) (plain_split front n rest)
-
 -- ---- versions that tell nothing below b
-one_later : (b : ℕ) (n : VersionNo) (o : Option Version) (vs : List Numbered) → is_later_one b o ≡ true → AreLater b vs → AreLater b (and_version n o vs)
+one_later : (b : ℕ) (n : VersionNo) (o : Option Version) (vs : List NumberedVersion) → is_later_one b o ≡ true → AreLater b vs → AreLater b (and_version n o vs)
 one_later b n None vs l ls = ls
 one_later b n (Some v) vs l ls = (l, ls)
 
 pub later_cons : (b : ℕ) (slots : Slots) (n : VersionNo) (ns : List VersionNo) → is_later_one b (version_at slots n) ≡ true → AreLater b (versions_by slots ns) → AreLater b (versions_by slots (n ∷ ns))
 later_cons b slots n ns l ls = one_later b n (version_at slots n) (versions_by slots ns) l ls
 
-later_both : (b : ℕ) (vs ws : List Numbered) → AreLater b vs → AreLater b ws → AreLater b (vs ++ ws)
+later_both : (b : ℕ) (vs ws : List NumberedVersion) → AreLater b vs → AreLater b ws → AreLater b (vs ++ ws)
 later_both b [] ws l k = k
 later_both b (v ∷ vs) ws l k = (l.0, later_both b vs ws l.1 k)
 
@@ -113,8 +109,8 @@ next_is walk left None n rest e q = let none : walk ≡ [] = q.0 in cc
 next_is walk left (Some x) n rest e q = cc
 
 -- what is shown of the versions that are still to come is shown of all
-pub shown_past : (states : States) (r : ℕ) (slots : Slots) (lists : Lists) (key : RowKey) (walk : List VersionNo) (shown : Shown) → IsRest r slots (map number (numbers_of lists key)) walk → (IsInOrder states r r (versions_by slots walk) → shown ≡ shown_to states r r (versions_by slots walk)) → IsInOrder states r r (versions_at slots lists key) → shown ≡ shown_to states r r (versions_at slots lists key)
+pub shown_past : (states : States) (r : ℕ) (slots : Slots) (lists : Lists) (key : RowKey) (walk : List VersionNo) (shown : Shown) → IsRest r slots (map number (numbers_of lists key)) walk → (AreVersionsInOrder states r r (versions_by slots walk) → shown ≡ shown_to states r r (versions_by slots walk)) → AreVersionsInOrder states r r (versions_at slots lists key) → shown ≡ shown_to states r r (versions_at slots lists key)
 shown_past states r slots lists key walk shown p is =
-    subst (λ vs. IsInOrder states r r vs → shown ≡ shown_to states r r vs)
+    subst (λ vs. AreVersionsInOrder states r r vs → shown ≡ shown_to states r r vs)
     (sym (ap (versions_by slots) p.split ∙ versions_by-append slots p.front walk))
     (shown_behind states r r (versions_by slots p.front) (versions_by slots walk) shown p.later is)

@@ -6,11 +6,11 @@ use Rattle.mvo_types.specs.Keys.{Map}
 use Rattle.mvo_chain.specs.declared.version.Version.{Version}
 use Rattle.mvo_chain.specs.declared.version.VersionNo.{VersionNo}
 use Rattle.mvo_chain.specs.Slots.{Slots, version_at, with_room, with_slot, with_change, IsHole}
-use Rattle.mvo_hash.specs.Lists.{IsFresh}
+use Rattle.mvo_hash.specs.Lists.{IsNewNumber}
 use Rattle.mvo_visible.specs.Fronts.{with_new, with_front, with_less}
 use Rattle.mvo_representation.specs.Steps.{fresh}
-use Rattle.mvo_range.specs.declared.place.Place.{Place}
-use Rattle.mvo_range.specs.Place.{Map as Places}
+use Rattle.mvo_range.specs.declared.sort_place.SortPlace.{SortPlace}
+use Rattle.mvo_range.specs.Place.{PlaceNumbers as Places}
 use Rattle.mvo_representation.specs.Indexes.{all_versions, is_at_place}
 use Rattle.mvo_representation.specs.Versions.{loaded}
 use Rattle.mvo_versions.specs.Data.{VersionsData}
@@ -23,7 +23,7 @@ AreLoaded rows mark v = all_versions v.slots ≡ loaded rows mark
 pub record IsPut (old new : VersionsData) (row : RowData) (t : ℕ) (n : VersionNo) : Type 0 where
   pub hole : IsHole (with_room old.slots) n
   pub slots : new.slots ≡ with_slot (with_room old.slots) n (Some (fresh t row))
-  pub unused : IsFresh old.lists n.0
+  pub unused : IsNewNumber old.lists n.0
   pub lists : new.lists ≡ with_new old.lists row.key n.0
 
 -- nothing changes, but that there may be one more empty slot
@@ -41,7 +41,7 @@ pub record IsReworded (old new : VersionsData) (n : VersionNo)
 
 -- each place has an entry in both, or in neither: an entry's number is for the versions alone
 pub record HaveSamePlaces (old new : Places) : Type 0 where
-  pub at : (p : Place) → is_some (fin.get new p) ≡ is_some (fin.get old p)
+  pub at : (p : SortPlace) → is_some (fin.get new p) ≡ is_some (fin.get old p)
 
 -- the version comes to the front of its key
 pub record IsInFront (old new : VersionsData) (n : VersionNo) : Type 0 where
@@ -51,15 +51,15 @@ pub record IsInFront (old new : VersionsData) (n : VersionNo) : Type 0 where
   pub places : HaveSamePlaces old.places new.places
 
 -- whether the version with the number stands at the place
-abbrev pub is_slot_at : Place → Option Version → Bool
+abbrev pub is_slot_at : SortPlace → Option Version → Bool
 is_slot_at place None = false
 is_slot_at place (Some v) = is_at_place place v
 
-abbrev pub is_number_at : Slots → Place → ℕ → Bool
+abbrev pub is_number_at : Slots → SortPlace → ℕ → Bool
 is_number_at slots place n = is_slot_at place (slice_index_or slots n None)
 
 -- whether there is such a version, and it stands at the place
-abbrev pub is_one_at : Slots → Place → Option VersionNo → Bool
+abbrev pub is_one_at : Slots → SortPlace → Option VersionNo → Bool
 is_one_at slots place None = false
 is_one_at slots place (Some n) = is_number_at slots place n.0
 

@@ -1,7 +1,7 @@
 -- Versions with both their indexes.
 use Rattle.mvo_chain.specs.Slots.{Slots}
 use Rattle.mvo_hash.specs.Lists.{Lists}
-use Rattle.mvo_range.specs.Place.{Map as Places}
+use Rattle.mvo_range.specs.Place.{PlaceNumbers as Places}
 use Rattle.mvo_representation.specs.Indexes.{all_versions, HasNumbers, HasPlaces}
 
 -- the versions by number, the numbers of each key, newest first, and the places in order of sorts

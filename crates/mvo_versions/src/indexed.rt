@@ -6,7 +6,7 @@ use crate::listing::chains_of;
 use crate::runs::{enter, fits, give_back, joins, leave, place_of};
 use mvo_chain::{Chains, Version, VersionNo};
 use mvo_hash::HashIndex;
-use mvo_range::{Place, RangeIndex};
+use mvo_range::{RangeIndex, SortPlace};
 use mvo_types::{Row, Rows, Stamp, TxId};
 use mvo_word::Word;
 use std::alloc::{AllocError, Global};
@@ -38,13 +38,13 @@ impl Drop for Indexed {
 impl Model for Indexed {
     ghost use Rattle.std.specs.Coded.{codes};
     ghost use Rattle.mvo_hash.specs.Lists.{coded_lists};
-    ghost use Rattle.mvo_range.specs.Place.{coded_map};
+    ghost use Rattle.mvo_range.specs.Place.{coded_place_numbers};
     ghost use Rattle.mvo_versions.specs.Data.{VersionsData};
     ghost use Rattle.mvo_versions.specs.Runs.{AreCounted};
 
     ghost Value = { VersionsData };
 
-    ghost coded = { Prim.hlevel (codes, coded_lists, coded_map) };
+    ghost coded = { Prim.hlevel (codes, coded_lists, coded_place_numbers) };
 
     ghost view = { λ v. record { slots = v.chains; lists = v.index.versions; places = v.order } };
 
@@ -135,7 +135,7 @@ impl Indexed {
         ensures indexed { AreIndexed self.new }
     {
         let key = row.row_key();
-        let place = Place::new(key, row.sort);
+        let place = SortPlace::new(key, row.sort);
         let joins = joins(&self.chains, &self.index, like, place);
         let number = self.chains.add(row, Word::id(by))?;
         // There are no more slots than numbers, which the invariant asks for.

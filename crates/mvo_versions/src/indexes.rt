@@ -5,7 +5,7 @@ ghost use Rattle.mvo_representation.specs.Indexes.{HasNumbers};
 
 use mvo_chain::{Chains, VersionNo};
 use mvo_hash::HashIndex;
-use mvo_range::{Place, RangeIndex};
+use mvo_range::{RangeIndex, SortPlace};
 use std::alloc::{AllocError, Global};
 use std::thread::{Threads, join as beside};
 
@@ -39,7 +39,7 @@ fn at_once(
     alloc: Global,
     seed: u64,
     chains: &Chains,
-    places: Vec<(Place, u32)>,
+    places: Vec<(SortPlace, u32)>,
 ) -> Result<(HashIndex, RangeIndex), AllocError>
     requires { length chains.now ≤ 2 ^ 32 }
     ensures numbers { IfOk result (λ made. HasNumbers chains.now made.0.versions) }
@@ -65,7 +65,7 @@ pub fn indexes_of(
     alloc: Global,
     seed: u64,
     chains: &Chains,
-    places: Vec<(Place, u32)>,
+    places: Vec<(SortPlace, u32)>,
 ) -> Result<(HashIndex, RangeIndex), AllocError>
     requires { length chains.now ≤ 2 ^ 32 }
     ensures numbers { IfOk result (λ made. HasNumbers chains.now made.0.versions) }

@@ -7,7 +7,7 @@ ghost use Rattle.mvo_versions.specs.Loading.{AreListed};
 
 use crate::runs::fits;
 use mvo_chain::Chains;
-use mvo_range::Place;
+use mvo_range::SortPlace;
 use mvo_types::{Rows, Stamp};
 use mvo_word::Word;
 use std::alloc::{AllocError, Global};
@@ -17,7 +17,7 @@ pub fn chains_of(
     alloc: Global,
     rows: Rows,
     mark: Stamp,
-) -> Result<(Chains, Vec<(Place, u32)>), AllocError>
+) -> Result<(Chains, Vec<(SortPlace, u32)>), AllocError>
     requires { mark.0 ≤ LIMIT }
     ensures { IfOk result (λ made.
         AreListed (At mark) (rows_by_key rows) made.0 made.1.items) }
@@ -26,7 +26,7 @@ pub fn chains_of(
     let mut chains = Chains::new(alloc);
     let mut places = Vec::with_capacity(alloc, rows.len())?;
     for row in rows {
-        let place = Place::new(row.row_key(), row.sort);
+        let place = SortPlace::new(row.row_key(), row.sort);
         let number = chains.add(row, Word::stamp(mark))?;
         fits(number);
         // No other row has this key, so the version is a run by itself.

@@ -7,7 +7,7 @@ use crate::ended::is_later_one;
 use crate::indexed::Indexed;
 use crate::skips::Skips;
 use crate::versions::Versions;
-use mvo_hash::Versions as Numbers;
+use mvo_hash::VersionWalk as Numbers;
 use mvo_range::Walk;
 use mvo_txn::TxnTable;
 use mvo_types::{Entry, RowKey, Stamp, TxId};
@@ -22,14 +22,14 @@ impl Versions {
     ghost use Rattle.mvo_range.specs.Place.{is_between};
     ghost use Rattle.mvo_visible.specs.Versions.{versions_at};
     ghost use Rattle.mvo_visible.specs.Changes.{changes_of};
-    ghost use Rattle.mvo_visible.specs.Shown.{AllHaveFallingStamps, IsInOrder, shown_to};
+    ghost use Rattle.mvo_visible.specs.Shown.{AllHaveFallingStamps, AreVersionsInOrder, shown_to};
     ghost use Rattle.mvo_validate.specs.Between.{checked_by, stamp_between};
     ghost use Rattle.mvo_validate.specs.Entries.{versions_in};
 
     /// The version of a key that the transaction is shown, where the versions stand in order.
     pub fn shown<P>(&self, table: &TxnTable<P>, reader: TxId, key: RowKey) -> Shown
         ensures { let vs = versions_at self.now.slots self.now.lists key in
-            IsInOrder (state_of table.now) reader.0 reader.0 vs →
+            AreVersionsInOrder (state_of table.now) reader.0 reader.0 vs →
             result ≡ shown_to (state_of table.now) reader.0 reader.0 vs }
     {
         let walk = self.indexed.index().walk(key);
@@ -43,7 +43,7 @@ impl Versions {
     #[inline(never)]
     fn shown_by_walk<P>(&self, table: &TxnTable<P>, reader: TxId, key: RowKey) -> Shown
         ensures { let vs = versions_at self.now.slots self.now.lists key in
-            IsInOrder (state_of table.now) reader.0 reader.0 vs →
+            AreVersionsInOrder (state_of table.now) reader.0 reader.0 vs →
             result ≡ shown_to (state_of table.now) reader.0 reader.0 vs }
     {
         let at = Stamp(reader.0);

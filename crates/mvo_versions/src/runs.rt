@@ -7,14 +7,14 @@
 ghost use Rattle.std.specs.Prelude.{◌≡◌, ◌+◌, ◌<◌, ◌^◌, cond, None, OnOk, OnErr, IsSome, IfSome};
 ghost use Rattle.std.specs.FinMap as map;
 ghost use Rattle.mvo_chain.specs.Slots.{version_at};
-ghost use Rattle.mvo_representation.specs.Indexes.{HasNumbers, place_of as place_of_version};
+ghost use Rattle.mvo_representation.specs.Indexes.{HasNumbers, version_place as place_of_version};
 ghost use Rattle.mvo_versions.specs.Changes.{is_number_at, is_one_at};
 ghost use Rattle.mvo_versions.specs.Runs.{count_at, one_more, one_less, is_newest_at};
 ghost use Rattle.mvo_versions.specs.Runs.{place_at as place_at_number, joined_place, left, entered};
 
 use mvo_chain::{Chains, VersionNo};
 use mvo_hash::HashIndex;
-use mvo_range::{Place, RangeIndex};
+use mvo_range::{RangeIndex, SortPlace};
 use std::alloc::AllocError;
 
 /// For the proof alone: what the type of a number says of it.
@@ -25,17 +25,17 @@ pub fn fits(number: VersionNo)
 }
 
 /// The place of the version.
-pub fn place_of(chains: &Chains, number: VersionNo) -> Place
+pub fn place_of(chains: &Chains, number: VersionNo) -> SortPlace
     requires { IsSome (version_at chains.now number) }
     ensures { IfSome (version_at chains.now number) (λ v. result ≡ place_of_version v) }
 {
     let row = &chains.get(number).unwrap().row;
-    Place::new(row.row_key(), row.sort)
+    SortPlace::new(row.row_key(), row.sort)
 }
 
 /// Whether the newest version of its key stands at the place. It isn't looked up where `like` is
 /// the newest one and stands there.
-pub fn joins(chains: &Chains, index: &HashIndex, like: Option<VersionNo>, place: Place) -> bool
+pub fn joins(chains: &Chains, index: &HashIndex, like: Option<VersionNo>, place: SortPlace) -> bool
     requires { HasNumbers chains.now index.now.versions }
     ensures { result ≡ is_newest_at chains.now index.now.versions place }
 {
@@ -48,7 +48,7 @@ pub fn joins(chains: &Chains, index: &HashIndex, like: Option<VersionNo>, place:
 }
 
 /// Counts the run that a version begins which comes to the front of its key, unless it joins one.
-pub fn enter(order: &mut RangeIndex, place: Place, joins: bool) -> Result<(), AllocError>
+pub fn enter(order: &mut RangeIndex, place: SortPlace, joins: bool) -> Result<(), AllocError>
     requires { count_at order.old place + 1 < 2 ^ 32 }
     ensures ok { OnOk result (order.new ≡ entered joins order.old place) }
     ensures err { OnErr result (order.new ≡ order.old) }
@@ -64,7 +64,7 @@ pub fn enter(order: &mut RangeIndex, place: Place, joins: bool) -> Result<(), Al
 }
 
 /// Replaces the number of runs at a place that has an entry, which takes no memory.
-fn set_count(order: &mut RangeIndex, place: Place, runs: u32)
+fn set_count(order: &mut RangeIndex, place: SortPlace, runs: u32)
     requires { IsSome (map.get order.old place) }
     ensures { order.new ≡ map.insert order.old place runs }
 {
@@ -72,7 +72,7 @@ fn set_count(order: &mut RangeIndex, place: Place, runs: u32)
 }
 
 /// Takes back what `enter` did.
-pub fn give_back(order: &mut RangeIndex, place: Place, joins: bool)
+pub fn give_back(order: &mut RangeIndex, place: SortPlace, joins: bool)
     ensures { order.new ≡ cond joins order.old (one_less order.old place) }
 {
     if !joins {
@@ -85,7 +85,7 @@ pub fn give_back(order: &mut RangeIndex, place: Place, joins: bool)
 pub fn leave(
     order: &mut RangeIndex,
     chains: &Chains,
-    place: Place,
+    place: SortPlace,
     newer: Option<VersionNo>,
     older: Option<VersionNo>,
 )
@@ -101,7 +101,7 @@ pub fn leave(
 }
 
 /// One run fewer at the place, whose entry goes with the last one.
-fn count_down(order: &mut RangeIndex, place: Place)
+fn count_down(order: &mut RangeIndex, place: SortPlace)
     ensures { order.new ≡ one_less order.old place }
 {
     match order.get(place) {
@@ -117,7 +117,7 @@ fn joined_place(
     chains: &Chains,
     newer: Option<VersionNo>,
     older: Option<VersionNo>,
-) -> Option<Place>
+) -> Option<SortPlace>
     ensures { result ≡ joined_place chains.now newer older }
 {
     let place = place_at(chains, newer)?;
@@ -128,25 +128,25 @@ fn joined_place(
 }
 
 /// Where the version stands, if there is one.
-fn place_at(chains: &Chains, number: Option<VersionNo>) -> Option<Place>
+fn place_at(chains: &Chains, number: Option<VersionNo>) -> Option<SortPlace>
     ensures { result ≡ place_at_number chains.now number }
 {
     let version = chains.get(number?)?;
-    Some(Place::new(version.row.row_key(), version.row.sort))
+    Some(SortPlace::new(version.row.row_key(), version.row.sort))
 }
 
 /// Whether the version stands at the place.
-fn is_at(chains: &Chains, number: VersionNo, place: Place) -> bool
+fn is_at(chains: &Chains, number: VersionNo, place: SortPlace) -> bool
     ensures { result ≡ is_number_at chains.now place number.0 }
 {
     match chains.get(number) {
-        Some(version) => Place::new(version.row.row_key(), version.row.sort) == place,
+        Some(version) => SortPlace::new(version.row.row_key(), version.row.sort) == place,
         None => false,
     }
 }
 
 /// Whether there is such a version, and it stands at the place.
-fn is_one_at(chains: &Chains, number: Option<VersionNo>, place: Place) -> bool
+fn is_one_at(chains: &Chains, number: Option<VersionNo>, place: SortPlace) -> bool
     ensures { result ≡ is_one_at chains.now place number }
 {
     match number {

@@ -33,13 +33,13 @@ impl Drop for Versions {
 impl Model for Versions {
     ghost use Rattle.std.specs.Coded.{codes};
     ghost use Rattle.mvo_hash.specs.Lists.{coded_lists};
-    ghost use Rattle.mvo_range.specs.Place.{coded_map};
+    ghost use Rattle.mvo_range.specs.Place.{coded_place_numbers};
     ghost use Rattle.mvo_versions.specs.Data.{VersionsData};
     ghost use Rattle.mvo_versions.specs.Skips.{HasSkips};
 
     ghost Value = { VersionsData };
 
-    ghost coded = { Prim.hlevel (codes, coded_lists, coded_map) };
+    ghost coded = { Prim.hlevel (codes, coded_lists, coded_place_numbers) };
 
     ghost view = { λ v. v.indexed };
 

@@ -11,32 +11,32 @@ use Rattle.mvo_visible.specs.declared.seen.Seen.{Seen}
 use Rattle.mvo_visible.specs.declared.seen.Seen.TheVariants.{Nothing, Settled, Speculative}
 use Rattle.mvo_visible.specs.declared.change.Change.{Change}
 use Rattle.mvo_visible.specs.Words.{States, seen_of}
-use Rattle.mvo_visible.specs.Versions.{Numbered, is_own}
+use Rattle.mvo_visible.specs.Versions.{NumberedVersion, is_own}
 use Rattle.mvo_visible.specs.Changes.{changes_by, changes_of, owner_with, put_of, removal_of, unless_removed}
 use Rattle.mvo_visible.specs.Shown.{HasFallingStamps, HasOwnInFront}
 use Rattle.mvo_visible.proofs.Decides.{first_with-append}
 
 -- behind each put that is settled with the stamp s, Q s holds of each version
-abbrev pub Behind : States → (ℕ → Numbered → Type 0) → List Numbered → Type 0
+abbrev pub Behind : States → (ℕ → NumberedVersion → Type 0) → List NumberedVersion → Type 0
 Behind states Q [] = ⊤
 Behind states Q (e ∷ es) =
     ((s : Stamp) → seen_of states e.1.begin ≡ Settled s → AllByRecursion (Q s.0) es) × Behind states Q es
 
-pub all_map : (Q R : Numbered → Type 0) (es : List Numbered) → ((e : Numbered) → Q e → R e) → AllByRecursion Q es → AllByRecursion R es
+pub all_map : (Q R : NumberedVersion → Type 0) (es : List NumberedVersion) → ((e : NumberedVersion) → Q e → R e) → AllByRecursion Q es → AllByRecursion R es
 all_map Q R [] f a = tt
 all_map Q R (e ∷ es) f a = (f e a.0, all_map Q R es f a.1)
 
-pub all_zip : (Q R : Numbered → Type 0) (es : List Numbered) → AllByRecursion Q es → AllByRecursion R es → AllByRecursion (λ e. Q e × R e) es
+pub all_zip : (Q R : NumberedVersion → Type 0) (es : List NumberedVersion) → AllByRecursion Q es → AllByRecursion R es → AllByRecursion (λ e. Q e × R e) es
 all_zip Q R [] a b = tt
 all_zip Q R (e ∷ es) a b = ((a.0, b.0), all_zip Q R es a.1 b.1)
 
 -- where no more puts are settled, and more holds
-pub behind_map : (states states' : States) (Q R : ℕ → Numbered → Type 0) (vs : List Numbered) → ((e : Numbered) (s : Stamp) → seen_of states' e.1.begin ≡ Settled s → seen_of states e.1.begin ≡ Settled s) → ((s : ℕ) (e : Numbered) → Q s e → R s e) → Behind states Q vs → Behind states' R vs
+pub behind_map : (states states' : States) (Q R : ℕ → NumberedVersion → Type 0) (vs : List NumberedVersion) → ((e : NumberedVersion) (s : Stamp) → seen_of states' e.1.begin ≡ Settled s → seen_of states e.1.begin ≡ Settled s) → ((s : ℕ) (e : NumberedVersion) → Q s e → R s e) → Behind states Q vs → Behind states' R vs
 behind_map states states' Q R [] puts f a = tt
 behind_map states states' Q R (e ∷ es) puts f a =
     (λ s is. all_map (Q s.0) (R s.0) es (f s.0) (a.0 s (puts e s is)), behind_map states states' Q R es puts f a.1)
 
-pub behind_zip : (states : States) (Q R : ℕ → Numbered → Type 0) (vs : List Numbered) → Behind states Q vs → Behind states R vs → Behind states (λ s e. Q s e × R s e) vs
+pub behind_zip : (states : States) (Q R : ℕ → NumberedVersion → Type 0) (vs : List NumberedVersion) → Behind states Q vs → Behind states R vs → Behind states (λ s e. Q s e × R s e) vs
 behind_zip states Q R [] a b = tt
 behind_zip states Q R (e ∷ es) a b =
     (λ s is. all_zip (Q s.0) (R s.0) es (a.0 s is) (b.0 s is), behind_zip states Q R es a.1 b.1)
@@ -48,13 +48,13 @@ IsUnder s (Settled r) = r.0 ≤ s
 IsUnder s (Speculative r t) = r.0 < s
 
 -- the changes that a version says are at most s, and those of a Preparing one below
-abbrev pub AreUnder : States → ℕ → Numbered → Type 0
+abbrev pub AreUnder : States → ℕ → NumberedVersion → Type 0
 AreUnder states s e = IsUnder s (seen_of states e.1.begin) × IsUnder s (seen_of states e.1.end)
 
 abbrev Fits : ℕ → List Change → Type 0
 Fits s cs = AllByRecursion (λ c. c.stamp.0 ≤ s) cs × (owner_with s cs ≡ None)
 
-all_append : (P : Change → Type 0) (cs ds : List Change) → AllByRecursion P cs → AllByRecursion P ds → AllByRecursion P (cs ++ ds)
+pub all_append : (P : Change → Type 0) (cs ds : List Change) → AllByRecursion P cs → AllByRecursion P ds → AllByRecursion P (cs ++ ds)
 all_append P [] ds a b = b
 all_append P (c ∷ cs) ds a b = (a.0, all_append P cs ds a.1 b)
 
@@ -123,7 +123,7 @@ removal_under s Nothing f = tt
 removal_under s (Settled r) f = f.0.0
 removal_under s (Speculative r t) f = preparing_under s r t None f
 
-pub settled_behind : (states : States) (s : ℕ) (es : List Numbered) → AllByRecursion (AreUnder states s) es → Fits s (changes_of states es)
+pub settled_behind : (states : States) (s : ℕ) (es : List NumberedVersion) → AllByRecursion (AreUnder states s) es → Fits s (changes_of states es)
 settled_behind states s [] a = (tt, refl)
 settled_behind states s (e ∷ es) a =
     let p = seen_of states e.1.begin in
@@ -132,7 +132,7 @@ settled_behind states s (e ∷ es) a =
     (fits_append s (put_of e.0 p q) (removal_of q) (put_fits s e.0 p q a.0.0) (removal_fits s q a.0.1))
     (settled_behind states s es a.1)
 
-pub all_under : (states : States) (s : ℕ) (es : List Numbered) → Fits s (changes_of states es) → AllByRecursion (AreUnder states s) es
+pub all_under : (states : States) (s : ℕ) (es : List NumberedVersion) → Fits s (changes_of states es) → AllByRecursion (AreUnder states s) es
 all_under states s [] f = tt
 all_under states s (e ∷ es) f =
     let p = seen_of states e.1.begin in
@@ -141,12 +141,12 @@ all_under states s (e ∷ es) f =
     let here = fits_parts s (put_of e.0 p q) (removal_of q) parts.0 in
     ((put_under s e.0 p q here.0, removal_under s q here.1), all_under states s es parts.1)
 
-pub from_falling : (states : States) (vs : List Numbered) → HasFallingStamps states vs → Behind states (AreUnder states) vs
+pub from_falling : (states : States) (vs : List NumberedVersion) → HasFallingStamps states vs → Behind states (AreUnder states) vs
 from_falling states [] h = tt
 from_falling states (e ∷ es) h =
     (λ s is. let b = h.0 s is in all_under states s.0 es (b.below, b.settled), from_falling states es h.1)
 
-pub to_falling : (states : States) (vs : List Numbered) → Behind states (AreUnder states) vs → HasFallingStamps states vs
+pub to_falling : (states : States) (vs : List NumberedVersion) → Behind states (AreUnder states) vs → HasFallingStamps states vs
 to_falling states [] h = tt
 to_falling states (e ∷ es) h = (
   λ s is. let f = settled_behind states s.0 es (h.0 s is) in record { below = f.0; settled = f.1 },
@@ -154,23 +154,23 @@ to_falling states (e ∷ es) h = (
 )
 
 -- ---- where the reader wrote nothing
-pub none_own : (r : ℕ) (es : List Numbered) → list_any (is_own r) es ≡ false → AllByRecursion (λ e. is_own r e ≡ false) es
+pub none_own : (r : ℕ) (es : List NumberedVersion) → list_any (is_own r) es ≡ false → AllByRecursion (λ e. is_own r e ≡ false) es
 none_own r [] h = tt
 none_own r (e ∷ es) h = let parts = or_parts (is_own r e) (list_any (is_own r) es) h in (parts.0, none_own r es parts.1)
 
-pub own_none : (r : ℕ) (es : List Numbered) → AllByRecursion (λ e. is_own r e ≡ false) es → list_any (is_own r) es ≡ false
+pub own_none : (r : ℕ) (es : List NumberedVersion) → AllByRecursion (λ e. is_own r e ≡ false) es → list_any (is_own r) es ≡ false
 own_none r [] a = refl
 own_none r (e ∷ es) a = ap (λ b. b || list_any (is_own r) es) a.0 ∙ own_none r es a.1
 
 -- it didn't write the version, if the stamp is below b
-abbrev pub IsOthersBelow : ℕ → ℕ → ℕ → Numbered → Type 0
+abbrev pub IsOthersBelow : ℕ → ℕ → ℕ → NumberedVersion → Type 0
 IsOthersBelow b r s e = s < b → is_own r e ≡ false
 
-pub from_front : (states : States) (b r : ℕ) (vs : List Numbered) → HasOwnInFront states b r vs → Behind states (IsOthersBelow b r) vs
+pub from_front : (states : States) (b r : ℕ) (vs : List NumberedVersion) → HasOwnInFront states b r vs → Behind states (IsOthersBelow b r) vs
 from_front states b r [] h = tt
 from_front states b r (e ∷ es) h = (λ s is. others s.0 (h.0 s is), from_front states b r es h.1)
   where
-    all_of : (Q : Numbered → Type 0) (es : List Numbered) → ((e : Numbered) → Q e) → AllByRecursion Q es
+    all_of : (Q : NumberedVersion → Type 0) (es : List NumberedVersion) → ((e : NumberedVersion) → Q e) → AllByRecursion Q es
     all_of Q [] f = tt
     all_of Q (e ∷ es) f = (f e, all_of Q es f)
 
@@ -180,7 +180,7 @@ from_front states b r (e ∷ es) h = (λ s is. others s.0 (h.0 s is), from_front
       | inr g ↦ all_of (IsOthersBelow b r s) es (λ e l. absurd (omega (arith, g, l)))
     ]
 
-pub to_front : (states : States) (b r : ℕ) (vs : List Numbered) → Behind states (IsOthersBelow b r) vs → HasOwnInFront states b r vs
+pub to_front : (states : States) (b r : ℕ) (vs : List NumberedVersion) → Behind states (IsOthersBelow b r) vs → HasOwnInFront states b r vs
 to_front states b r [] h = tt
 to_front states b r (e ∷ es) h = (
   λ s is l. own_none r es (all_map (IsOthersBelow b r s.0) (λ e. is_own r e ≡ false) es (λ e f. f l) (h.0 s is)),

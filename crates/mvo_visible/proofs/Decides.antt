@@ -3,7 +3,7 @@ use Rattle.std.proofs.Common.{◌≡◌, ◌≢◌, ℕ, max, ◌<◌, ◌≤◌
 use Rattle.std.proofs.lemmas.Bool.{cases_Bool, cond-true, cond-false, eqb-true, ne_eqb, eqb-false, ltb-true, ltb-false}
 use Rattle.std.specs.Option.{option_map, option_or}
 use Rattle.mvo_visible.specs.declared.change.Change.{Change}
-use Rattle.mvo_visible.specs.Changes.{greater, greatest, greatest_below, first_with, done_with, deciding, both, later_of, later}
+use Rattle.mvo_visible.specs.Changes.{greater, greatest, greatest_below, first_with, done_with, deciding, both, later_of, later_change}
 
 -- ---- the first that is told
 pub option_or-none : {A : Type 0} (a : Option A) → option_or a None ≡ a
@@ -101,7 +101,7 @@ done_first b cs ds s below u =
     ∙ ap (λ v. record { stamp = record { 0 = s }; version = v; owner = option_or (first_with (λ c. c.owner) s cs) None }) (option_or-none (first_with (λ c. c.version) s cs))
     ∙ ap (λ o. record { stamp = record { 0 = s }; version = first_with (λ c. c.version) s cs; owner = o }) (option_or-none (first_with (λ c. c.owner) s cs))
 
-pub deciding-append : (b : ℕ) (cs ds : List Change) → deciding b (cs ++ ds) ≡ later (deciding b cs) (deciding b ds)
+pub deciding-append : (b : ℕ) (cs ds : List Change) → deciding b (cs ++ ds) ≡ later_change (deciding b cs) (deciding b ds)
 deciding-append b cs ds = ap (option_map (done_with (cs ++ ds))) (greatest_below-append b cs ds) ∙ go (greatest_below b cs) (greatest_below b ds) refl refl
   where
     under : (es : List Change) (s : ℕ) → greatest_below b es ≡ Some s → s < b
@@ -110,7 +110,7 @@ deciding-append b cs ds = ap (option_map (done_with (cs ++ ds))) (greatest_below
     is_under : (es : List Change) (x : Option ℕ) (s : ℕ) → greatest_below b es ≡ x → IsUnder x s → IsUnder (greatest_below b es) s
     is_under es x s e u = subst (λ y. IsUnder y s) (sym e) u
 
-    go : (x y : Option ℕ) → greatest_below b cs ≡ x → greatest_below b ds ≡ y → option_map (done_with (cs ++ ds)) (greatest x y) ≡ later (option_map (done_with cs) x) (option_map (done_with ds) y)
+    go : (x y : Option ℕ) → greatest_below b cs ≡ x → greatest_below b ds ≡ y → option_map (done_with (cs ++ ds)) (greatest x y) ≡ later_change (option_map (done_with cs) x) (option_map (done_with ds) y)
     go None None p q = refl
     go None (Some t) p q = ap Some (done_second b cs ds t (under ds t q) (is_under cs None t p tt))
     go (Some s) None p q = ap Some (done_first b cs ds s (under cs s p) (is_under ds None s q tt))

@@ -9,31 +9,31 @@ use Rattle.mvo_types.specs.Keys.{key_cmp}
 use Rattle.mvo_chain.specs.declared.version.Version.{Version}
 use Rattle.mvo_chain.specs.declared.version.VersionNo.{VersionNo}
 use Rattle.mvo_chain.specs.Slots.{Slots, version_at}
-use Rattle.mvo_hash.specs.Lists.{Lists, number, numbers_of, is_among, with_numbers, without}
+use Rattle.mvo_hash.specs.Lists.{Lists, number, numbers_of, is_among, with_numbers, without_number}
 use Rattle.mvo_hash.proofs.Unlinks.{without_here, without_there}
 use Rattle.mvo_hash.proofs.Views.{numbers_put}
 use Rattle.mvo_visible.specs.declared.seen.Seen.{Seen}
 use Rattle.mvo_visible.specs.Words.{States, seen_of}
-use Rattle.mvo_visible.specs.Versions.{Numbered, and_version, versions_by, versions_at}
+use Rattle.mvo_visible.specs.Versions.{NumberedVersion, and_version, versions_by, versions_at}
 use Rattle.mvo_visible.specs.Shown.{HasFallingStamps, HasOwnInFront}
 use Rattle.mvo_visible.specs.Fronts.{IsUnsettled, IsUnsettledAt}
 use Rattle.mvo_visible.specs.Laws.{SlotsDifferAt, NewKeepsOrder, FrontKeepsOrder, LessKeepsOrder, UnheldKeepsOrder, AlikeKeepsOrder, seen_both}
 use Rattle.mvo_visible.proofs.Behind.{Behind, AreUnder, IsUnder, IsOthersBelow, from_falling, to_falling, from_front, to_front}
 
 -- the versions with these numbers
-abbrev versions : Slots → List ℕ → List Numbered
+abbrev pub versions : Slots → List ℕ → List NumberedVersion
 versions slots ns = versions_by slots (map number ns)
 
-module _ (states : States) (slots : Slots) (Q : ℕ → Numbered → Type 0) where
-  all_and : (s : ℕ) (m : VersionNo) (o : Option Version) (vs ws : List Numbered) → (AllByRecursion (Q s) vs → AllByRecursion (Q s) ws) → AllByRecursion (Q s) (and_version m o vs) → AllByRecursion (Q s) (and_version m o ws)
+module _ (states : States) (slots : Slots) (Q : ℕ → NumberedVersion → Type 0) where
+  all_and : (s : ℕ) (m : VersionNo) (o : Option Version) (vs ws : List NumberedVersion) → (AllByRecursion (Q s) vs → AllByRecursion (Q s) ws) → AllByRecursion (Q s) (and_version m o vs) → AllByRecursion (Q s) (and_version m o ws)
   all_and s m None vs ws f a = f a
   all_and s m (Some v) vs ws f a = (a.0, f a.1)
 
-  all_rest : (s : ℕ) (m : VersionNo) (o : Option Version) (vs : List Numbered) → AllByRecursion (Q s) (and_version m o vs) → AllByRecursion (Q s) vs
+  all_rest : (s : ℕ) (m : VersionNo) (o : Option Version) (vs : List NumberedVersion) → AllByRecursion (Q s) (and_version m o vs) → AllByRecursion (Q s) vs
   all_rest s m None vs a = a
   all_rest s m (Some v) vs a = a.1
 
-  all_without : (s n : ℕ) (ns : List ℕ) → AllByRecursion (Q s) (versions slots ns) → AllByRecursion (Q s) (versions slots (without n ns))
+  all_without : (s n : ℕ) (ns : List ℕ) → AllByRecursion (Q s) (versions slots ns) → AllByRecursion (Q s) (versions slots (without_number n ns))
   all_without s n [] a = a
   all_without s n (m ∷ ns) a =
       elim (cases_Bool (eqb n m)) [
@@ -42,19 +42,19 @@ module _ (states : States) (slots : Slots) (Q : ℕ → Numbered → Type 0) whe
             (all_without s n ns (all_rest s (number m) (version_at slots (number m)) (versions slots ns) a))
         | inr f ↦
             subst (λ ms. AllByRecursion (Q s) (versions slots ms)) (sym (without_there n m ns f))
-            (all_and s (number m) (version_at slots (number m)) (versions slots ns) (versions slots (without n ns)) (all_without s n ns) a)
+            (all_and s (number m) (version_at slots (number m)) (versions slots ns) (versions slots (without_number n ns)) (all_without s n ns) a)
       ]
 
-  behind_and : (m : VersionNo) (o : Option Version) (vs ws : List Numbered) → ((s : ℕ) → AllByRecursion (Q s) vs → AllByRecursion (Q s) ws) → (Behind states Q vs → Behind states Q ws) → Behind states Q (and_version m o vs) → Behind states Q (and_version m o ws)
+  behind_and : (m : VersionNo) (o : Option Version) (vs ws : List NumberedVersion) → ((s : ℕ) → AllByRecursion (Q s) vs → AllByRecursion (Q s) ws) → (Behind states Q vs → Behind states Q ws) → Behind states Q (and_version m o vs) → Behind states Q (and_version m o ws)
   behind_and m None vs ws f g a = g a
   behind_and m (Some v) vs ws f g a = (λ s is. f s.0 (a.0 s is), g a.1)
 
-  behind_rest : (m : VersionNo) (o : Option Version) (vs : List Numbered) → Behind states Q (and_version m o vs) → Behind states Q vs
+  behind_rest : (m : VersionNo) (o : Option Version) (vs : List NumberedVersion) → Behind states Q (and_version m o vs) → Behind states Q vs
   behind_rest m None vs a = a
   behind_rest m (Some v) vs a = a.1
 
   -- one version less
-  behind_without : (n : ℕ) (ns : List ℕ) → Behind states Q (versions slots ns) → Behind states Q (versions slots (without n ns))
+  behind_without : (n : ℕ) (ns : List ℕ) → Behind states Q (versions slots ns) → Behind states Q (versions slots (without_number n ns))
   behind_without n [] a = a
   behind_without n (m ∷ ns) a =
       elim (cases_Bool (eqb n m)) [
@@ -63,19 +63,19 @@ module _ (states : States) (slots : Slots) (Q : ℕ → Numbered → Type 0) whe
             (behind_without n ns (behind_rest (number m) (version_at slots (number m)) (versions slots ns) a))
         | inr f ↦
             subst (λ ms. Behind states Q (versions slots ms)) (sym (without_there n m ns f))
-            (behind_and (number m) (version_at slots (number m)) (versions slots ns) (versions slots (without n ns)) (λ s. all_without s n ns) (behind_without n ns) a)
+            (behind_and (number m) (version_at slots (number m)) (versions slots ns) (versions slots (without_number n ns)) (λ s. all_without s n ns) (behind_without n ns) a)
       ]
 
   -- one whose put isn't settled in front
-  behind_first : (m : VersionNo) (o : Option Version) (vs : List Numbered) → ((v : Version) → o ≡ Some v → IsUnsettled states v) → Behind states Q vs → Behind states Q (and_version m o vs)
+  behind_first : (m : VersionNo) (o : Option Version) (vs : List NumberedVersion) → ((v : Version) → o ≡ Some v → IsUnsettled states v) → Behind states Q vs → Behind states Q (and_version m o vs)
   behind_first m None vs u a = a
   behind_first m (Some v) vs u a = (λ s is. absurd (u v refl s is), a)
 
   behind_new : (n : ℕ) (ns : List ℕ) → IsUnsettledAt states slots n → Behind states Q (versions slots ns) → Behind states Q (versions slots (n ∷ ns))
   behind_new n ns u a = behind_first (number n) (version_at slots (number n)) (versions slots ns) u a
 
-  behind_front : (n : ℕ) (ns : List ℕ) → IsUnsettledAt states slots n → Behind states Q (versions slots ns) → Behind states Q (versions slots (n ∷ without n ns))
-  behind_front n ns u a = behind_new n (without n ns) u (behind_without n ns a)
+  behind_front : (n : ℕ) (ns : List ℕ) → IsUnsettledAt states slots n → Behind states Q (versions slots ns) → Behind states Q (versions slots (n ∷ without_number n ns))
+  behind_front n ns u a = behind_new n (without_number n ns) u (behind_without n ns a)
 
 -- other slots show the same where the numbers aren't the one that changed
 same_versions : (slots slots' : Slots) (n : ℕ) → SlotsDifferAt n slots slots' → (ns : List ℕ) → is_among n ns ≡ false → versions slots' ns ≡ versions slots ns
@@ -110,24 +110,24 @@ new_keeps_order states slots slots' lists key n d fresh u = record {
 pub front_keeps_order : FrontKeepsOrder
 front_keeps_order states slots lists key n u = record {
   falling = λ h q.
-      at_each (λ ns. HasFallingStamps states (versions slots ns)) lists key (n ∷ without n (numbers_of lists key)) q
-      (to_falling states (versions slots (n ∷ without n (numbers_of lists key))) (behind_front states slots (AreUnder states) n (numbers_of lists key) u (from_falling states (versions slots (numbers_of lists key)) (h key))))
+      at_each (λ ns. HasFallingStamps states (versions slots ns)) lists key (n ∷ without_number n (numbers_of lists key)) q
+      (to_falling states (versions slots (n ∷ without_number n (numbers_of lists key))) (behind_front states slots (AreUnder states) n (numbers_of lists key) u (from_falling states (versions slots (numbers_of lists key)) (h key))))
       (h q);
   own = λ b r h q.
-      at_each (λ ns. HasOwnInFront states b r (versions slots ns)) lists key (n ∷ without n (numbers_of lists key)) q
-      (to_front states b r (versions slots (n ∷ without n (numbers_of lists key))) (behind_front states slots (IsOthersBelow b r) n (numbers_of lists key) u (from_front states b r (versions slots (numbers_of lists key)) (h key))))
+      at_each (λ ns. HasOwnInFront states b r (versions slots ns)) lists key (n ∷ without_number n (numbers_of lists key)) q
+      (to_front states b r (versions slots (n ∷ without_number n (numbers_of lists key))) (behind_front states slots (IsOthersBelow b r) n (numbers_of lists key) u (from_front states b r (versions slots (numbers_of lists key)) (h key))))
       (h q);
 }
 
 pub less_keeps_order : LessKeepsOrder
 less_keeps_order states slots lists key n = record {
   falling = λ h q.
-      at_each (λ ns. HasFallingStamps states (versions slots ns)) lists key (without n (numbers_of lists key)) q
-      (to_falling states (versions slots (without n (numbers_of lists key))) (behind_without states slots (AreUnder states) n (numbers_of lists key) (from_falling states (versions slots (numbers_of lists key)) (h key))))
+      at_each (λ ns. HasFallingStamps states (versions slots ns)) lists key (without_number n (numbers_of lists key)) q
+      (to_falling states (versions slots (without_number n (numbers_of lists key))) (behind_without states slots (AreUnder states) n (numbers_of lists key) (from_falling states (versions slots (numbers_of lists key)) (h key))))
       (h q);
   own = λ b r h q.
-      at_each (λ ns. HasOwnInFront states b r (versions slots ns)) lists key (without n (numbers_of lists key)) q
-      (to_front states b r (versions slots (without n (numbers_of lists key))) (behind_without states slots (IsOthersBelow b r) n (numbers_of lists key) (from_front states b r (versions slots (numbers_of lists key)) (h key))))
+      at_each (λ ns. HasOwnInFront states b r (versions slots ns)) lists key (without_number n (numbers_of lists key)) q
+      (to_front states b r (versions slots (without_number n (numbers_of lists key))) (behind_without states slots (IsOthersBelow b r) n (numbers_of lists key) (from_front states b r (versions slots (numbers_of lists key)) (h key))))
       (h q);
 }
 
@@ -147,7 +147,7 @@ module _ (states states' : States) where
       let h : seen_both states' w ≡ seen_both states v = cc in
       (ap (λ (p : Seen × Seen). p.0) h, ap (λ (p : Seen × Seen). p.1) h)
 
-  all_alike : (s : ℕ) (m : VersionNo) (o p : Option Version) (vs ws : List Numbered) → IsAlike states states' o p → (AllByRecursion (AreUnder states s) vs → AllByRecursion (AreUnder states' s) ws) → AllByRecursion (AreUnder states s) (and_version m o vs) → AllByRecursion (AreUnder states' s) (and_version m p ws)
+  all_alike : (s : ℕ) (m : VersionNo) (o p : Option Version) (vs ws : List NumberedVersion) → IsAlike states states' o p → (AllByRecursion (AreUnder states s) vs → AllByRecursion (AreUnder states' s) ws) → AllByRecursion (AreUnder states s) (and_version m o vs) → AllByRecursion (AreUnder states' s) (and_version m p ws)
   all_alike s m None None vs ws e f a = f a
   all_alike s m None (Some w) vs ws e f a = cc
   all_alike s m (Some v) None vs ws e f a = cc
@@ -155,7 +155,7 @@ module _ (states states' : States) where
       let same = alike_parts v w e in
       ((subst (IsUnder s) (sym same.0) a.0.0, subst (IsUnder s) (sym same.1) a.0.1), f a.1)
 
-  behind_alike : (m : VersionNo) (o p : Option Version) (vs ws : List Numbered) → IsAlike states states' o p → ((s : ℕ) → AllByRecursion (AreUnder states s) vs → AllByRecursion (AreUnder states' s) ws) → (Behind states (AreUnder states) vs → Behind states' (AreUnder states') ws) → Behind states (AreUnder states) (and_version m o vs) → Behind states' (AreUnder states') (and_version m p ws)
+  behind_alike : (m : VersionNo) (o p : Option Version) (vs ws : List NumberedVersion) → IsAlike states states' o p → ((s : ℕ) → AllByRecursion (AreUnder states s) vs → AllByRecursion (AreUnder states' s) ws) → (Behind states (AreUnder states) vs → Behind states' (AreUnder states') ws) → Behind states (AreUnder states) (and_version m o vs) → Behind states' (AreUnder states') (and_version m p ws)
   behind_alike m None None vs ws e f g a = g a
   behind_alike m None (Some w) vs ws e f g a = cc
   behind_alike m (Some v) None vs ws e f g a = cc

@@ -8,7 +8,7 @@ use Rattle.mvo_word.specs.declared.held.Held.TheVariants.{At, By, Infinity}
 use Rattle.mvo_txn.specs.declared.state.TxState.TheVariants.{Active, Preparing, Committed}
 use Rattle.mvo_visible.specs.declared.seen.Seen.TheVariants.{Nothing, Settled, Speculative}
 use Rattle.mvo_visible.specs.Words.{States, seen_in, seen_of, names}
-use Rattle.mvo_visible.specs.Versions.{Numbered, versions_at}
+use Rattle.mvo_visible.specs.Versions.{NumberedVersion, versions_at}
 use Rattle.mvo_visible.specs.Shown.{HasFallingStamps, HasOwnInFront, IsSettledBehind}
 use Rattle.mvo_visible.specs.Fronts.{DifferAt, StandsInFront, IsLatestBehind, WroteNothingBehind}
 use Rattle.mvo_visible.specs.Laws.{PrepareKeepsOrder, CommitKeepsOrder, AbortKeepsOrder, FewerKeepFront, CommitKeepsFront}
@@ -50,13 +50,13 @@ module _ (t : ℕ) (states states' : States) (d : DifferAt t states states') (si
   ]
 
   -- one whose words show nothing takes nothing out of order
-  pub silent_keeps : (vs : List Numbered) → HasFallingStamps states vs → HasFallingStamps states' vs
+  pub silent_keeps : (vs : List NumberedVersion) → HasFallingStamps states vs → HasFallingStamps states' vs
   silent_keeps vs h =
       to_falling states' vs (behind_map states states' (AreUnder states) (AreUnder states') vs
       (λ e s is. still_settled e.1.begin s is) (λ s e u. (still_under e.1.begin s u.0, still_under e.1.end s u.1))
       (from_falling states vs h))
 
-  pub silent_front : (b r : ℕ) (vs : List Numbered) → HasOwnInFront states b r vs → HasOwnInFront states' b r vs
+  pub silent_front : (b r : ℕ) (vs : List NumberedVersion) → HasOwnInFront states b r vs → HasOwnInFront states' b r vs
   silent_front b r vs h = fewer_keep_front states states' b r vs (λ w s _ e. still_settled w s e) h
 
 pub abort_keeps_order : AbortKeepsOrder
@@ -100,7 +100,7 @@ module _ (t : ℕ) (states states' : States) (end' : Stamp) (d : DifferAt t stat
       let above : end'.0 < s = subst (IsUnder s) own.1 u in
       omega (arith, above, l))
 
-  kept : (vs : List Numbered) → HasFallingStamps states vs × StandsInFront states end'.0 t vs → HasFallingStamps states' vs
+  kept : (vs : List NumberedVersion) → HasFallingStamps states vs × StandsInFront states end'.0 t vs → HasFallingStamps states' vs
   kept vs h =
       to_falling states' vs (behind_map states states' (λ s e. AreUnder states s e × IsOthersBelow (end'.0 + 1) t s e) (AreUnder states') vs
       (λ e s q. settled_before e.1.begin s q)
@@ -110,7 +110,7 @@ module _ (t : ℕ) (states states' : States) (end' : Stamp) (d : DifferAt t stat
       ))
       (behind_zip states (AreUnder states) (IsOthersBelow (end'.0 + 1) t) vs (from_falling states vs h.0) (from_front states (end'.0 + 1) t vs h.1)))
 
-  needed : (vs : List Numbered) → HasFallingStamps states' vs → StandsInFront states end'.0 t vs
+  needed : (vs : List NumberedVersion) → HasFallingStamps states' vs → StandsInFront states end'.0 t vs
   needed vs h =
       to_front states (end'.0 + 1) t vs (behind_map states' states (AreUnder states') (IsOthersBelow (end'.0 + 1) t) vs
       (λ e s q. settled_after e.1.begin s q)
@@ -140,17 +140,17 @@ module _ (t : ℕ) (states states' : States) (end' : Stamp) (d : DifferAt t stat
     | inr n ↦ subst (IsUnder s) (sym (other_same t states states' d w n)) u
   ]
 
-  behind_committed : (s : ℕ) (es : List Numbered) → IsSettledBehind states s es → IsSettledBehind states' s es
+  behind_committed : (s : ℕ) (es : List NumberedVersion) → IsSettledBehind states s es → IsSettledBehind states' s es
   behind_committed s es h =
       let f = settled_behind states' s es (all_map (AreUnder states s) (AreUnder states' s) es
       (λ e u. (under_committed e.1.begin s u.0, under_committed e.1.end s u.1)) (all_under states s es (h.below, h.settled))) in
       record { below = f.0; settled = f.1 }
 
-  latest : (vs : List Numbered) → HasFallingStamps states' vs → IsLatestBehind states' end'.0 t vs
+  latest : (vs : List NumberedVersion) → HasFallingStamps states' vs → IsLatestBehind states' end'.0 t vs
   latest [] h = tt
   latest (e ∷ es) h = (λ n. h.0 end' (now_settled e.1.begin n), latest es h.1)
 
-  committed : (vs : List Numbered) → HasFallingStamps states vs → IsLatestBehind states' end'.0 t vs → HasFallingStamps states' vs
+  committed : (vs : List NumberedVersion) → HasFallingStamps states vs → IsLatestBehind states' end'.0 t vs → HasFallingStamps states' vs
   committed [] h l = tt
   committed (e ∷ es) h l = (
     λ s q. elim (cases_Bool (names t e.1.begin)) [
@@ -168,11 +168,11 @@ commit_keeps_order states states' t end' vs d was is h =
     (latest t states states' end' d was is vs, committed t states states' end' d was is vs h)
 
 module _ (t : ℕ) (states states' : States) (end' : Stamp) (d : DifferAt t states states') (was : states t ≡ Some (Preparing end')) (is : states' t ≡ Some (Committed end')) (b r : ℕ) (below : end'.0 < b) where
-  wrote_nothing : (vs : List Numbered) → HasOwnInFront states' b r vs → WroteNothingBehind t r vs
+  wrote_nothing : (vs : List NumberedVersion) → HasOwnInFront states' b r vs → WroteNothingBehind t r vs
   wrote_nothing [] h = tt
   wrote_nothing (e ∷ es) h = (λ n. h.0 end' (now_settled t states states' end' d was is e.1.begin n) below, wrote_nothing es h.1)
 
-  front_committed : (vs : List Numbered) → HasOwnInFront states b r vs → WroteNothingBehind t r vs → HasOwnInFront states' b r vs
+  front_committed : (vs : List NumberedVersion) → HasOwnInFront states b r vs → WroteNothingBehind t r vs → HasOwnInFront states' b r vs
   front_committed [] h w = tt
   front_committed (e ∷ es) h w = (
     λ s q l. elim (cases_Bool (names t e.1.begin)) [

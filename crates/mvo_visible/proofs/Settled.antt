@@ -11,7 +11,7 @@ use Rattle.mvo_visible.specs.declared.walked.Walked.{Walked}
 use Rattle.mvo_visible.specs.declared.seen.Seen.{Seen}
 use Rattle.mvo_visible.specs.declared.seen.Seen.TheVariants.{Settled}
 use Rattle.mvo_visible.specs.Words.{States, seen_of, names}
-use Rattle.mvo_visible.specs.Changes.{is_at, changes_by, done_with, deciding, later, put_of, removal_of}
+use Rattle.mvo_visible.specs.Changes.{is_at, changes_by, done_with, deciding, later_change, put_of, removal_of}
 use Rattle.mvo_visible.specs.Walked.{walked_on, with_put, is_from, is_last_at, is_last, settled_at, settled_put}
 use Rattle.mvo_visible.proofs.Decides.{option_or-none, deciding-append}
 use Rattle.mvo_visible.proofs.Walks.{or_false, not_by, below_none}
@@ -68,11 +68,11 @@ walked_settled states b r w n v s e =
     let end' = seen_of states v.end in
     let change : deciding b (changes_by states (n, v)) ≡ Some (record { stamp = s; version = Some n; owner = None }) =
     deciding-append b (put_of n (seen_of states v.begin) end') (removal_of end')
-    ∙ ap (later (deciding b (put_of n (seen_of states v.begin) end'))) (below_none states b v.end i.lasts)
-    ∙ ap (λ h. later (deciding b (put_of n (seen_of states h) end')) None) i.put
-    ∙ ap (λ c. later c None) (put_decides b n s end' i.below (stays states b s v.end (ltb-true s.0 b i.below) i.lasts)) in
-    ap (λ h. record { own = w.own || (names r h || names r v.end); newest = option_or w.newest (cond (names r h && not (names r v.end)) (Some n) None); change = later w.change (deciding b (changes_by states (n, v))) }) i.put
-    ∙ ap (λ o. record { own = w.own || o; newest = option_or w.newest None; change = later w.change (deciding b (changes_by states (n, v))) }) (not_by r b v.end i.lasts)
-    ∙ ap (λ o. record { own = o; newest = option_or w.newest None; change = later w.change (deciding b (changes_by states (n, v))) }) (or_false w.own)
-    ∙ ap (λ m. record { own = w.own; newest = m; change = later w.change (deciding b (changes_by states (n, v))) }) (option_or-none w.newest)
-    ∙ ap (λ d. record { own = w.own; newest = w.newest; change = later w.change d }) change
+    ∙ ap (later_change (deciding b (put_of n (seen_of states v.begin) end'))) (below_none states b v.end i.lasts)
+    ∙ ap (λ h. later_change (deciding b (put_of n (seen_of states h) end')) None) i.put
+    ∙ ap (λ c. later_change c None) (put_decides b n s end' i.below (stays states b s v.end (ltb-true s.0 b i.below) i.lasts)) in
+    ap (λ h. record { own = w.own || (names r h || names r v.end); newest = option_or w.newest (cond (names r h && not (names r v.end)) (Some n) None); change = later_change w.change (deciding b (changes_by states (n, v))) }) i.put
+    ∙ ap (λ o. record { own = w.own || o; newest = option_or w.newest None; change = later_change w.change (deciding b (changes_by states (n, v))) }) (not_by r b v.end i.lasts)
+    ∙ ap (λ o. record { own = o; newest = option_or w.newest None; change = later_change w.change (deciding b (changes_by states (n, v))) }) (or_false w.own)
+    ∙ ap (λ m. record { own = w.own; newest = m; change = later_change w.change (deciding b (changes_by states (n, v))) }) (option_or-none w.newest)
+    ∙ ap (λ d. record { own = w.own; newest = w.newest; change = later_change w.change d }) change

@@ -9,7 +9,7 @@ use Rattle.mvo_visible.specs.declared.seen.Seen.{Seen}
 use Rattle.mvo_visible.specs.declared.seen.Seen.TheVariants.{Nothing, Settled, Speculative}
 use Rattle.mvo_visible.specs.declared.change.Change.{Change}
 use Rattle.mvo_visible.specs.Words.{States, seen_of}
-use Rattle.mvo_visible.specs.Versions.{Numbered}
+use Rattle.mvo_visible.specs.Versions.{NumberedVersion}
 
 -- whether this is seen with the stamp s
 abbrev pub is_at : ℕ → Seen → Bool
@@ -35,13 +35,13 @@ removal_of Nothing = []
 removal_of (Settled s) = record { stamp = s; version = None; owner = None } ∷ []
 removal_of (Speculative s t) = record { stamp = s; version = None; owner = Some t } ∷ []
 
-abbrev pub changes_by : States → Numbered → List Change
+abbrev pub changes_by : States → NumberedVersion → List Change
 changes_by states e =
     put_of e.0 (seen_of states e.1.begin) (seen_of states e.1.end)
     ++ removal_of (seen_of states e.1.end)
 
 -- all changes that versions say
-abbrev pub changes_of : States → List Numbered → List Change
+abbrev pub changes_of : States → List NumberedVersion → List Change
 changes_of states vs = flat_map (changes_by states) vs
 
 -- ---- the deciding one
@@ -94,7 +94,7 @@ abbrev pub later_of : Change → Change → Change
 later_of a c =
     cond (a.stamp.0 == c.stamp.0) (both a c) (cond (nat_lt a.stamp.0 c.stamp.0) c a)
 
-abbrev pub later : Option Change → Option Change → Option Change
-later None c = c
-later (Some a) None = Some a
-later (Some a) (Some c) = Some (later_of a c)
+abbrev pub later_change : Option Change → Option Change → Option Change
+later_change None c = c
+later_change (Some a) None = Some a
+later_change (Some a) (Some c) = Some (later_of a c)

@@ -11,7 +11,7 @@ use Rattle.mvo_types.specs.declared.ids.Stamp.{Stamp}
 use Rattle.mvo_visible.specs.declared.change.Change.{Change}
 use Rattle.mvo_visible.specs.declared.outcome.Shown.{Shown}
 use Rattle.mvo_visible.specs.Words.{States, seen_of}
-use Rattle.mvo_visible.specs.Versions.{Numbered, versions_at, versions_by, is_own, own_newest}
+use Rattle.mvo_visible.specs.Versions.{NumberedVersion, versions_at, versions_by, is_own, own_newest}
 use Rattle.mvo_visible.specs.Changes.{changes_of, owner_with, deciding}
 use Rattle.mvo_visible.specs.Walked.{settled_put_of}
 
@@ -25,7 +25,7 @@ own_or own version change =
 
 -- its own newest, or none, where it wrote the key itself; else what the deciding change of the
 -- others below b shows
-abbrev pub shown_to : States → ℕ → ℕ → List Numbered → Shown
+abbrev pub shown_to : States → ℕ → ℕ → List NumberedVersion → Shown
 shown_to states b reader vs =
     own_or (list_any (is_own reader) vs) (own_newest reader vs) (deciding b (changes_of states vs))
 
@@ -39,19 +39,19 @@ first_shown b slots (n ∷ ns) =
 
 -- behind a put that is settled with the stamp s nothing has a greater one, and nobody who is
 -- Preparing has that
-pub record IsSettledBehind (states : States) (s : ℕ) (vs : List Numbered) : Type 0 where
+pub record IsSettledBehind (states : States) (s : ℕ) (vs : List NumberedVersion) : Type 0 where
   pub below : AllByRecursion (λ c. c.stamp.0 ≤ s) (changes_of states vs)
   pub settled : owner_with s (changes_of states vs) ≡ None
 
 -- so it is behind each put that is settled
-abbrev pub HasFallingStamps : States → List Numbered → Type 0
+abbrev pub HasFallingStamps : States → List NumberedVersion → Type 0
 HasFallingStamps states [] = ⊤
 HasFallingStamps states (e ∷ es) =
     ((s : Stamp) → seen_of states e.1.begin ≡ Settled s → IsSettledBehind states s.0 es)
     × HasFallingStamps states es
 
 -- behind a put that is settled below b the reader wrote nothing
-abbrev pub HasOwnInFront : States → ℕ → ℕ → List Numbered → Type 0
+abbrev pub HasOwnInFront : States → ℕ → ℕ → List NumberedVersion → Type 0
 HasOwnInFront states b reader [] = ⊤
 HasOwnInFront states b reader (e ∷ es) =
     ((s : Stamp) → seen_of states e.1.begin ≡ Settled s → s.0 < b →
@@ -59,7 +59,8 @@ HasOwnInFront states b reader (e ∷ es) =
     × HasOwnInFront states b reader es
 
 -- the versions of a key stand so that a walk for the reader may stop at a put that is settled
-pub record IsInOrder (states : States) (b reader : ℕ) (vs : List Numbered) : Type 0 where
+pub record AreVersionsInOrder (states : States) (b reader : ℕ)
+    (vs : List NumberedVersion) : Type 0 where
   pub falling : HasFallingStamps states vs
   pub own : HasOwnInFront states b reader vs
 
@@ -71,5 +72,5 @@ AllHaveFallingStamps states slots lists =
 -- everyone is shown this of the versions with these numbers, where they stand in order
 abbrev pub IsShownToAll : ℕ → Slots → List VersionNo → Shown → Type 0
 IsShownToAll b slots ns shown =
-    (states : States) → (reader : ℕ) → IsInOrder states b reader (versions_by slots ns)
+    (states : States) → (reader : ℕ) → AreVersionsInOrder states b reader (versions_by slots ns)
     → shown ≡ shown_to states b reader (versions_by slots ns)

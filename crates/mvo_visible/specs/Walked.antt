@@ -11,11 +11,11 @@ use Rattle.mvo_visible.specs.declared.seen.Seen.{Seen}
 use Rattle.mvo_visible.specs.declared.seen.Seen.TheVariants.{Nothing, Settled, Speculative}
 use Rattle.mvo_visible.specs.declared.walked.Walked.{Walked}
 use Rattle.mvo_visible.specs.Words.{States, seen_of}
-use Rattle.mvo_visible.specs.Versions.{Numbered, is_own, is_own_newest, own_newest}
-use Rattle.mvo_visible.specs.Changes.{is_at, changes_by, changes_of, deciding, later}
+use Rattle.mvo_visible.specs.Versions.{NumberedVersion, is_own, is_own_newest, own_newest}
+use Rattle.mvo_visible.specs.Changes.{is_at, changes_by, changes_of, deciding, later_change}
 
 -- what is found over these versions
-abbrev pub walked_over : States → ℕ → ℕ → List Numbered → Walked
+abbrev pub walked_over : States → ℕ → ℕ → List NumberedVersion → Walked
 walked_over states b reader vs = record {
   own = list_any (is_own reader) vs;
   newest = own_newest reader vs;
@@ -23,11 +23,11 @@ walked_over states b reader vs = record {
 }
 
 -- and over one more
-abbrev pub walked_on : States → ℕ → ℕ → Walked → Numbered → Walked
+abbrev pub walked_on : States → ℕ → ℕ → Walked → NumberedVersion → Walked
 walked_on states b reader w e = record {
   own = w.own || is_own reader e;
   newest = option_or w.newest (cond (is_own_newest reader e) (Some e.0) None);
-  change = later w.change (deciding b (changes_by states e));
+  change = later_change w.change (deciding b (changes_by states e));
 }
 
 -- whether nothing behind a version matters below b: its put is settled, and it isn't removed with
@@ -65,7 +65,7 @@ abbrev pub with_put : Walked → VersionNo → Stamp → Walked
 with_put w n s = record {
   own = w.own;
   newest = w.newest;
-  change = later w.change (Some (record { stamp = s; version = Some n; owner = None }));
+  change = later_change w.change (Some (record { stamp = s; version = Some n; owner = None }));
 }
 
 -- whether the version tells nothing below b, by both its words
@@ -73,5 +73,5 @@ abbrev pub is_later : ℕ → Version → Bool
 is_later b v = is_from b v.begin && is_from b v.end
 
 -- each does so
-abbrev pub AreLater : ℕ → List Numbered → Type 0
+abbrev pub AreLater : ℕ → List NumberedVersion → Type 0
 AreLater b vs = AllByRecursion (λ e. is_later b e.1 ≡ true) vs

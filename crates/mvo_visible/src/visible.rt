@@ -2,14 +2,14 @@ ghost use Rattle.std.specs.Prelude.{◌≡◌, ◌||◌, cond, IfSome};
 ghost use Rattle.mvo_visible.specs.Words as words;
 ghost use Rattle.mvo_txn.specs.Txns.{state_of};
 ghost use Rattle.mvo_visible.specs.Versions.{is_own_newest, versions_at, versions_by};
-ghost use Rattle.mvo_visible.specs.Shown.{first_shown, IsInOrder, IsShownToAll, own_or, shown_to};
+ghost use Rattle.mvo_visible.specs.Shown.{first_shown, AreVersionsInOrder, IsShownToAll, own_or, shown_to};
 ghost use Rattle.mvo_visible.specs.Walked.{walked_on};
 
 use crate::outcome::Shown;
 use crate::seen::{names, seen_by_others};
 use crate::walked::{Walked, change_below, is_last, is_later, later, settled_put, with_put};
 use mvo_chain::{Chains, Version, VersionNo};
-use mvo_hash::{HashIndex, Versions};
+use mvo_hash::{HashIndex, VersionWalk};
 use mvo_txn::TxnTable;
 use mvo_types::{RowKey, Stamp, TxId};
 
@@ -29,7 +29,7 @@ pub fn shown<P>(
     key: RowKey,
 ) -> Shown
     ensures { let vs = versions_at chains.now index.now.versions key in
-        IsInOrder (state_of table.now) at.0 reader.0 vs →
+        AreVersionsInOrder (state_of table.now) at.0 reader.0 vs →
         result ≡ shown_to (state_of table.now) at.0 reader.0 vs }
 {
     shown_on(chains, index.walk(key), table, at, reader)
@@ -39,13 +39,13 @@ pub fn shown<P>(
 /// it of all versions of a key.
 pub fn shown_on<P>(
     chains: &Chains,
-    walk: Versions<'_>,
+    walk: VersionWalk<'_>,
     table: &TxnTable<P>,
     at: Stamp,
     reader: TxId,
 ) -> Shown
     ensures { let vs = versions_by chains.now walk.entry in
-        IsInOrder (state_of table.now) at.0 reader.0 vs →
+        AreVersionsInOrder (state_of table.now) at.0 reader.0 vs →
         result ≡ shown_to (state_of table.now) at.0 reader.0 vs }
 {
     let mut walked = Walked {
@@ -77,7 +77,7 @@ pub fn shown_on<P>(
 /// told without a look at the table: nothing of a walk over none, and the first version if its put
 /// is a timestamp below `at` and it isn't ended below `at`. It is mostly so.
 #[inline(always)]
-pub fn shown_at_once(chains: &Chains, walk: &Versions<'_>, at: Stamp) -> Option<Shown>
+pub fn shown_at_once(chains: &Chains, walk: &VersionWalk<'_>, at: Stamp) -> Option<Shown>
     ensures first { result ≡ first_shown at.0 chains.now walk.now }
     ensures shown { IfSome result (IsShownToAll at.0 chains.now walk.now) }
 {

@@ -1,5 +1,5 @@
 ghost use Rattle.std.specs.Prelude.{◌≡◌, ◌∷◌, [], nat_lt, cond};
-ghost use Rattle.mvo_visible.specs.Changes.{deciding, is_at, later, later_of, put_of, removal_of, unless_removed};
+ghost use Rattle.mvo_visible.specs.Changes.{deciding, is_at, later_change, later_of, put_of, removal_of, unless_removed};
 ghost use Rattle.mvo_visible.specs.Walked.{is_from, is_last, is_later, settled_put, with_put};
 ghost use Rattle.mvo_txn.specs.Txns.{state_of};
 
@@ -81,7 +81,7 @@ fn is_from(word: Word, at: Stamp) -> bool
 /// The deciding one of the changes that a version's words say.
 pub fn change_below(number: VersionNo, put: Seen, end: Seen, at: Stamp) -> Option<Change>
     ensures { result ≡
-        later (deciding at.0 (put_of number put end)) (deciding at.0 (removal_of end)) }
+        later_change (deciding at.0 (put_of number put end)) (deciding at.0 (removal_of end)) }
 {
     later(put_below(number, put, end, at), removal_below(end, at))
 }
@@ -160,7 +160,7 @@ fn below(at: Stamp, change: Change) -> Option<Change>
 
 /// The later of two changes, or what both did where they have one stamp.
 pub fn later(one: Option<Change>, other: Option<Change>) -> Option<Change>
-    ensures { result ≡ later one other }
+    ensures { result ≡ later_change one other }
 {
     match (one, other) {
         (None, other) => other,

@@ -22,7 +22,7 @@ use Rattle.mvo_theory.specs.Told.{history_told}
 use Rattle.mvo_work.specs.History.{key_written}
 use Rattle.mvo_theory.specs.Limits.{IsInLimits, AreLimited}
 use Rattle.mvo_work.specs.Limits.{MayFollow}
-use Rattle.mvo_work.specs.Work.{IsSound}
+use Rattle.mvo_work.specs.Work.{IsWorkSound}
 use Rattle.mvo_work.proofs.Written.{unwritten}
 
 history_more : (told : List (Op × Answer)) (op : Op) (a : Answer) → history_told (told ++ (op, a) ∷ []) ≡ history_told told ++ (op, answer_data a) ∷ []
@@ -56,7 +56,7 @@ pub key_looked : (op : Op) (a : AnswerData) (w : Option Write) (k : RowKey) → 
 key_looked op a None k e f = cc
 key_looked op a (Some v) k e f = write_entry op a v e ∙ ap Key (cc f)
 
-pub unwritten_yet : (told : List (Op × Answer)) (es : List Entry) (ks : List RowKey) (e : Entry) (op : Op) (a : AnswerData) (k : RowKey) → IsSound told es ks → e ≡ entry_of op → not (has_entry es e) ≡ true → key_written op a ≡ Some k → is_noted ks k ≡ false
+pub unwritten_yet : (told : List (Op × Answer)) (es : List Entry) (ks : List RowKey) (e : Entry) (op : Op) (a : AnswerData) (k : RowKey) → IsWorkSound told es ks → e ≡ entry_of op → not (has_entry es e) ≡ true → key_written op a ≡ Some k → is_noted ks k ≡ false
 unwritten_yet told es ks e op a k h is fresh w =
     let is_key : e ≡ Key k = is ∙ key_looked op a (write_of op a) k refl w in
     let none : has_entry (entries (history_told told)) (Key k) ≡ false =
@@ -66,7 +66,7 @@ unwritten_yet told es ks e op a k h is fresh w =
     ap (λ js. is_noted js k) h.written ∙ unwritten (history_told told) k none
 
 -- ---- entries, keys and limits with one operation more
-pub sound_more : (told : List (Op × Answer)) (es : List Entry) (ks : List RowKey) (e : Entry) (op : Op) (a : Answer) → IsSound told es ks → e ≡ entry_of op → MayFollow (history_told told) op (answer_data a) → IsSound (told ++ (op, a) ∷ []) (with_entry es e) (noted_key ks (key_written op (answer_data a)))
+pub sound_more : (told : List (Op × Answer)) (es : List Entry) (ks : List RowKey) (e : Entry) (op : Op) (a : Answer) → IsWorkSound told es ks → e ≡ entry_of op → MayFollow (history_told told) op (answer_data a) → IsWorkSound (told ++ (op, a) ∷ []) (with_entry es e) (noted_key ks (key_written op (answer_data a)))
 sound_more told es ks e op a h is m = record {
   entries =
       ap (λ ds. with_entry ds e) h.entries
@@ -85,7 +85,7 @@ and_true : (a b : Bool) → b ≡ true → a ≡ (a && b)
 and_true true b e = sym e
 and_true false b e = refl
 
-pub full_of_entries : (told : List (Op × Answer)) (es : List Entry) (ks : List RowKey) (e : Entry) → IsSound told es ks → MAX_ENTRIES ≤ length es → not (has_entry es e) ≡ is_entry_too_many (history_told told) e
+pub full_of_entries : (told : List (Op × Answer)) (es : List Entry) (ks : List RowKey) (e : Entry) → IsWorkSound told es ks → MAX_ENTRIES ≤ length es → not (has_entry es e) ≡ is_entry_too_many (history_told told) e
 full_of_entries told es ks e h le =
     let same : has_entry es e ≡ has_entry (entries (history_told told)) e = ap (λ ds. has_entry ds e) h.entries in
     let many : length es ≡ length (entries (history_told told)) = ap length h.entries in

@@ -28,7 +28,7 @@ abbrev pub room_of : ℕ → ℕ → ℕ → ℕ
 room_of operations entries written = min operations (min entries written)
 
 -- the entries and the written keys are those of the operations, which are in the limits
-pub record IsSound (told : List (Op × Answer)) (looked_at : List Entry)
+pub record IsWorkSound (told : List (Op × Answer)) (looked_at : List Entry)
     (keys : List RowKey) : Type 0 where
   pub entries : looked_at ≡ entries (history_told told)
   pub written : keys ≡ written_keys (history_told told)

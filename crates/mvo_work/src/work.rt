@@ -38,7 +38,7 @@ impl Model for Work {
     ghost use Rattle.std.specs.Prelude.{◌-◌, vec_len, vec_capacity};
     ghost use Rattle.std.specs.VecDeque.{deque_len, deque_capacity};
     ghost use Rattle.mvo_theory.specs.Told.{history_told};
-    ghost use Rattle.mvo_work.specs.Work.{WorkData, IsSound, room_of};
+    ghost use Rattle.mvo_work.specs.Work.{WorkData, IsWorkSound, room_of};
 
     ghost Value = { WorkData };
 
@@ -51,7 +51,7 @@ impl Model for Work {
     } };
 
     ghost invariant = { λ w. let l = w.lists.value in
-        IsSound l.operations.items l.looked_at.noted l.written.items };
+        IsWorkSound l.operations.items l.looked_at.noted l.written.items };
 }
 
 impl Work {

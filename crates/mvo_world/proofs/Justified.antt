@@ -28,8 +28,8 @@ use Rattle.mvo_core.specs.declared.answers.Validation.TheVariants.{More, Valid}
 use Rattle.mvo_core.specs.declared.answers.Settlement.{Settlement}
 use Rattle.mvo_core.specs.Steps.{settled_as, IsValidation, IsSettlement}
 use Rattle.mvo_world.specs.WorldData.{WorldData}
-use Rattle.mvo_rests.specs.Laws.{TellsSettling}
-use Rattle.mvo_rests.proofs.Telling.{told_rests, told_settling}
+use Rattle.mvo_theory.specs.rests.Laws.{TellsSettling}
+use Rattle.mvo_theory.proofs.rests.Telling.{told_rests, told_settling}
 use Rattle.mvo_world.specs.Past.{Past, course_of, happened}
 use Rattle.mvo_world.specs.Ring.{is_full}
 use Rattle.mvo_world.specs.Standing.{IsAfter}

@@ -42,16 +42,16 @@ use Rattle.mvo_store.specs.Rows.{after_groups}
 use Rattle.mvo_store.proofs.Grown.{after_groups-append}
 use Rattle.mvo_store.specs.Seen.{disk_of, mark_of, pending_of}
 use Rattle.mvo_store.specs.StoreData.{StoreData, opening}
-use Rattle.mvo_store.specs.Standing.{MayBeLeft, KeepsRows, after_taken, IsKeeping, Keeps}
+use Rattle.mvo_store.specs.Standing.{MayBeLeft, KeepsRows, after_taken, IsKeeping, KeepsAllRows}
 use Rattle.mvo_store.specs.Causes.{why_not_take}
 use Rattle.mvo_store.specs.Calls.{StoreCall, ComesTo, IsStoreStep}
 use Rattle.mvo_store.specs.Calls.StoreCall.{Take, AppendOpen as AppendOpenCall}
 use Rattle.mvo_store.proofs.Taken.{KeepsTaken, IsQuiet, left_taken, quiet_taken, quiet_rows, refused_rows, accepted_by, refused_by}
 use Rattle.mvo_store.proofs.Keeping.{OnlyNow, refused_keeps}
 use Rattle.mvo_world.specs.WorldData.{WorldData, waiting, Follow, IsLinked, IsSoundWorld, IsJustOpened}
-use Rattle.mvo_rests.specs.Course.{trims_after}
-use Rattle.mvo_rests.specs.Known.{KnowsRests}
-use Rattle.mvo_rests.proofs.Knowing.{known_opened, known_after_call, known_closed}
+use Rattle.mvo_theory.specs.rests.Course.{trims_after}
+use Rattle.mvo_theory.specs.rests.Known.{KnowsRests}
+use Rattle.mvo_theory.proofs.rests.Knowing.{known_opened, known_after_call, known_closed}
 use Rattle.mvo_world.specs.Past.{Past, course_of, happened, trimmed_by, acknowledged_by, closed_by, taken_by, with_event, opened_over}
 use Rattle.mvo_core.specs.Groups.{HaveRecordsOf}
 use Rattle.mvo_world.specs.Standing.{IsAfter, HasHonestDisk, RecoversPrefix}
@@ -171,13 +171,13 @@ module _ {D : Type 0} (d : Ghosts D) where
 
   -- nothing that the past remembers, over which the state stays
   pub moved : (IsReply : WorldData D → Event → Reply → WorldData D → Type 0) (Justifies : Past → Event → Reply → Type 0) (w w' : WorldData D) (e : Event) (r : Reply) → IsSilent e r → IsReply w e r w' → ((p : Past) → IsAfter d p w → Justifies p e r)
-      → ((p : Past) (h : IsAfter d p w) → StandsFor p.rows p.steps h.state w'.core) → w'.ring ≡ w.ring → waiting w' ≡ waiting w → mark_of w'.store ≡ mark_of w.store → (HasHonestDisk d w' → HasHonestDisk d w) → (HasHonestDisk d w' → Keeps d w.store w'.store) → IsStepBy IsReply Justifies d w e r w'
+      → ((p : Past) (h : IsAfter d p w) → StandsFor p.rows p.steps h.state w'.core) → w'.ring ≡ w.ring → waiting w' ≡ waiting w → mark_of w'.store ≡ mark_of w.store → (HasHonestDisk d w' → HasHonestDisk d w) → (HasHonestDisk d w' → KeepsAllRows d w.store w'.store) → IsStepBy IsReply Justifies d w e r w'
   moved IsReply Justifies w w' e r silent reply just core ring wait mark was keeps =
       stepped IsReply Justifies w w' e r (λ rows. rows) reply just was keeps (λ p h store.
       subst (λ (q : Past). IsAfter d q w') (silent_past p e r silent) (goes_on p w w' h p.steps p.trims h.state (core p h) h.counted h.rests h.closed (unchanged h.state) wait mark store p.acknowledged (subst (λ m. AllByRecursion (λ n. n ≤ m) p.acknowledged) (sym mark) h.covers) p.taken (subst (HasRoomFor p.taken p.closed) (sym ring) (h.untaken, h.room))))
 
   -- ---- a call of the store that takes no group and makes none durable
-  store_moved : (w : WorldData D) (store : StoreData D) (e : Event) (r : Reply) → IsSilent e r → IsReplyTo d w e r (record w { store = store }) → KeepsTaken w.store store → (IsHonest (d.moment (disk_of store)) → HasHonestDisk d w) → (IsHonest (d.moment (disk_of store)) → Keeps d w.store store) → IsWorldStep d w e r (record w { store = store })
+  store_moved : (w : WorldData D) (store : StoreData D) (e : Event) (r : Reply) → IsSilent e r → IsReplyTo d w e r (record w { store = store }) → KeepsTaken w.store store → (IsHonest (d.moment (disk_of store)) → HasHonestDisk d w) → (IsHonest (d.moment (disk_of store)) → KeepsAllRows d w.store store) → IsWorldStep d w e r (record w { store = store })
   store_moved w store e r silent reply taken was keeps =
       moved (IsReplyTo d) IsJustifiedBy w (record w { store = store }) e r silent reply (λ p h. justified_reply d p w h e r (record w { store = store }) reply) (λ p h. h.core) refl (ap (λ (q : Option GroupData). option_to_list q ++ w.ring) taken.pending) taken.mark was keeps
 

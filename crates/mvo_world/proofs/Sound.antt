@@ -7,7 +7,7 @@ use Rattle.mvo_theory.specs.State.{Marks}
 use Rattle.mvo_theory.specs.Marks.{IsClosedAt}
 use Rattle.mvo_theory.specs.Changes.{after_close}
 use Rattle.mvo_theory.specs.Groups.{Group, AreGroupsOf}
-use Rattle.mvo_theory.specs.Calls.{Call, Result as CallResult, after_call, group_of}
+use Rattle.mvo_theory.specs.Calls.{Call, Result as CallResult, after_call, groups_closed_by}
 use Rattle.mvo_theory.proofs.Chain.{chained_after_call}
 use Rattle.mvo_core.specs.declared.answers.Closed as closing
 use Rattle.mvo_core.specs.Data.{CoreData}
@@ -24,7 +24,7 @@ use Rattle.mvo_store.specs.Seen.{mark_of, pending_of}
 use Rattle.mvo_world.proofs.Moves.{linked_closed}
 
 -- the mark of the group that was closed last stays
-pub same_closed : {old new : CoreData} (i : Stands old) (c : Call) (r : CallResult) → group_of c r ≡ [] → LeadsOn i.opening i.steps i.state c r new → closed_mark_of new ≡ closed_mark_of old
+pub same_closed : {old new : CoreData} (i : Stands old) (c : Call) (r : CallResult) → groups_closed_by c r ≡ [] → LeadsOn i.opening i.steps i.state c r new → closed_mark_of new ≡ closed_mark_of old
 same_closed {old} {new} i c r none l =
     let s = i.state in
     let chained = chained_after_call i.opening i.steps s.marks.closed [] s c r l.may i.stands.versions.kept (record { closed = i.closed; groups = refl }) in
@@ -37,7 +37,7 @@ next_stamp w n e = λ opening steps s h. e ∙ ap (λ (m : ℕ). m + 1) h.depend
 
 module _ {D : Type 0} (w : WorldData D) (i : IsSoundWorld w) where
   -- over one that closes no group
-  pub sound_asked : {A : Type 0} {c : Call} (result : Result A Refusal) {core : CoreData} → IsStep w.core c result core → group_of c (came result) ≡ [] → IsSoundWorld (record w { core = core })
+  pub sound_asked : {A : Type 0} {c : Call} (result : Result A Refusal) {core : CoreData} → IsStep w.core c result core → groups_closed_by c (came result) ≡ [] → IsSoundWorld (record w { core = core })
   sound_asked {A} {c} result {core} step none =
       let l = step i.core.opening i.core.steps i.core.state i.core.stands in
       record {

@@ -14,8 +14,8 @@ use Rattle.mvo_theory.specs.Calls.Call.{Begin as BeginCall, Precommit as Precomm
 use Rattle.mvo_theory.specs.Calls.Result.{Accepted, Refused as RefusedCall}
 use Rattle.mvo_theory.specs.Counts.{draws, checks_in}
 use Rattle.mvo_theory.specs.Justified.{IsJustified}
-use Rattle.mvo_rests.specs.Resting.{IsFirstAwaited, AwaitsNone}
-use Rattle.mvo_rests.specs.Laws.{TellsRests}
+use Rattle.mvo_theory.specs.rests.Resting.{IsFirstAwaited, AwaitsNone}
+use Rattle.mvo_theory.specs.rests.Laws.{TellsRests}
 use Rattle.mvo_core.specs.declared.answers.Validation.{Validation}
 use Rattle.mvo_core.specs.declared.answers.Validation.TheVariants.{More, Valid}
 use Rattle.mvo_core.specs.declared.answers.Settlement.{Settlement}

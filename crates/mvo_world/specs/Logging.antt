@@ -2,8 +2,8 @@
 use Rattle.std.specs.Prelude.{◌≡◌, Result, Ok, Err}
 use Rattle.mvo_types.specs.declared.refusal.Refusal.{Refusal}
 use Rattle.mvo_disk.specs.declared.disk.Disk.{Ghosts}
-use Rattle.mvo_store.specs.declared.log_step.LogStep.{LogStep}
-use Rattle.mvo_store.specs.declared.log_step.LogStep.TheVariants as step
+use Rattle.mvo_store.specs.declared.append.log_step.LogStep.{LogStep}
+use Rattle.mvo_store.specs.declared.append.log_step.LogStep.TheVariants as step
 use Rattle.mvo_world.specs.WorldData.{WorldData}
 use Rattle.mvo_world.specs.Replies.{IsReplyTo}
 use Rattle.mvo_world.specs.declared.event.Event.{Event}

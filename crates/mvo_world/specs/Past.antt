@@ -6,7 +6,7 @@ use Rattle.mvo_types.specs.Keys.{Map}
 use Rattle.mvo_types.specs.declared.op.Op.TheVariants as op
 use Rattle.mvo_types.specs.AnswerData.{answer_data}
 use Rattle.mvo_theory.specs.Steps.{steps_of_refusal}
-use Rattle.mvo_rests.specs.Course.{Course}
+use Rattle.mvo_theory.specs.rests.Course.{Course}
 use Rattle.mvo_core.specs.declared.answers.Settlement.TheVariants.{Committed}
 use Rattle.mvo_core.specs.declared.answers.Finishing.TheVariants.{Done}
 use Rattle.mvo_world.specs.declared.event.Event.{Event}

@@ -22,7 +22,7 @@ use Rattle.mvo_core.specs.Steps.{LeadsOn, InEach, IsAnswered, IsValidation, IsSe
 use Rattle.mvo_core.specs.Collecting.{StandsAsBefore, AreFewer}
 use Rattle.mvo_core.specs.Trimming.{HasForgotten}
 use Rattle.mvo_store.specs.Seen.{mark_of}
-use Rattle.mvo_store.specs.declared.progress.Progress.TheVariants.{More, Ready as AllWritten}
+use Rattle.mvo_store.specs.declared.jobs.progress.Progress.TheVariants.{More, Ready as AllWritten}
 use Rattle.mvo_store.specs.Causes.{why_not_take}
 use Rattle.mvo_store.specs.Calls.{StoreCall, ComesTo, AnswersMark, AnswersProgress, AnswersGeneration}
 use Rattle.mvo_store.specs.Calls.StoreCall.{Take, AppendBody as AppendBodyCall, AppendOpen as AppendOpenCall, RotateWrite as RotateWriteCall, CheckpointRead as CheckpointReadCall, CheckpointData as CheckpointDataCall, CheckpointDelta as CheckpointDeltaCall, MergeRead as MergeReadCall, MergeData as MergeDataCall, MergeDelta as MergeDeltaCall, InstallClose as InstallCloseCall, InstallBody as InstallBodyCall, InstallOpen as InstallOpenCall, Reclaim as ReclaimCall}

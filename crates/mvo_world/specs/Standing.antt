@@ -9,7 +9,7 @@ use Rattle.mvo_group.specs.Data.{GroupData}
 use Rattle.mvo_theory.specs.State.{State, timeline}
 use Rattle.mvo_theory.specs.Marks.{IsClosedAt, settled_to}
 use Rattle.mvo_theory.specs.Counted.{HasCounts}
-use Rattle.mvo_rests.specs.Known.{KnowsRests}
+use Rattle.mvo_theory.specs.rests.Known.{KnowsRests}
 use Rattle.mvo_core.specs.Standing.{StandsFor}
 use Rattle.mvo_store.specs.Frames.{mark_after}
 use Rattle.mvo_store.specs.Rows.{after_groups}

@@ -5,7 +5,7 @@ use Rattle.mvo_types.specs.Keys.{Map}
 use Rattle.mvo_group.specs.Data.{GroupData}
 use Rattle.mvo_core.specs.Data.{CoreData}
 use Rattle.mvo_core.specs.Seen.{closed_mark_of}
-use Rattle.mvo_core.specs.Standing.{Stands, OpensAs}
+use Rattle.mvo_core.specs.Standing.{Stands, HasOpenedOver}
 use Rattle.mvo_store.specs.Seen.{mark_of, pending_of, IsAtRest}
 use Rattle.mvo_store.specs.StoreData.{StoreData}
 
@@ -35,6 +35,6 @@ pub record IsSoundWorld {D : Type 0} (w : WorldData D) : Type 0 where
 
 -- nothing happened since the opening over these rows
 pub record IsJustOpened {D : Type 0} (rows : Map) (w : WorldData D) : Type 0 where
-  pub core : OpensAs rows (mark_of w.store) w.core
+  pub core : HasOpenedOver rows (mark_of w.store) w.core
   pub ring : w.ring ≡ []
   pub store : IsAtRest w.store

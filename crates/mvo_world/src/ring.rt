@@ -28,7 +28,6 @@ impl Model for Ring {
 }
 
 impl Ring {
-    ghost use Rattle.mvo_world.specs.Ends.{in_ring, AreEnds};
     ghost use Rattle.mvo_world.specs.Ring.{IsClosingInto, IsOldestTaken};
 
     /// A ring with no group.
@@ -60,14 +59,5 @@ impl Ring {
             return None;
         }
         Some(self.consumer.pop_known())
-    }
-
-    /// The two ends.
-    pub fn into_ends(self) -> (Producer<Group>, Consumer<Group>)
-        ensures ends { AreEnds result.0 result.1 }
-        ensures groups { in_ring result.0 result.1 ≡ self }
-    {
-        let Ring { producer, consumer } = self;
-        (producer, consumer)
     }
 }

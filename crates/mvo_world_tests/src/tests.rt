@@ -17,6 +17,7 @@ mod steps;
 mod told;
 mod vectors;
 
+use crate::equal::{holds, same};
 use calls::{close, formatted, left, mark, run, run_over, step, stop, try_open};
 use images::bytes_of;
 use mvo_disk::{Disk, FileImage, MemDisk};
@@ -107,7 +108,7 @@ fn gives(
     mark: u64,
     len: Option<usize>,
 ) -> Result<(), Fail> {
-    assert_eq!(rt; found(rt, alloc, disk)?, (mark, len));
+    same(rt, &found(rt, alloc, disk)?, &(mark, len));
     Ok(())
 }
 
@@ -120,7 +121,7 @@ fn events_of(alloc: Global, steps: &[(Step, &str)]) -> Result<Vec<Event>, Fail> 
 }
 
 fn assert_reply(rt: &impl Abort, alloc: Global, reply: &Reply, text: &str) -> Result<(), Fail> {
-    assert_eq!(rt; format!(in alloc; "{reply:?}")?.as_str(), text);
+    same(rt, &format!(in alloc; "{reply:?}")?.as_str(), &text);
     Ok(())
 }
 
@@ -132,7 +133,7 @@ fn follow(
     steps: &[(Step, &str)],
 ) -> Result<(), Fail> {
     let replies = run(world, &events_of(alloc, steps)?)?;
-    assert_eq!(rt; replies.len(), steps.len());
+    same(rt, &replies.len(), &steps.len());
     for (reply, (_, text)) in replies.iter().zip(steps) {
         assert_reply(rt, alloc, reply, text)?;
     }
@@ -147,7 +148,7 @@ fn follow_over(
     steps: &[(Step, &str)],
 ) -> Result<MemDisk, Fail> {
     let (replies, disk) = run_over(rt, alloc, SEED, disk, &events_of(alloc, steps)?)?;
-    assert_eq!(rt; replies.len(), steps.len());
+    same(rt, &replies.len(), &steps.len());
     for (reply, (_, text)) in replies.iter().zip(steps) {
         assert_reply(rt, alloc, reply, text)?;
     }
@@ -166,26 +167,26 @@ fn follow_all(
     Ok(())
 }
 
+/// The mark of what is durable and the disk after all these steps, from a new store.
+fn after(
+    rt: &(impl Abort + Threads + Sync),
+    alloc: Global,
+    tables: &[&[(Step, &str)]],
+) -> Result<(Stamp, MemDisk), Fail> {
+    let mut world = fresh(rt, alloc)?;
+    let followed = follow_all(rt, alloc, &mut world, tables);
+    let mark = mark(&world);
+    Ok((mark, left(world, followed)?))
+}
+
 /// The disk after all these steps, from a new store.
 fn disk_after(
     rt: &(impl Abort + Threads + Sync),
     alloc: Global,
     tables: &[&[(Step, &str)]],
 ) -> Result<MemDisk, Fail> {
-    let mut world = fresh(rt, alloc)?;
-    let followed = follow_all(rt, alloc, &mut world, tables);
-    left(world, followed)
-}
-
-/// Runs the steps. It answers the mark of what is durable.
-fn follow_to_mark(
-    rt: &impl Abort,
-    alloc: Global,
-    world: &mut World<MemDisk>,
-    tables: &[&[(Step, &str)]],
-) -> Result<Stamp, Fail> {
-    follow_all(rt, alloc, world, tables)?;
-    Ok(mark(world))
+    let (_, disk) = after(rt, alloc, tables)?;
+    Ok(disk)
 }
 
 /// The mark of what is durable after all these steps, from a new store.
@@ -194,10 +195,8 @@ fn mark_after(
     alloc: Global,
     tables: &[&[(Step, &str)]],
 ) -> Result<Stamp, Fail> {
-    let mut world = fresh(rt, alloc)?;
-    let mark = follow_to_mark(rt, alloc, &mut world, tables);
-    close(world);
-    mark
+    let (mark, _) = after(rt, alloc, tables)?;
+    Ok(mark)
 }
 
 #[test]
@@ -212,9 +211,9 @@ fn one_put_is_durable(rt: HostRuntime) -> Result<(), Fail> {
 fn the_mark_rises_with_the_gate(rt: HostRuntime) -> Result<(), Fail> {
     let alloc = rt.alloc();
     let written = mark_after(&rt, alloc, &[&ONE_PUT])?;
-    assert_eq!(rt; written, Stamp(0));
+    same(&rt, &written, &Stamp(0));
     let durable = mark_after(&rt, alloc, &[&ONE_PUT, &OPENING_OF_THE_GATE])?;
-    assert_eq!(rt; durable, Stamp(2));
+    same(&rt, &durable, &Stamp(2));
     Ok(())
 }
 
@@ -273,43 +272,42 @@ const FILES_OF_MERGED: [(u16, &[u8]); 5] = [
 // The files of the pairs that it replaced are empty then.
 const FILES_OF_RECLAIMED: [(u16, &[u8]); 4] = [(4, &[]), (5, &[]), (6, &[]), (7, &[])];
 
-/// Two pairs, their merge, and these steps.
-fn follow_merge(
-    rt: &impl Abort,
-    alloc: Global,
-    world: &mut World<MemDisk>,
-    tables: &[&[(Step, &str)]],
-) -> Result<(), Fail> {
-    follow_all(rt, alloc, world, &TWO_PAIRS)?;
-    follow(rt, alloc, world, &MERGE)?;
-    follow_all(rt, alloc, world, tables)
-}
+// The steps up to their merge, and up to where the files are empty.
+const ONE_PAIR: [&[(Step, &str)]; 7] = [
+    &ONE_PUT,
+    &READ_TOO_EARLY,
+    &ROTATION,
+    &CHECKPOINT,
+    &REPLACE,
+    &SECOND_PAIR,
+    &MERGE,
+];
 
-/// The disk after that, from a new store.
-fn disk_after_merge(
-    rt: &(impl Abort + Threads + Sync),
-    alloc: Global,
-    tables: &[&[(Step, &str)]],
-) -> Result<MemDisk, Fail> {
-    let mut world = fresh(rt, alloc)?;
-    let merged = follow_merge(rt, alloc, &mut world, tables);
-    left(world, merged)
-}
+const ONE_PAIR_ALONE: [&[(Step, &str)]; 8] = [
+    &ONE_PUT,
+    &READ_TOO_EARLY,
+    &ROTATION,
+    &CHECKPOINT,
+    &REPLACE,
+    &SECOND_PAIR,
+    &MERGE,
+    &RECLAIMS_OF_PAIRS,
+];
 
 #[test]
 fn a_merge_keeps_the_rows(rt: HostRuntime) -> Result<(), Fail> {
     let alloc = rt.alloc();
-    let disk = disk_after_merge(&rt, alloc, &[])?;
+    let disk = disk_after(&rt, alloc, &ONE_PAIR)?;
     hold(&rt, &disk, &FILES_OF_MERGED);
     // Two bytes of an older, longer manifest lie behind it.
-    assert!(rt; bytes_of(&disk, 1).starts_with(&SLOT_OF_MERGED));
+    holds(&rt, bytes_of(&disk, 1).starts_with(&SLOT_OF_MERGED));
     gives(&rt, alloc, disk, 4, Some(1))
 }
 
 #[test]
 fn the_files_of_merged_pairs_are_reclaimed(rt: HostRuntime) -> Result<(), Fail> {
     let alloc = rt.alloc();
-    let disk = disk_after_merge(&rt, alloc, &[&RECLAIMS_OF_PAIRS])?;
+    let disk = disk_after(&rt, alloc, &ONE_PAIR_ALONE)?;
     hold(&rt, &disk, &FILES_OF_RECLAIMED);
     gives(&rt, alloc, disk, 4, Some(1))
 }
@@ -413,7 +411,7 @@ fn as_many_groups_wait_as_the_ring_has_room_for(rt: HostRuntime) -> Result<(), F
 fn stops_after_the_body(rt: HostRuntime) -> Result<(), Fail> {
     let alloc = rt.alloc();
     let disk = stop(disk_after(&rt, alloc, &[&ONE_PUT])?, &[])?;
-    assert_eq!(rt; bytes_of(&disk, 2).len(), 63);
+    same(&rt, &bytes_of(&disk, 2).len(), &63);
     gives(&rt, alloc, disk, 0, None)
 }
 

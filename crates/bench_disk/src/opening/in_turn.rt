@@ -4,7 +4,7 @@ use anyhow::{Result, bail};
 use mvo_disk::{Disk, MemDisk};
 use mvo_load::pair_on;
 use mvo_pair::{FIRST_FORMAT, Live, Pair};
-use mvo_places::{Place, Places};
+use mvo_places::{Places, RecordPlace};
 use mvo_types::{MAX_FILE, MAX_PAIR_RECORDS, Rows};
 use std::alloc::{AllocError, Global};
 use std::rt::Clock;
@@ -64,7 +64,7 @@ fn place_all(places: &mut Places, data_file: u16, live: &[Live]) -> Result<()> {
         if data_file > MAX_FILE || number >= MAX_PAIR_RECORDS {
             bail!("a number that a pair may have");
         }
-        places.put(one.entry.row.key, Place { data_file, number })?;
+        places.put(one.entry.row.key, RecordPlace { data_file, number })?;
     }
     Ok(())
 }

@@ -3,7 +3,7 @@ use super::writer::sort_of;
 use anyhow::{Result, bail};
 use mvo_disk::{Disk, MemDisk};
 use mvo_manifest::Manifest;
-use mvo_pair::{Entry, FIRST_FORMAT, Pair, are_entries, write_data, write_delta};
+use mvo_pair::{DataRecord, FIRST_FORMAT, Pair, are_entries, write_data, write_delta};
 use mvo_store::format;
 use mvo_types::{Row, RowKey, Rows, Stamp};
 use std::alloc::{AllocError, Global};
@@ -21,15 +21,15 @@ fn key_of(number: u64) -> RowKey {
     }
 }
 
-fn entry(alloc: Global, number: u64) -> Result<Entry, AllocError> {
+fn entry(alloc: Global, number: u64) -> Result<DataRecord, AllocError> {
     let bytes = vec![in alloc; number.to_le_bytes()[0]; 100]?;
-    Ok(Entry {
+    Ok(DataRecord {
         begin: Stamp(number),
         row: Row::new(key_of(number), sort_of(number), bytes)?,
     })
 }
 
-fn entries(alloc: Global, lo: u64, hi: u64) -> Result<Vec<Entry>, AllocError> {
+fn entries(alloc: Global, lo: u64, hi: u64) -> Result<Vec<DataRecord>, AllocError> {
     let mut entries = Vec::new(alloc);
     for number in lo..hi {
         entries.push(entry(alloc, number.wrapping_add(1))?)?;

@@ -2,7 +2,7 @@ use crate::watch::mixed;
 use anyhow::Result;
 use mvo_chain::{Chains, VersionNo};
 use mvo_hash::HashIndex;
-use mvo_range::{Place, RangeIndex};
+use mvo_range::{RangeIndex, SortPlace};
 use mvo_txn::{Located, TxState, TxnTable};
 use mvo_types::{MAX_STAMP, Row, RowKey, Stamp, TxId};
 use mvo_word::Word;
@@ -71,7 +71,7 @@ impl Rows {
         let mut bytes = Vec::new(self.alloc);
         bytes.resize(BYTES, 7)?;
         let number = self.chains.add(Row::new(key, sort, bytes)?, begin)?;
-        self.ranges.add(Place::new(key, sort), number.0)?;
+        self.ranges.add(SortPlace::new(key, sort), number.0)?;
         if !self.index.is_held(number) {
             self.index.add(key, number)?;
         }

@@ -2,8 +2,8 @@
 
 use super::Engine;
 use crate::gate::Gate;
+use crate::run::Run;
 use mvo_disk::Disk;
-use mvo_run::Run;
 use mvo_store::{Generation, Progress};
 use mvo_types::Refusal;
 use std::sync::Wait;

@@ -4,9 +4,9 @@ use super::Session;
 use crate::engine::Engine;
 use crate::gate::Gate;
 use crate::locked_core::LockedCore;
+use crate::run::{Receipts, Run, Told};
 use mvo_core::{Finishing, Settlement, Validation};
 use mvo_disk::Disk;
-use mvo_run::{Receipts, Run, Told};
 use mvo_types::{Refusal, Stamp, TxId};
 use std::sync::Wait;
 use std::thread;
@@ -28,7 +28,7 @@ pub(super) fn is_failure(refusal: Refusal) -> bool
 
 ghost use Rattle.std.specs.Prelude.{◌≡◌, true};
 ghost use Rattle.mvo_theory.specs.Causes.{is_failure};
-ghost use Rattle.mvo_run.specs.Receiving.{AreBelow};
+ghost use Rattle.mvo_engine.specs.run.Receiving.{AreBelow};
 ghost use Rattle.mvo_engine.specs.Settling.{HasEnded};
 
 impl<'e, L: Run, D: Disk, G: Gate + Drop> Session<'e, L, D, G> {

@@ -2,8 +2,8 @@
 
 use super::Session;
 use crate::gate::Gate;
+use crate::run::Run;
 use mvo_disk::Disk;
-use mvo_run::Run;
 use mvo_types::{Answer, Op, Refusal, Row, RowKey, TxId};
 use std::sync::Wait;
 
@@ -11,7 +11,7 @@ impl<'e, L: Run, D: Disk, G: Gate + Drop> Session<'e, L, D, G> {
     ghost use Rattle.std.specs.Prelude.{◌≡◌, [], IfOk};
     ghost use Rattle.mvo_types.specs.declared.op.Op.TheVariants as Op;
     ghost use Rattle.mvo_engine.specs.Calls.{HasAsked, IsBegun, IsNoTx};
-    ghost use Rattle.mvo_run.specs.Receiving.{AreBelow};
+    ghost use Rattle.mvo_engine.specs.run.Receiving.{AreBelow};
 
     /// Begins a transaction, above the ends of all receipts. Its id is its begin timestamp.
     /// Refused: Busy where the session has one, TableFull, ClockSpent, OutOfMemory.

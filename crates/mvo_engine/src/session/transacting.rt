@@ -3,9 +3,9 @@
 use super::Session;
 use super::committing::is_failure;
 use crate::gate::Gate;
+use crate::run::Run;
 use crate::transaction::Transaction;
 use mvo_disk::Disk;
-use mvo_run::Run;
 use mvo_types::{Refusal, Stamp};
 use std::sync::Wait;
 use std::thread;

@@ -4,6 +4,7 @@ use super::checked::{assert_floors, fresh};
 use super::draws::Draws;
 use super::observed::Counts;
 use super::runs::Run;
+use crate::equal::same;
 use std::alloc::Global;
 use std::process::Abort;
 use std::test::Fail;
@@ -42,7 +43,7 @@ fn assert_counts(rt: &impl Abort, counts: &Counts) {
         (counts.polled_yes, 245),
         (counts.polled_no, 260),
     ];
-    assert_eq!(rt; counts.strange, 0);
+    same(rt, &counts.strange, &0);
     assert_floors(rt, &floors);
 }
 

@@ -8,6 +8,7 @@ use super::images::{disk_after, disk_of, is_look};
 use super::observed::{Counts, count};
 use super::runs::{RUNS, Run, Start, all_keys, try_open};
 use super::told::is_of_store;
+use crate::equal::same;
 use mvo_disk::{Call, Disk, FileImage, MemDisk};
 use mvo_types::{Refusal, RowKey};
 use mvo_world::{Event, Reply, World};
@@ -184,7 +185,7 @@ impl Trial {
         refusal: Refusal,
         disk: MemDisk,
     ) -> Result<(), Fail> {
-        assert_eq!(rt; refusal, Refusal::DiskFault);
+        same(rt, &refusal, &Refusal::DiskFault);
         count(&mut self.met.in_opening);
         self.check_left(rt, run, 0, disk)
     }
@@ -246,7 +247,7 @@ impl Trial {
         answered: usize,
         disk: MemDisk,
     ) -> Result<(), Fail> {
-        assert_eq!(rt; disk.faults(), 1);
+        same(rt, &disk.faults(), &1);
         self.stop_copies(rt, run, answered, disk.calls())?;
         check_disk(rt, run, &self.keys, answered, disk)?;
         Ok(())
@@ -344,7 +345,7 @@ fn assert_met(rt: &impl Abort, counts: &Counts, met: &Met) {
         (met.rows, 3_300),
     ];
     assert_floors(rt, &floors);
-    assert_eq!(rt; met.strange, 0);
+    same(rt, &met.strange, &0);
 }
 
 /// The faults of a seed.

@@ -1,7 +1,7 @@
 //! Random images of a disk: what the model of the disk says that a stop may leave.
 
 use super::draws::Draws;
-use mvo_disk::{Call, Disk, FILE_COUNT, FileImage, MemDisk, Work};
+use mvo_disk::{Call, DeviceWork, Disk, FILE_COUNT, FileImage, MemDisk};
 use std::alloc::{AllocError, Global};
 use std::test::Fail;
 
@@ -75,21 +75,21 @@ impl Loose {
         Ok(all)
     }
 
-    fn call(&mut self, work: &Work) -> Result<(), AllocError> {
+    fn call(&mut self, work: &DeviceWork) -> Result<(), AllocError> {
         match work {
-            Work::Length | Work::Read { .. } => {}
-            Work::Write { at, len, .. } => {
+            DeviceWork::Length | DeviceWork::Read { .. } => {}
+            DeviceWork::Write { at, len, .. } => {
                 let to = at.saturating_add(*len);
                 self.len = self.len.max(to);
                 self.ranges.push(Range { from: *at, to })?;
                 self.is_exact = false;
             }
-            Work::Sync => {
+            DeviceWork::Sync => {
                 self.kept = self.len;
                 self.ranges.clear();
                 self.is_exact = true;
             }
-            Work::Cut { new_len, .. } => {
+            DeviceWork::Cut { new_len, .. } => {
                 self.len = *new_len;
                 self.kept = self.kept.min(*new_len);
                 self.is_exact = false;
@@ -224,7 +224,7 @@ pub fn bytes_of(disk: &MemDisk, file: u16) -> &[u8] {
 
 /// Whether a call changes no file, nor what a stop may leave of it.
 pub fn is_look(call: &Call) -> bool {
-    matches!(&call.work, Work::Length | Work::Read { .. })
+    matches!(&call.work, DeviceWork::Length | DeviceWork::Read { .. })
 }
 
 /// One more than the greatest file that these calls change.
@@ -307,7 +307,7 @@ pub fn disk_in_part(
 
 /// Makes a call, and of a write at most so many bytes.
 fn make_part(alloc: Global, disk: &mut MemDisk, call: &Call, most: usize) -> Result<(), Fail> {
-    let Work::Write { at, bytes, .. } = &call.work else {
+    let DeviceWork::Write { at, bytes, .. } = &call.work else {
         return make(disk, call);
     };
     let len = bytes.len().min(most);
@@ -315,7 +315,7 @@ fn make_part(alloc: Global, disk: &mut MemDisk, call: &Call, most: usize) -> Res
     let at = *at;
     let part = Call {
         file: call.file,
-        work: Work::Write { at, len, bytes },
+        work: DeviceWork::Write { at, len, bytes },
         failed: false,
     };
     make(disk, &part)
@@ -325,7 +325,7 @@ fn make_part(alloc: Global, disk: &mut MemDisk, call: &Call, most: usize) -> Res
 pub fn last_write(calls: &[Call], from: usize, to: usize) -> Option<Place> {
     let mut last = None;
     for call in calls.iter().take(to).skip(from) {
-        if let Work::Write { at, .. } = &call.work {
+        if let DeviceWork::Write { at, .. } = &call.work {
             last = Some(Place {
                 file: call.file,
                 at: *at,
@@ -341,10 +341,10 @@ fn make(disk: &mut MemDisk, call: &Call) -> Result<(), Fail> {
     }
     let len = disk.bytes(call.file).len();
     match &call.work {
-        Work::Length | Work::Read { .. } => {}
-        Work::Write { at, bytes, .. } if *at <= len => disk.write_at(call.file, *at, bytes)?,
-        Work::Cut { new_len, .. } if *new_len <= len => disk.cut(call.file, *new_len)?,
-        Work::Sync => disk.sync(call.file)?,
+        DeviceWork::Length | DeviceWork::Read { .. } => {}
+        DeviceWork::Write { at, bytes, .. } if *at <= len => disk.write_at(call.file, *at, bytes)?,
+        DeviceWork::Cut { new_len, .. } if *new_len <= len => disk.cut(call.file, *new_len)?,
+        DeviceWork::Sync => disk.sync(call.file)?,
         _ => return Err(Fail::from("writes and cuts within a file, and syncs")),
     }
     Ok(())

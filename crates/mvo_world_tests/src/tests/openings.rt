@@ -8,6 +8,7 @@ use super::images::{disk_after, disk_in_part, is_look};
 use super::jobs::Merge;
 use super::observed::{Counts, count};
 use super::runs::{RUNS, Run, Start, all_keys, opened, try_open};
+use crate::equal::same;
 use mvo_disk::{Call, Disk, FileImage, MemDisk};
 use mvo_types::{Refusal, RowKey, Stamp};
 use mvo_world::World;
@@ -318,8 +319,8 @@ impl Trial {
     }
 
     fn note_fault(&mut self, rt: &impl Abort, refusal: Refusal, disk: &MemDisk) {
-        assert_eq!(rt; refusal, Refusal::DiskFault);
-        assert_eq!(rt; disk.faults(), 1);
+        same(rt, &refusal, &Refusal::DiskFault);
+        same(rt, &disk.faults(), &1);
         count(&mut self.met.faults);
     }
 

@@ -7,6 +7,7 @@ use super::draws::Draws;
 use super::images::{Drawn, disk_after, is_look, last_write};
 use super::observed::{Counts, Known, count};
 use super::runs::{RUNS, Run, Start, all_keys};
+use crate::equal::same;
 use mvo_disk::{Call, FileImage, MemDisk};
 use mvo_types::{RowKey, Stamp};
 use mvo_world::Event;
@@ -376,8 +377,8 @@ fn assert_met(rt: &impl Abort, counts: &Counts, met: &Met) {
         (met.old_answers, 3),
         (met.reopened, 4),
     ];
-    assert_eq!(rt; counts.strange, 0);
-    assert_eq!(rt; met.strange, 0);
+    same(rt, &counts.strange, &0);
+    same(rt, &met.strange, &0);
     assert_floors(rt, &floors);
 }
 

@@ -6,6 +6,7 @@ use super::draws::Draws;
 use super::events::{KEYS, key_at};
 use super::images::disk_of;
 use super::observed::{Commit, Counts, Known, Observed};
+use crate::equal::same;
 use mvo_disk::{FileImage, MemDisk};
 use mvo_model::Serial;
 use mvo_types::{Op, Refusal, Row, RowKey, Rows, Stamp};
@@ -96,7 +97,7 @@ fn put_all(rows: &mut Rows, others: &[Row]) -> Result<(), AllocError> {
 /// Compares what a transaction was told with what the slow program tells it.
 fn compare_commit(rt: &impl Abort, commit: &Commit, serial: &mut Serial) -> Result<(), Fail> {
     let wanted = serial.run_one(&commit.ops)?;
-    assert_eq!(rt; commit.answers.len(), wanted.len());
+    same(rt, &commit.answers.len(), &wanted.len());
     for (answer, other) in commit.answers.iter().zip(wanted.iter()) {
         assert!(rt; is_same(answer, other), "{answer:?}, and not {other:?}");
     }

@@ -4,7 +4,7 @@ use Rattle.std.proofs.lemmas.List.{map-append}
 use Rattle.mvo_types.specs.Write.{Write}
 use Rattle.mvo_group.specs.Data.{write_data}
 use Rattle.mvo_ckpt.specs.Writes.{stamped}
-use Rattle.mvo_ckpt.specs.Walk.{walk, walk_of}
+use Rattle.mvo_ckpt.specs.Walk.{walk_writes, walk_of}
 use Rattle.mvo_ckpt.proofs.Walked.{walk_last}
 use Rattle.mvo_ckpt.proofs.newest.take_writes.Goals as goal
 
@@ -16,7 +16,7 @@ loop-write-preserved c =
     let w = write_data c.in-Some.write in
     let s = walk_of c.loop-write.newest in
     let all : map write_data c.loop-write.writes.items ≡ rest ++ w ∷ [] = ap (map write_data) c.in-Some.ensures.items ∙ map-append write_data c.pop.new.self.items (c.in-Some.write ∷ []) in
-    ap (walk at (stamped end rest)) c.in_ok-take_write.ensures
+    ap (walk_writes at (stamped end rest)) c.in_ok-take_write.ensures
     ∙ sym (walk_last at end rest w s)
-    ∙ sym (ap (λ (l : List Write). walk at (stamped end l) s) all)
+    ∙ sym (ap (λ (l : List Write). walk_writes at (stamped end l) s) all)
     ∙ c.loop-write.invariant

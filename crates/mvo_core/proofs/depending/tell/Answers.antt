@@ -1,6 +1,6 @@
 use Rattle.std.proofs.Common.{ap, refl}
 use Rattle.mvo_types.specs.AnswerData.{answer_data}
-use Rattle.mvo_core.specs.declared.transaction.Transaction.{Transaction}
+use Rattle.mvo_core.specs.declared.kept_transaction.KeptTransaction.{KeptTransaction}
 use Rattle.mvo_core.specs.Keeping.{IsTold}
 use Rattle.mvo_core.proofs.Written.{written}
 use Rattle.mvo_core.proofs.depending.tell.Goals as goal
@@ -8,7 +8,7 @@ use Rattle.mvo_core.proofs.depending.tell.Goals as goal
 pub returns : goal.returns
 returns c =
     let node = c.in-Some.node.now in
-    let after : Transaction = record node.own { work = c.tell.new.self } in
+    let after : KeptTransaction = record node.own { work = c.tell.new.self } in
     let told : IsTold c.args.op (answer_data c.args.answer) node.own after = record {
       history = ap (λ w. w.history) c.tell.ensures;
       words = ap (λ w. w.words) c.tell.ensures;

@@ -1,6 +1,6 @@
 use Rattle.std.proofs.Common.{ap, sym, refl}
 use Rattle.mvo_txn.specs.declared.state.TxState.TheVariants.{Committed}
-use Rattle.mvo_core.specs.declared.transaction.Transaction.{Transaction}
+use Rattle.mvo_core.specs.declared.kept_transaction.KeptTransaction.{KeptTransaction}
 use Rattle.mvo_core.specs.Keeping.{HasHandedOver}
 use Rattle.mvo_core.proofs.WrittenThen.{written_changed}
 use Rattle.mvo_core.proofs.ending.commit.Goals as goal
@@ -8,7 +8,7 @@ use Rattle.mvo_core.proofs.ending.commit.Goals as goal
 pub returns-clause-left : goal.returns-clause-left
 returns-clause-left c =
     let node = c.commit-node.result.1.now in
-    let after : Transaction = record node.own { work = c.take_operations.new.self } in
+    let after : KeptTransaction = record node.own { work = c.take_operations.new.self } in
     let handed : HasHandedOver node.own after = record {
       history = ap (λ w. w.history) c.take_operations.ensures.left;
       words = ap (λ w. w.words) c.take_operations.ensures.left;

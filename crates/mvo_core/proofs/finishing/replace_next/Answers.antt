@@ -1,7 +1,7 @@
 use Rattle.std.proofs.Common.{sym, ap, ◌∙◌}
 use Rattle.std.specs.Prelude.{slice_get}
 use Rattle.std.specs.Option.{option_map}
-use Rattle.mvo_core.specs.Standing.{words_by}
+use Rattle.mvo_core.specs.Standing.{own_words_of}
 use Rattle.mvo_core.specs.Finishing.{from_own}
 use Rattle.mvo_core.proofs.Alone.{nothing_replaced, no_first, no_next}
 use Rattle.mvo_core.proofs.Carried.{own_here}
@@ -28,11 +28,11 @@ returns-clause-replaced c =
 pub returns-clause-first : goal.returns-clause-first
 returns-clause-first c =
     c.replace_first.ensures.first
-    ∙ ap (λ o. slice_get (from_own c.args.versions.now.slots c.args.tx.id.0 (words_by (option_map (λ node. node.own) o))) 0) c.in-Some.ensures.value
+    ∙ ap (λ o. slice_get (from_own c.args.versions.now.slots c.args.tx.id.0 (own_words_of (option_map (λ node. node.own) o))) 0) c.in-Some.ensures.value
 
 pub returns-clause-next : goal.returns-clause-next
 returns-clause-next c =
     let node = c.in-Some.node.now in
     c.replace_first.ensures.next
-    ∙ ap (λ o. slice_get (words_by o) 0)
+    ∙ ap (λ o. slice_get (own_words_of o) 0)
     (sym (own_here c.args.table.now c.args.tx.id.0 node (record node { own = record node.own { work = c.replace_first.new.work } }) (sym c.in-Some.ensures.value)))

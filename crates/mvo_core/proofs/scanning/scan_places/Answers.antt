@@ -2,7 +2,7 @@ use Rattle.std.proofs.Common.{append-nil, [], ◌∷◌, ◌++◌, ap, sym, subs
 use Rattle.mvo_types.specs.declared.row.RowKey.{RowKey}
 use Rattle.mvo_txn.specs.Txns.{state_of}
 use Rattle.mvo_visible.specs.Versions.{versions_at}
-use Rattle.mvo_visible.specs.Shown.{IsInOrder, shown_to}
+use Rattle.mvo_visible.specs.Shown.{AreVersionsInOrder, shown_to}
 use Rattle.mvo_validate.specs.Entries.{key_at}
 use Rattle.mvo_core.proofs.Scanned.{IsSoFar, none_yet, so_far_more, all_seen}
 use Rattle.mvo_core.proofs.scanning.scan_places.Goals as goal
@@ -21,7 +21,7 @@ pub loop-entry-preserved : goal.loop-entry-preserved
 loop-entry-preserved c = (
   (λ order.
       let a = c.args in
-      let is = subst (λ (k : RowKey). IsInOrder (state_of a.table.now) a.tx.0 a.tx.0 (versions_at a.versions.now.slots a.versions.now.lists k)
+      let is = subst (λ (k : RowKey). AreVersionsInOrder (state_of a.table.now) a.tx.0 a.tx.0 (versions_at a.versions.now.slots a.versions.now.lists k)
       → c.shown-found.result ≡ shown_to (state_of a.table.now) a.tx.0 a.tx.0 (versions_at a.versions.now.slots a.versions.now.lists k)) c.row_key.ensures c.shown-found.ensures in
       so_far_more (state_of a.table.now) a.versions.now a.start.0 a.tx.0 a.of a.lo a.hi c.loop-entry.yielded c.in-Some.entry c.next.new.self
       c.loop-entry.rows.items c.add_row.new.rows.items c.loop-entry.on.items c.add_named.new.on.items c.shown-found.result c.in_ok-row.row

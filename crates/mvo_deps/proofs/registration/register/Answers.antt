@@ -1,5 +1,5 @@
 use Rattle.std.proofs.Common.{◌≡◌, true, sym, ap, subst, ◌∙◌}
-use Rattle.mvo_deps.specs.Data.{is_among, with_dependency, with_dependent, without_last_dependent}
+use Rattle.mvo_deps.specs.Data.{is_id_among, with_dependency, with_dependent, without_last_dependent}
 use Rattle.mvo_deps.specs.Graph.{IsDependencyGraph}
 use Rattle.mvo_deps.specs.Nodes.{after_change, data_of}
 use Rattle.mvo_deps.proofs.Changes.{change_taken_back, dependent_taken_back}
@@ -22,5 +22,5 @@ returns-clause-graph g c = λ aborted there prep h.
 
 pub returns-clause-depends : goal.returns-clause-depends
 returns-clause-depends g c = λ aborted there prep h.
-    subst (λ t. is_among c.args.on (data_of t c.args.tx.id).on ≡ true) (sym (c.in_default.ensures.ok ∙ ap (λ t. after_change t c.args.tx.id.0 (with_dependency c.args.on)) c.in_ok-add_dependent.ensures.ok))
+    subst (λ t. is_id_among c.args.on (data_of t c.args.tx.id).on ≡ true) (sym (c.in_default.ensures.ok ∙ ap (λ t. after_change t c.args.tx.id.0 (with_dependency c.args.on)) c.in_ok-add_dependent.ensures.ok))
     (among_noted c.args.table.now c.args.tx.id c.args.on there prep)

@@ -1,6 +1,6 @@
 use Rattle.std.proofs.Common.{◌≡◌, ◌+◌, ◌≤◌, length}
 use Rattle.std.specs.Prelude.{vec_len, vec_capacity}
-use Rattle.mvo_run.specs.Watching.{count_of}
+use Rattle.mvo_engine.specs.run.Watching.{count_of}
 use Rattle.mvo_engine.specs.Gathering.{receipts_in}
 use Rattle.mvo_engine.proofs.gathering.pour.Given as goal
 

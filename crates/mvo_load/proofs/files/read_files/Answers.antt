@@ -4,16 +4,13 @@ use Rattle.std.specs.List.{AllByRecursion}
 use Rattle.std.proofs.lemmas.List.{append-nil, map-append}
 use Rattle.std.proofs.lemmas.List.Elements.{recursion_from_All}
 use Rattle.mvo_pair.specs.declared.pair.Pair.{Pair}
-use Rattle.mvo_image.specs.Opens.{Image}
+use Rattle.mvo_recovery.specs.image.Opens.{Image}
 use Rattle.mvo_load.specs.Files.{PairBytes, bytes_of}
-use Rattle.mvo_load.proofs.Slices.{first_and_rest, no_more}
+use Rattle.mvo_load.proofs.Slices.{first_and_rest, no_more, no_pair}
 use Rattle.mvo_load.proofs.Unchanged.{same_image, unchanged_yet, then_unchanged, was_read, then_spent}
 use Rattle.mvo_disk.specs.Disk.{IsHonest}
 use Rattle.mvo_load.proofs.Gathering.{AreFiles}
 use Rattle.mvo_load.proofs.files.read_files.Goals as goal
-
-abbrev no_pair : Pair
-no_pair = record { data_file = 0; delta_file = 0; lo = record { 0 = 0 }; hi = record { 0 = 0 }; records = 0; entries = 0 }
 
 abbrev pair_in : PairBytes → Pair
 pair_in b = b.pair

@@ -4,10 +4,10 @@ use Rattle.std.specs.List.{AllZip, AllByRecursion}
 use Rattle.std.proofs.lemmas.List.Elements.{All-append, All-from_recursion}
 use Rattle.std.proofs.lemmas.List.Concat.{flat_map-append}
 use Rattle.mvo_disk.specs.Disk.{IsHonest}
-use Rattle.mvo_load.proofs.Pairing.{HasFiles, front_of}
+use Rattle.mvo_load.proofs.Pairing.{HasFiles}
 use Rattle.std.proofs.lemmas.List.{take-append-drop}
 use Rattle.mvo_pair.specs.declared.pair.Pair.{Pair}
-use Rattle.mvo_image.specs.Opens.{Image}
+use Rattle.mvo_recovery.specs.image.Opens.{Image}
 use Rattle.mvo_load.specs.declared.part.Part.{Part}
 use Rattle.mvo_load.specs.Files.{PairBytes, bytes_of, IsPart}
 use Rattle.mvo_load.specs.Gathered.{Filed, filed_of, filed_in, MayLie}
@@ -15,6 +15,7 @@ use Rattle.mvo_load.proofs.Slices.{is_none, none_left}
 use Rattle.mvo_load.proofs.Unchanged.{same_image, unchanged_yet, then_unchanged}
 use Rattle.mvo_load.proofs.Gathering.{GatheredSoFar, AreFiles, all_files, small_parts, none_gathered, more_gathered, all_gathered}
 use Rattle.mvo_load.proofs.gather.gather.Goals as goal
+use Rattle.mvo_manifest.proofs.Spelled.{all_parts}
 
 none_in : (parts : List Part) → parts ≡ [] → [] ≡ filed_in parts
 none_in parts is = sym (ap filed_in is)
@@ -56,7 +57,7 @@ loop-rest-preserved g c =
     let are = λ (honest : IsHonest (g.D.Disk.moment c.read_files.new.disk)). subst (λ (bs : List PairBytes). AllZip (IsPart f) bs parts) (read honest) found in
     let more = λ (honest : IsHonest (g.D.Disk.moment c.read_files.new.disk)). more_gathered f image m c.pairs-rest.ensures.manifest ps qs parts (filed_in before) (here honest) (are honest) in
     let all_is = more_in before parts c.add_parts.new.all.items c.in_ok-add_parts.ensures in
-    let fit = front_of HasFiles ps qs (subst (λ (l : List Pair). AllByRecursion HasFiles l) (sym whole) c.loop-rest.invariant.2) in
+    let fit = all_parts HasFiles ps qs (subst (λ (l : List Pair). AllByRecursion HasFiles l) (sym whole) c.loop-rest.invariant.2) in
     let pairs_are = ap (λ (bs : List PairBytes). map (λ b. b.pair) bs) c.deref.ensures.value ∙ c.in-Ok.ensures.pairs in
     let small = small_parts f c.deref.result.now parts (subst (λ (l : List Pair). AllByRecursion HasFiles l) (sym pairs_are) fit.0) found in (
       λ honest. subst (λ (l : List Filed). GatheredSoFar f image m qs l) all_is (more honest),
@@ -72,7 +73,7 @@ read_files-requires-clause-pairs g c =
     let ps = c.split_at.result.0.now in
     let qs = c.split_at.result.1.now in
     let whole : ps ++ qs ≡ rest = ap (λ (l : List Pair). l ++ qs) c.split_at.ensures.front ∙ ap (λ (l : List Pair). take c.min.result rest ++ l) c.split_at.ensures.back ∙ take-append-drop c.min.result rest in
-    All-from_recursion AreFiles ps (all_files ps (front_of HasFiles ps qs (subst (λ (l : List Pair). AllByRecursion HasFiles l) (sym whole) c.loop-rest.invariant.2)).0)
+    All-from_recursion AreFiles ps (all_files ps (all_parts HasFiles ps qs (subst (λ (l : List Pair). AllByRecursion HasFiles l) (sym whole) c.loop-rest.invariant.2)).0)
 
 pub returns-clause-gathered : goal.returns-clause-gathered
 returns-clause-gathered g c = λ honest.

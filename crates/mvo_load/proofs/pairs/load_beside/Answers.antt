@@ -1,61 +1,32 @@
-use Rattle.std.proofs.Common.{◌⊎◌, List, [], Some, Err, subst}
-use Rattle.mvo_pair.specs.Answers.{IsOnly}
-use Rattle.mvo_pair.specs.Writing.{IsStop}
-use Rattle.mvo_image.specs.Opens.{Image, Segments, OpensWith}
-use Rattle.mvo_image.specs.Files.{SegmentSays}
+use Rattle.std.proofs.Common.{List, Ok, Err}
+use Rattle.mvo_disk.specs.Disk.{IsHonest}
 use Rattle.mvo_load.specs.Gathered.{Filed, AreGathered, AreMade, filed_in}
-use Rattle.mvo_load.specs.Leading.{Leads}
-use Rattle.mvo_load.specs.Parts.{HavePlaces}
-use Rattle.mvo_load.proofs.Unchanged.{same_image}
+use Rattle.mvo_load.proofs.Unchanged.{was_read, gives_any}
+use Rattle.mvo_load.proofs.Paired.{then_pairs}
 use Rattle.mvo_load.proofs.Gathering.{rows_made, places_made, leads_made}
 use Rattle.mvo_load.proofs.pairs.load_beside.Goals as goal
 
-pub returns-in-Some-2-clause-live : goal.returns-in-Some-2-clause-live
-returns-in-Some-2-clause-live g c = λ honest.
+pub returns-in-Some-2 : goal.returns-in-Some-2
+returns-in-Some-2 g c =
     let f = c.args.format in
     let image = g.D.Disk.content c.args.disk.now in
     let m = c.args.manifest.now in
     let all : List Filed = filed_in c.in-Some.all.items in
-    let gathered : AreGathered f image m all = rw c.in-Some.is at (c.in-Ok.ensures.gathered honest) in
+    let gathered : IsHonest (g.D.Disk.moment c.gather.new.disk) → AreGathered f image m all = rw c.in-Some.is at c.in-Ok.ensures.gathered in
     let made : AreMade all c.in-Some-2.made.0 c.in-Some-2.made.1.at = rw c.in-Some-2.is at c.in_ok-made.ensures in
-    rows_made f image m all gathered c.in-Some-2.made.0 c.in-Some-2.made.1.at made
+    record {
+      live = λ honest. rows_made f image m all (gathered honest) c.in-Some-2.made.0 c.in-Some-2.made.1.at made;
+      places = λ honest. places_made f image m all (gathered honest) c.in-Some-2.made.0 c.in-Some-2.made.1.at made;
+      leads = λ honest. leads_made f image m all (gathered honest) c.in-Some-2.made.0 c.in-Some-2.made.1.at made;
+      read = gives_any g.D.Disk _ c.args.disk.now c.gather.new.disk c.in-Some-2.made (was_read g.D.Disk c.args.disk.now c.gather.new.disk c.in-Ok.gathered c.in-Ok.ensures.read);
+    }
 
-pub returns-in-Some-2-clause-places : goal.returns-in-Some-2-clause-places
-returns-in-Some-2-clause-places g c = λ honest.
-    let f = c.args.format in
-    let image = g.D.Disk.content c.args.disk.now in
-    let m = c.args.manifest.now in
-    let all : List Filed = filed_in c.in-Some.all.items in
-    let gathered : AreGathered f image m all = rw c.in-Some.is at (c.in-Ok.ensures.gathered honest) in
-    let made : AreMade all c.in-Some-2.made.0 c.in-Some-2.made.1.at = rw c.in-Some-2.is at c.in_ok-made.ensures in
-    places_made f image m all gathered c.in-Some-2.made.0 c.in-Some-2.made.1.at made
+pub returns-in-Ok-load_in_turn : goal.returns-in-Ok-load_in_turn
+returns-in-Ok-load_in_turn g c =
+    then_pairs g.D.Disk c.args.format c.args.manifest.now c.args.disk.now c.gather.new.disk c.load_in_turn.new.disk (Ok c.in-Ok-load_in_turn.found)
+    (was_read g.D.Disk c.args.disk.now c.gather.new.disk c.in-Ok.gathered c.in-Ok.ensures.read) c.in-Ok-load_in_turn.ensures
 
-pub returns-in-Some-2-clause-leads : goal.returns-in-Some-2-clause-leads
-returns-in-Some-2-clause-leads g c = λ honest.
-    let f = c.args.format in
-    let image = g.D.Disk.content c.args.disk.now in
-    let m = c.args.manifest.now in
-    let all : List Filed = filed_in c.in-Some.all.items in
-    let gathered : AreGathered f image m all = rw c.in-Some.is at (c.in-Ok.ensures.gathered honest) in
-    let made : AreMade all c.in-Some-2.made.0 c.in-Some-2.made.1.at = rw c.in-Some-2.is at c.in_ok-made.ensures in
-    leads_made f image m all gathered c.in-Some-2.made.0 c.in-Some-2.made.1.at made
-
-pub returns-in-Ok-load_in_turn-clause-places : goal.returns-in-Ok-load_in_turn-clause-places
-returns-in-Ok-load_in_turn-clause-places g c = λ honest.
-    let same = same_image g.D.Disk c.args.disk.now c.gather.new.disk c.in-Ok.ensures.read.rest.content in
-    subst (λ (image : Image). HavePlaces c.args.format image c.args.manifest.now.pairs c.in-Ok-load_in_turn.found.1.at) same (c.in-Ok-load_in_turn.ensures.places honest)
-
-pub returns-in-Ok-load_in_turn-clause-leads : goal.returns-in-Ok-load_in_turn-clause-leads
-returns-in-Ok-load_in_turn-clause-leads g c = λ honest.
-    let f = c.args.format in
-    let m = c.args.manifest.now in
-    let rows = c.in-Ok-load_in_turn.found.0 in
-    let same = same_image g.D.Disk c.args.disk.now c.gather.new.disk c.in-Ok.ensures.read.rest.content in
-    subst (λ (image : Image). Leads (Segments (SegmentSays f) image rows m.segments m.checkpoint_mark []) (OpensWith (SegmentSays f) f image (Some m))) same (c.in-Ok-load_in_turn.ensures.leads honest)
-
-pub returns-in-Err-load_in_turn-clause-leads : goal.returns-in-Err-load_in_turn-clause-leads
-returns-in-Err-load_in_turn-clause-leads g c = λ honest.
-    let f = c.args.format in
-    let e = c.in-Err-load_in_turn.e in
-    let same = same_image g.D.Disk c.args.disk.now c.gather.new.disk c.in-Ok.ensures.read.rest.content in
-    subst (λ (image : Image). IsStop e ⊎ IsOnly (OpensWith (SegmentSays f) f image (Some c.args.manifest.now)) (Err e)) same (c.in-Err-load_in_turn.ensures.leads honest)
+pub returns-in-Err-load_in_turn : goal.returns-in-Err-load_in_turn
+returns-in-Err-load_in_turn g c =
+    then_pairs g.D.Disk c.args.format c.args.manifest.now c.args.disk.now c.gather.new.disk c.load_in_turn.new.disk (Err c.in-Err-load_in_turn.e)
+    (was_read g.D.Disk c.args.disk.now c.gather.new.disk c.in-Ok.gathered c.in-Ok.ensures.read) c.in-Err-load_in_turn.ensures

@@ -1,20 +1,20 @@
 use Rattle.std.specs.Prelude.{All}
+use Rattle.mvo_types.specs.Keys.{Map}
 use Rattle.mvo_types.specs.declared.limits.TheConstants.{MAX_PAIR_RECORDS}
+use Rattle.mvo_types.specs.declared.refusal.Refusal.TheVariants.{Corrupt}
 use Rattle.std.proofs.Common.{◌<◌, arith, ap, ◌∙◌, get_or, take, drop, length, ◌-◌, ◌≡◌, List, inl, inr, ⊎_elim, subst, sym, Ok, Err, Bool}
 use Rattle.std.specs.List.{AllByRecursion}
 use Rattle.std.proofs.lemmas.List.Elements.{All-weaker}
 use Rattle.mvo_pair.specs.Data.{Numbered, AreApart}
 use Rattle.mvo_pair.specs.declared.pair.Pair.{Pair}
-use Rattle.mvo_image.specs.Rows.{rows_of}
+use Rattle.mvo_places.specs.Rows.{rows_of}
 use Rattle.mvo_places.specs.Places.{PlaceMap, PlaceTable, with_live}
 use Rattle.mvo_load.specs.Parts.{Joins}
-use Rattle.mvo_load.proofs.Slices.{first_and_rest, no_more}
-use Rattle.mvo_load.proofs.Unchanged.{unchanged_yet, then_unchanged}
-use Rattle.mvo_load.proofs.Pairing.{PairsSoFar, HasFiles, loads_before, no_pair_yet, refused_here, second_here, pair_more, rest_leads}
+use Rattle.mvo_load.proofs.Slices.{first_and_rest, no_more, no_pair}
+use Rattle.mvo_load.proofs.Unchanged.{unchanged_yet, then_unchanged, was_read, gives_any, then_refused, then_misread}
+use Rattle.mvo_load.proofs.Paired.{no_pairs}
+use Rattle.mvo_load.proofs.Pairing.{PairsSoFar, HasFiles, loads_before, no_pair_yet, refused_here, second_here, pair_more, all_rows, all_places, rest_leads}
 use Rattle.mvo_load.proofs.pairs.load_in_turn.Goals as goal
-
-abbrev no_pair : Pair
-no_pair = record { data_file = 0; delta_file = 0; lo = record { 0 = 0 }; hi = record { 0 = 0 }; records = 0; entries = 0 }
 
 pub loop-rest-init : goal.loop-rest-init
 loop-rest-init g c =
@@ -28,9 +28,8 @@ loop-rest-init g c =
       subst (λ (l : List Pair). AllByRecursion HasFiles l) (sym c.pairs-rest.ensures.value) none.files,
     )
 
-pub returns-in-Err-clause-leads : goal.returns-in-Err-clause-leads
-returns-in-Err-clause-leads g c = λ honest.
-    let before = c.loop-rest.invariant.0 (c.in-Err.ensures.read.any_moment.later.honest honest) in
+pub returns-in-Err : goal.returns-in-Err
+returns-in-Err g c =
     let f = c.args.format in
     let image = g.D.Disk.content c.args.disk.now in
     let rest = c.loop-rest.rest.now in
@@ -39,13 +38,16 @@ returns-in-Err-clause-leads g c = λ honest.
     let whole = first_and_rest c.loop-rest.rest.now no_pair c.in-len1-up.len_at_least in
     let same = c.loop-rest.invariant.1.rest.content in
     let e = c.in-Err.e in
+    no_pairs g.D.Disk f c.args.manifest.now c.args.disk.now c.pair_on.new.disk e
+    (λ honest.
+    let before = c.loop-rest.invariant.0 (c.in-Err.ensures.read.any_moment.later.honest honest) in
     ⊎_elim (λ m. inl m)
     (λ h. inr (refused_here f image c.args.manifest.now p ps c.loop-rest.rest.now c.loop-rest.rows c.loop-rest.places.at before whole e (loads_before f p (g.D.Disk.content c.loop-rest.disk) image same (Err e) h)))
-    (c.in-Err.ensures.says honest)
+    (c.in-Err.ensures.says honest))
+    (then_refused g.D.Disk _ (Map × PlaceTable) c.args.disk.now c.loop-rest.disk c.pair_on.new.disk e c.loop-rest.invariant.1 c.in-Err.ensures.read)
 
-pub returns-then-not-branch-clause-leads : goal.returns-then-not-branch-clause-leads
-returns-then-not-branch-clause-leads g c = λ honest.
-    let before = c.loop-rest.invariant.0 (c.in-Ok.ensures.read.any_moment.later.honest honest) in
+pub returns-then-not-branch : goal.returns-then-not-branch
+returns-then-not-branch g c =
     let f = c.args.format in
     let image = g.D.Disk.content c.args.disk.now in
     let rest = c.loop-rest.rest.now in
@@ -55,8 +57,13 @@ returns-then-not-branch-clause-leads g c = λ honest.
     let same = c.loop-rest.invariant.1.rest.content in
     let live = c.in-Ok.live.items in
     let two = λ (before : List (List Numbered)) (apart : AreApart before) (is : c.loop-rest.rows ≡ rows_of before). subst (λ (b : Bool). Joins before live b c.join.new.rows) c.if-not-branch.true (c.in_ok-join.ensures before apart is) in
+    no_pairs g.D.Disk f c.args.manifest.now c.args.disk.now c.pair_on.new.disk (Corrupt p.data_file)
+    (λ honest.
+    let before = c.loop-rest.invariant.0 (c.in-Ok.ensures.read.any_moment.later.honest honest) in
     inr (second_here f image c.args.manifest.now p ps c.loop-rest.rest.now c.loop-rest.rows c.loop-rest.places.at before whole live
-    (loads_before f p (g.D.Disk.content c.loop-rest.disk) image same (Ok live) (c.in-Ok.ensures.says honest)) c.join.new.rows two)
+    (loads_before f p (g.D.Disk.content c.loop-rest.disk) image same (Ok live) (c.in-Ok.ensures.says honest)) c.join.new.rows two))
+    (then_misread g.D.Disk (Map × PlaceTable) c.args.disk.now c.pair_on.new.disk (Corrupt p.data_file) tt
+    (then_unchanged g.D.Disk c.args.disk.now c.loop-rest.disk c.pair_on.new.disk c.loop-rest.invariant.1 (was_read g.D.Disk c.loop-rest.disk c.pair_on.new.disk c.in-Ok.live c.in-Ok.ensures.read)))
 
 pub loop-rest-preserved : goal.loop-rest-preserved
 loop-rest-preserved g c =
@@ -77,9 +84,21 @@ loop-rest-preserved g c =
       (subst (λ (l : List Pair). AllByRecursion HasFiles l) whole c.loop-rest.invariant.2).1,
     )
 
-pub returns-clause-leads : goal.returns-clause-leads
-returns-clause-leads g c = λ honest.
-    rest_leads c.args.format (g.D.Disk.content c.args.disk.now) c.args.manifest.now c.loop-rest.rest.now c.loop-rest.rows c.loop-rest.places.at (c.loop-rest.invariant.0 honest) (no_more c.loop-rest.rest.now c.in_default.len_below)
+pub returns : goal.returns
+returns g c =
+    let f = c.args.format in
+    let image = g.D.Disk.content c.args.disk.now in
+    let m = c.args.manifest.now in
+    let rest = c.loop-rest.rest.now in
+    let rows = c.loop-rest.rows in
+    let at = c.loop-rest.places.at in
+    let none = no_more rest c.in_default.len_below in
+    record {
+      live = λ honest. all_rows f image m rest rows at (c.loop-rest.invariant.0 honest) none;
+      places = λ honest. all_places f image m rest rows at (c.loop-rest.invariant.0 honest) none;
+      leads = λ honest. rest_leads f image m rest rows at (c.loop-rest.invariant.0 honest) none;
+      read = gives_any g.D.Disk (Map × PlaceTable) c.args.disk.now c.loop-rest.disk (rows, c.loop-rest.places) c.loop-rest.invariant.1;
+    }
 
 pub add_pair-requires-clause-numbers : goal.add_pair-requires-clause-numbers
 add_pair-requires-clause-numbers g c =

@@ -4,8 +4,8 @@ use Rattle.mvo_frame.specs.Reading.{step_found, segment_found}
 use Rattle.mvo_frame.proofs.Walk.{head_refused}
 use Rattle.mvo_pair.specs.Answers.{IsOnly}
 use Rattle.mvo_pair.proofs.Loads.{tells_err}
-use Rattle.mvo_image.specs.Files.{SegmentIs}
-use Rattle.mvo_image.proofs.Opening.{segment_exact}
+use Rattle.mvo_recovery.specs.image.Files.{SegmentIs}
+use Rattle.mvo_recovery.proofs.image.Opening.{segment_exact}
 use Rattle.mvo_load.proofs.Replaying.{behind_fits, passed, replay_begun, replay_more, replay_shorter, replay_next, replay_failed, replay_short, replay_ended, replayed_fits}
 use Rattle.mvo_load.proofs.put_segment.put_segment.Goals as goal
 

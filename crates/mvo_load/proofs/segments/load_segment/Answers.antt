@@ -1,6 +1,6 @@
 use Rattle.std.proofs.Common.{inl, inr, ⊎_elim, List, ℕ, subst, ◌∙◌, Err}
 use Rattle.mvo_pair.specs.Answers.{IsOnly}
-use Rattle.mvo_image.specs.Files.{SegmentIs}
+use Rattle.mvo_recovery.specs.image.Files.{SegmentIs}
 use Rattle.mvo_load.specs.Parts.{IsReplayed}
 use Rattle.mvo_load.proofs.Fronts.{segment_on_disk}
 use Rattle.mvo_load.proofs.Replaying.{replayed_on_disk}

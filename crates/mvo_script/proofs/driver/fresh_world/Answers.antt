@@ -1,7 +1,7 @@
 use Rattle.std.proofs.Common.{◌≡◌, ◌⊎◌, inl, inr, refl, subst, ℕ, arith}
 use Rattle.std.specs.FinMap as map
 use Rattle.mvo_types.specs.Keys.{Map}
-use Rattle.mvo_core.specs.Standing.{OpensAs}
+use Rattle.mvo_core.specs.Standing.{HasOpenedOver}
 use Rattle.mvo_world.specs.Past.{opened_over}
 use Rattle.mvo_script.proofs.driver.fresh_world.Goals as goal
 
@@ -20,7 +20,7 @@ returns-in-Ok-open-clause-fresh g c =
     }) in
     let mark_is = only found.known in
     record {
-      core = subst (λ (rows : Map). OpensAs rows 0 w.core) found.rows_are (subst (λ (mark : ℕ). OpensAs given.0 mark w.core) mark_is begins.core);
+      core = subst (λ (rows : Map). HasOpenedOver rows 0 w.core) found.rows_are (subst (λ (mark : ℕ). HasOpenedOver given.0 mark w.core) mark_is begins.core);
       mark = mark_is;
       ring = begins.ring;
       pending = begins.store.pending;

@@ -10,7 +10,7 @@ use Rattle.mvo_theory.specs.Entries.{written_keys}
 use Rattle.mvo_theory.specs.Groups.{is_writing}
 use Rattle.mvo_tale.specs.Records.{IsRecordOf, net_writes, commit_len}
 use Rattle.mvo_theory.specs.Told.{history_told}
-use Rattle.mvo_tale.specs.Stored.{StoredCommit, commit_of}
+use Rattle.mvo_tale.specs.Stored.{StoredCommit, stored_commit_of}
 use Rattle.mvo_tale.proofs.NetWrites.{written_apart, record_is, record_keeps, record_len_is}
 use Rattle.mvo_tale.proofs.commit_record.record_of.Goals as goal
 use Rattle.mvo_tale.proofs.commit_record.record_of.Goals.{After-drop-keys-2}
@@ -34,17 +34,17 @@ left c = record { end = c.entry.inside.end.0; writes = map write_data c.in_ok-wr
 pub returns-clause-written : goal.returns-clause-written
 unfolding left
 returns-clause-written c =
-    subst (λ (x : StoredCommit). IsRecordOf (commit_of x) (left c)) c.entry.view_is
+    subst (λ (x : StoredCommit). IsRecordOf (stored_commit_of x) (left c)) c.entry.view_is
     (record_is c.entry.inside.end.0 (history_told c.entry.inside.operations.items) c.in_ok-keys.keys.items (left c) refl (writes c) (keys c) c.in_ok-keys.ensures.rise)
 
 pub returns-clause-rules : goal.returns-clause-rules
 unfolding left
 returns-clause-rules c =
-    subst (λ (x : StoredCommit). is_writing (commit_of x) ≡ true → IsRecord (left c)) c.entry.view_is
+    subst (λ (x : StoredCommit). is_writing (stored_commit_of x) ≡ true → IsRecord (left c)) c.entry.view_is
     (record_keeps (history_told c.entry.inside.operations.items) c.in_ok-keys.keys.items (left c) (writes c) (keys c) c.in_ok-keys.ensures.rise c.entry.invariant.2)
 
 pub returns-clause-len : goal.returns-clause-len
 unfolding left
 returns-clause-len c =
-    subst (λ (x : StoredCommit). record_len (left c) ≡ commit_len (commit_of x)) c.entry.view_is
+    subst (λ (x : StoredCommit). record_len (left c) ≡ commit_len (stored_commit_of x)) c.entry.view_is
     (record_len_is c.entry.inside.end.0 (history_told c.entry.inside.operations.items) c.in_ok-keys.keys.items (left c) (writes c) (keys c))

@@ -1,7 +1,7 @@
 use Rattle.std.proofs.Common.{ℕ, [], ◌∷◌, ◌++◌, Some, ap, sym, refl, ◌∙◌, append_assoc, append-nil}
 use Rattle.std.proofs.lemmas.Grind.{flat_map-append}
 use Rattle.std.specs.List.{flat_map}
-use Rattle.mvo_range.specs.declared.place.Place.{Place}
+use Rattle.mvo_range.specs.declared.sort_place.SortPlace.{SortPlace}
 use Rattle.mvo_txn.specs.Txns.{state_of}
 use Rattle.mvo_visible.specs.Changes.{greatest}
 use Rattle.mvo_validate.specs.Entries.{versions_of_place, versions_of_sort}
@@ -18,7 +18,7 @@ loop-place-preserved g c =
     let e = c.args.end.0 in
     let one = versions_of_place c.args.chains.now c.args.index.now.versions in
     let ps = c.loop-place.yielded in
-    let p : Place × ℕ = (c.in-Some.place, c.in-Some.field-0-1) in (
+    let p : SortPlace × ℕ = (c.in-Some.place, c.in-Some.field-0-1) in (
       λ falling. c.greatest-last.ensures
           ∙ ap (λ l. greatest l c.last_between-here.result) (c.loop-place.invariant.0 falling)
           ∙ ap (greatest (seen_between states b e (flat_map one ps)))

@@ -5,7 +5,7 @@ use Rattle.mvo_theory.specs.Calls.Call.{Do}
 use Rattle.mvo_theory.specs.Calls.Result.{Accepted, Refused}
 use Rattle.mvo_txn.specs.Txns.{state_of}
 use Rattle.mvo_visible.specs.Versions.{versions_at}
-use Rattle.mvo_visible.specs.Shown.{IsInOrder}
+use Rattle.mvo_visible.specs.Shown.{AreVersionsInOrder}
 use Rattle.mvo_core.specs.Causes.{why_not_put}
 use Rattle.mvo_core.specs.Data.{CoreData}
 use Rattle.mvo_core.specs.View.{core_data}
@@ -51,7 +51,7 @@ invariant_of-self-then-is_some c =
     let f = c.self.inside in
     let i = c.self.invariant.stands in
     let old : CoreData = core_data f in
-    let is = subst (λ k. IsInOrder (state_of f.table) c.args.tx.0 c.args.tx.0 (versions_at f.versions.slots f.versions.lists k) → c.shown-found.result ≡ shown_in old c.args.tx.0 k) c.row_key-key.ensures c.shown-found.ensures in
+    let is = subst (λ k. AreVersionsInOrder (state_of f.table) c.args.tx.0 c.args.tx.0 (versions_at f.versions.slots f.versions.lists k) → c.shown-found.result ≡ shown_in old c.args.tx.0 k) c.row_key-key.ensures c.shown-found.ensures in
     record {
       stands =
           stands_on i (Do c.args.tx.0 (Insert c.args.row)) Accepted (record old { table = c.record_answer.new.table })
@@ -64,7 +64,7 @@ pub returns-then-is_some-clause-step : goal.returns-then-is_some-clause-step
 returns-then-is_some-clause-step c = λ opening steps s h.
     let f = c.self.inside in
     let old : CoreData = core_data f in
-    let is = subst (λ k. IsInOrder (state_of f.table) c.args.tx.0 c.args.tx.0 (versions_at f.versions.slots f.versions.lists k) → c.shown-found.result ≡ shown_in old c.args.tx.0 k) c.row_key-key.ensures c.shown-found.ensures in
+    let is = subst (λ k. AreVersionsInOrder (state_of f.table) c.args.tx.0 c.args.tx.0 (versions_at f.versions.slots f.versions.lists k) → c.shown-found.result ≡ shown_in old c.args.tx.0 k) c.row_key-key.ensures c.shown-found.ensures in
     exists_leads opening steps s old (subst (StandsFor opening steps s) (sym c.self.view_is) h) c.args.tx c.args.row (sym c.not_put.ensures ∙ c.in_default.is) c.shown-found.result is (sym c.is_some.ensures ∙ c.if-is_some.true)
     c.record_answer.new.table c.in_ok-record_answer.ensures.ok
 
@@ -72,7 +72,7 @@ pub returns-then-is_some-clause-answer : goal.returns-then-is_some-clause-answer
 returns-then-is_some-clause-answer c = λ opening steps s h.
     let f = c.self.inside in
     let old : CoreData = core_data f in
-    let is = subst (λ k. IsInOrder (state_of f.table) c.args.tx.0 c.args.tx.0 (versions_at f.versions.slots f.versions.lists k) → c.shown-found.result ≡ shown_in old c.args.tx.0 k) c.row_key-key.ensures c.shown-found.ensures in
+    let is = subst (λ k. AreVersionsInOrder (state_of f.table) c.args.tx.0 c.args.tx.0 (versions_at f.versions.slots f.versions.lists k) → c.shown-found.result ≡ shown_in old c.args.tx.0 k) c.row_key-key.ensures c.shown-found.ensures in
     exists_answers opening steps s old (subst (StandsFor opening steps s) (sym c.self.view_is) h) c.args.tx c.args.row (sym c.not_put.ensures ∙ c.in_default.is) c.shown-found.result is (sym c.is_some.ensures ∙ c.if-is_some.true)
 
 pub invariant_of-self-in_err-insert_row : goal.invariant_of-self-in_err-insert_row
@@ -102,7 +102,7 @@ invariant_of-self-2 c =
     let f = c.self.inside in
     let i = c.self.invariant.stands in
     let old : CoreData = core_data f in
-    let is = subst (λ k. IsInOrder (state_of f.table) c.args.tx.0 c.args.tx.0 (versions_at f.versions.slots f.versions.lists k) → c.shown-found.result ≡ shown_in old c.args.tx.0 k) c.row_key-key.ensures c.shown-found.ensures in
+    let is = subst (λ k. AreVersionsInOrder (state_of f.table) c.args.tx.0 c.args.tx.0 (versions_at f.versions.slots f.versions.lists k) → c.shown-found.result ≡ shown_in old c.args.tx.0 k) c.row_key-key.ensures c.shown-found.ensures in
     record {
       stands =
           stands_on i (Do c.args.tx.0 (Insert c.args.row)) Accepted (record old { versions = c.insert_row.new.versions; table = c.insert_row.new.table })
@@ -115,7 +115,7 @@ pub returns-clause-step : goal.returns-clause-step
 returns-clause-step c = λ opening steps s h.
     let f = c.self.inside in
     let old : CoreData = core_data f in
-    let is = subst (λ k. IsInOrder (state_of f.table) c.args.tx.0 c.args.tx.0 (versions_at f.versions.slots f.versions.lists k) → c.shown-found.result ≡ shown_in old c.args.tx.0 k) c.row_key-key.ensures c.shown-found.ensures in
+    let is = subst (λ k. AreVersionsInOrder (state_of f.table) c.args.tx.0 c.args.tx.0 (versions_at f.versions.slots f.versions.lists k) → c.shown-found.result ≡ shown_in old c.args.tx.0 k) c.row_key-key.ensures c.shown-found.ensures in
     insert_leads opening steps s old (subst (StandsFor opening steps s) (sym c.self.view_is) h) c.args.tx c.args.row (sym c.not_put.ensures ∙ c.in_default.is) c.shown-found.result is (sym c.is_some.ensures ∙ c.if-is_some.false)
     c.insert_row.new.versions c.insert_row.new.table c.in_ok-insert_row.ensures.ok c.insert_row.ensures.indexed
 
@@ -123,7 +123,7 @@ pub returns-clause-answer : goal.returns-clause-answer
 returns-clause-answer c = λ opening steps s h.
     let f = c.self.inside in
     let old : CoreData = core_data f in
-    let is = subst (λ k. IsInOrder (state_of f.table) c.args.tx.0 c.args.tx.0 (versions_at f.versions.slots f.versions.lists k) → c.shown-found.result ≡ shown_in old c.args.tx.0 k) c.row_key-key.ensures c.shown-found.ensures in
+    let is = subst (λ k. AreVersionsInOrder (state_of f.table) c.args.tx.0 c.args.tx.0 (versions_at f.versions.slots f.versions.lists k) → c.shown-found.result ≡ shown_in old c.args.tx.0 k) c.row_key-key.ensures c.shown-found.ensures in
     inserted_answers opening steps s old (subst (StandsFor opening steps s) (sym c.self.view_is) h) c.args.tx c.args.row (sym c.not_put.ensures ∙ c.in_default.is) c.shown-found.result is (sym c.is_some.ensures ∙ c.if-is_some.false)
 
 -- ---- for want of room for what waits

@@ -13,7 +13,7 @@ use Rattle.mvo_core.proofs.Begun.{stands_on}
 use Rattle.mvo_core.proofs.Refused.{came_spent}
 use Rattle.mvo_core.proofs.Drawing.{precommit_refused, clock_spent_leads, memory_spent_leads, ends_below, was_active, draw_leads}
 use Rattle.mvo_txn.specs.Txns.{state_of}
-use Rattle.mvo_tale.specs.declared.slot.Slot.{Slot}
+use Rattle.mvo_tale.specs.declared.tale_place.TalePlace.{TalePlace}
 use Rattle.mvo_core.proofs.Waits.{waits_roomy_ended}
 use Rattle.mvo_core.proofs.WaitsOn.{drawn_waits}
 use Rattle.mvo_core.proofs.event_core.Core.precommit.Goals as goal
@@ -107,7 +107,7 @@ invariant_of-self-in_err-place c =
     let f = c.self.inside in
     let old : CoreData = core_data f in
     record {
-      stands = subst (λ (slots : List Slot). Stands (record old { tale = slots })) (sym c.in_err-place.ensures.err) c.self.invariant.stands;
+      stands = subst (λ (slots : List TalePlace). Stands (record old { tale = slots })) (sym c.in_err-place.ensures.err) c.self.invariant.stands;
       waiting = waits_roomy_ended f.table.clock (state_of f.table) f.versions.slots f.waiting c.make_room_for_ended.new.self c.make_room_for_ended.new.self.ended_room c.make_room_for_ended.ensures.same c.self.invariant.waiting;
     }
 

@@ -5,8 +5,8 @@ use Rattle.mvo_theory.specs.Told.{history_told}
 use Rattle.mvo_theory.specs.Calls.Call.{Settle}
 use Rattle.mvo_theory.specs.Calls.Result.{Accepted, Refused}
 use Rattle.mvo_txn.specs.declared.state.TxState.TheVariants.{Committed}
-use Rattle.mvo_txn.specs.Txns.{IsPreparing as StandsPreparing}
-use Rattle.mvo_tale.specs.declared.slot.Slot.TheVariants.{Settled}
+use Rattle.mvo_txn.specs.Txns.{IsPreparingState as StandsPreparing}
+use Rattle.mvo_tale.specs.declared.tale_place.TalePlace.TheVariants.{Settled}
 use Rattle.mvo_tale.specs.Stored.{StoredCommit}
 use Rattle.mvo_tale.specs.Slots.{open_end_at}
 use Rattle.mvo_core.specs.Data.{CoreData}

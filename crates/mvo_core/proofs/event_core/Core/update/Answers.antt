@@ -6,7 +6,7 @@ use Rattle.mvo_theory.specs.Calls.Call.{Do}
 use Rattle.mvo_theory.specs.Calls.Result.{Accepted, Refused}
 use Rattle.mvo_txn.specs.Txns.{state_of, IsUnended}
 use Rattle.mvo_visible.specs.Versions.{versions_at}
-use Rattle.mvo_visible.specs.Shown.{IsInOrder}
+use Rattle.mvo_visible.specs.Shown.{AreVersionsInOrder}
 use Rattle.mvo_core.specs.Causes.{why_not_put, flag_of}
 use Rattle.mvo_core.specs.Data.{CoreData}
 use Rattle.mvo_core.specs.View.{core_data}
@@ -45,7 +45,7 @@ pub returns-in-Some-in_the_way-clause-step : goal.returns-in-Some-in_the_way-cla
 returns-in-Some-in_the_way-clause-step c = λ opening steps s h.
     let f = c.self.inside in
     let old : CoreData = core_data f in
-    let is = subst (λ k. IsInOrder (state_of f.table) c.args.tx.0 c.args.tx.0 (versions_at f.versions.slots f.versions.lists k) → c.shown-found.result ≡ shown_in old c.args.tx.0 k) c.row_key-key.ensures c.shown-found.ensures in
+    let is = subst (λ k. AreVersionsInOrder (state_of f.table) c.args.tx.0 c.args.tx.0 (versions_at f.versions.slots f.versions.lists k) → c.shown-found.result ≡ shown_in old c.args.tx.0 k) c.row_key-key.ensures c.shown-found.ensures in
     subst (λ r. LeadsOn opening steps s (Do c.args.tx.0 (Update c.args.row)) (Refused r) c.give_up-in-Some-in_the_way.new.self) (sym c.give_up-in-Some-in_the_way.ensures.same)
     (update_conflicts opening steps s old (subst (StandsFor opening steps s) (sym c.self.view_is) h) c.args.tx c.args.row (sym c.not_put.ensures ∙ c.in_default.is) c.shown-found.result is c.in-Some-in_the_way.cause (sym c.in_the_way.ensures ∙ c.in-Some-in_the_way.is)
     c.give_up-in-Some-in_the_way.new.self (c.give_up-in-Some-in_the_way.ensures.left opening steps s h))
@@ -63,7 +63,7 @@ invariant_of-self c =
     let f = c.self.inside in
     let i = c.self.invariant.stands in
     let old : CoreData = core_data f in
-    let is = subst (λ k. IsInOrder (state_of f.table) c.args.tx.0 c.args.tx.0 (versions_at f.versions.slots f.versions.lists k) → c.shown-found.result ≡ shown_in old c.args.tx.0 k) c.row_key-key.ensures c.shown-found.ensures in
+    let is = subst (λ k. AreVersionsInOrder (state_of f.table) c.args.tx.0 c.args.tx.0 (versions_at f.versions.slots f.versions.lists k) → c.shown-found.result ≡ shown_in old c.args.tx.0 k) c.row_key-key.ensures c.shown-found.ensures in
     record {
       stands =
           stands_on i (Do c.args.tx.0 (Update c.args.row)) (Refused OutOfMemory) (record old { table = c.record_answer.new.table })
@@ -75,7 +75,7 @@ pub returns-in_err-record_answer-clause-step : goal.returns-in_err-record_answer
 returns-in_err-record_answer-clause-step c = λ opening steps s h.
     let f = c.self.inside in
     let old : CoreData = core_data f in
-    let is = subst (λ k. IsInOrder (state_of f.table) c.args.tx.0 c.args.tx.0 (versions_at f.versions.slots f.versions.lists k) → c.shown-found.result ≡ shown_in old c.args.tx.0 k) c.row_key-key.ensures c.shown-found.ensures in
+    let is = subst (λ k. AreVersionsInOrder (state_of f.table) c.args.tx.0 c.args.tx.0 (versions_at f.versions.slots f.versions.lists k) → c.shown-found.result ≡ shown_in old c.args.tx.0 k) c.row_key-key.ensures c.shown-found.ensures in
     subst (λ r. LeadsOn opening steps s (Do c.args.tx.0 (Update c.args.row)) r (record old { table = c.record_answer.new.table })) (came_spent c.from_residual.result c.from_residual.ensures.1)
     (update_spent opening steps s old (subst (StandsFor opening steps s) (sym c.self.view_is) h) c.args.tx c.args.row (sym c.not_put.ensures ∙ c.in_default.is) c.shown-found.result is (sym c.in_the_way.ensures ∙ c.in_default-in_the_way.is) c.record_answer.new.table c.in_err-record_answer.ensures.err)
 
@@ -84,7 +84,7 @@ invariant_of-self-in_default-version c =
     let f = c.self.inside in
     let i = c.self.invariant.stands in
     let old : CoreData = core_data f in
-    let is = subst (λ k. IsInOrder (state_of f.table) c.args.tx.0 c.args.tx.0 (versions_at f.versions.slots f.versions.lists k) → c.shown-found.result ≡ shown_in old c.args.tx.0 k) c.row_key-key.ensures c.shown-found.ensures in
+    let is = subst (λ k. AreVersionsInOrder (state_of f.table) c.args.tx.0 c.args.tx.0 (versions_at f.versions.slots f.versions.lists k) → c.shown-found.result ≡ shown_in old c.args.tx.0 k) c.row_key-key.ensures c.shown-found.ensures in
     record {
       stands =
           stands_on i (Do c.args.tx.0 (Update c.args.row)) Accepted (record old { table = c.record_answer.new.table })
@@ -96,14 +96,14 @@ pub returns-in_default-version-clause-step : goal.returns-in_default-version-cla
 returns-in_default-version-clause-step c = λ opening steps s h.
     let f = c.self.inside in
     let old : CoreData = core_data f in
-    let is = subst (λ k. IsInOrder (state_of f.table) c.args.tx.0 c.args.tx.0 (versions_at f.versions.slots f.versions.lists k) → c.shown-found.result ≡ shown_in old c.args.tx.0 k) c.row_key-key.ensures c.shown-found.ensures in
+    let is = subst (λ k. AreVersionsInOrder (state_of f.table) c.args.tx.0 c.args.tx.0 (versions_at f.versions.slots f.versions.lists k) → c.shown-found.result ≡ shown_in old c.args.tx.0 k) c.row_key-key.ensures c.shown-found.ensures in
     absent_leads opening steps s old (subst (StandsFor opening steps s) (sym c.self.view_is) h) c.args.tx c.args.row (sym c.not_put.ensures ∙ c.in_default.is) c.shown-found.result is (sym c.in_the_way.ensures ∙ c.in_default-in_the_way.is) c.in_default-version.is c.record_answer.new.table c.in_ok-record_answer.ensures.ok
 
 pub returns-in_default-version-clause-answer : goal.returns-in_default-version-clause-answer
 returns-in_default-version-clause-answer c = λ opening steps s h.
     let f = c.self.inside in
     let old : CoreData = core_data f in
-    let is = subst (λ k. IsInOrder (state_of f.table) c.args.tx.0 c.args.tx.0 (versions_at f.versions.slots f.versions.lists k) → c.shown-found.result ≡ shown_in old c.args.tx.0 k) c.row_key-key.ensures c.shown-found.ensures in
+    let is = subst (λ k. AreVersionsInOrder (state_of f.table) c.args.tx.0 c.args.tx.0 (versions_at f.versions.slots f.versions.lists k) → c.shown-found.result ≡ shown_in old c.args.tx.0 k) c.row_key-key.ensures c.shown-found.ensures in
     absent_answers opening steps s old (subst (StandsFor opening steps s) (sym c.self.view_is) h) c.args.tx c.args.row (sym c.not_put.ensures ∙ c.in_default.is) c.shown-found.result is (sym c.in_the_way.ensures ∙ c.in_default-in_the_way.is) c.in_default-version.is
 
 pub put_instead-requires-clause-there : goal.put_instead-requires-clause-there
@@ -119,7 +119,7 @@ put_instead-requires-clause-live c =
     let f = c.self.inside in
     let i = c.self.invariant.stands in
     let old : CoreData = core_data f in
-    let is = subst (λ k. IsInOrder (state_of f.table) c.args.tx.0 c.args.tx.0 (versions_at f.versions.slots f.versions.lists k) → c.shown-found.result ≡ shown_in old c.args.tx.0 k) c.row_key-key.ensures c.shown-found.ensures in
+    let is = subst (λ k. AreVersionsInOrder (state_of f.table) c.args.tx.0 c.args.tx.0 (versions_at f.versions.slots f.versions.lists k) → c.shown-found.result ≡ shown_in old c.args.tx.0 k) c.row_key-key.ensures c.shown-found.ensures in
     updated_live i.opening i.steps i.state old i.stands c.args.tx c.args.row (sym c.not_put.ensures ∙ c.in_default.is) c.shown-found.result is (sym c.in_the_way.ensures ∙ c.in_default-in_the_way.is) c.in-Some-version.old c.in-Some-version.is
 
 pub invariant_of-self-in_err-put_instead : goal.invariant_of-self-in_err-put_instead
@@ -127,7 +127,7 @@ invariant_of-self-in_err-put_instead c =
     let f = c.self.inside in
     let i = c.self.invariant.stands in
     let old : CoreData = core_data f in
-    let is = subst (λ k. IsInOrder (state_of f.table) c.args.tx.0 c.args.tx.0 (versions_at f.versions.slots f.versions.lists k) → c.shown-found.result ≡ shown_in old c.args.tx.0 k) c.row_key-key.ensures c.shown-found.ensures in
+    let is = subst (λ k. AreVersionsInOrder (state_of f.table) c.args.tx.0 c.args.tx.0 (versions_at f.versions.slots f.versions.lists k) → c.shown-found.result ≡ shown_in old c.args.tx.0 k) c.row_key-key.ensures c.shown-found.ensures in
     record {
       stands =
           stands_on i (Do c.args.tx.0 (Update c.args.row)) (Refused OutOfMemory) (record old { versions = c.put_instead.new.versions; table = c.put_instead.new.table })
@@ -139,7 +139,7 @@ pub returns-in_err-put_instead-clause-step : goal.returns-in_err-put_instead-cla
 returns-in_err-put_instead-clause-step c = λ opening steps s h.
     let f = c.self.inside in
     let old : CoreData = core_data f in
-    let is = subst (λ k. IsInOrder (state_of f.table) c.args.tx.0 c.args.tx.0 (versions_at f.versions.slots f.versions.lists k) → c.shown-found.result ≡ shown_in old c.args.tx.0 k) c.row_key-key.ensures c.shown-found.ensures in
+    let is = subst (λ k. AreVersionsInOrder (state_of f.table) c.args.tx.0 c.args.tx.0 (versions_at f.versions.slots f.versions.lists k) → c.shown-found.result ≡ shown_in old c.args.tx.0 k) c.row_key-key.ensures c.shown-found.ensures in
     subst (λ r. LeadsOn opening steps s (Do c.args.tx.0 (Update c.args.row)) r (record old { versions = c.put_instead.new.versions; table = c.put_instead.new.table })) (came_spent c.from_residual-in_err-put_instead.result c.from_residual-in_err-put_instead.ensures.1)
     (update_left opening steps s old (subst (StandsFor opening steps s) (sym c.self.view_is) h) c.args.tx c.args.row (sym c.not_put.ensures ∙ c.in_default.is) c.shown-found.result is (sym c.in_the_way.ensures ∙ c.in_default-in_the_way.is) c.put_instead.new.versions c.put_instead.new.table c.in_err-put_instead.ensures.err)
 
@@ -148,7 +148,7 @@ invariant_of-self-2 c =
     let f = c.self.inside in
     let i = c.self.invariant.stands in
     let old : CoreData = core_data f in
-    let is = subst (λ k. IsInOrder (state_of f.table) c.args.tx.0 c.args.tx.0 (versions_at f.versions.slots f.versions.lists k) → c.shown-found.result ≡ shown_in old c.args.tx.0 k) c.row_key-key.ensures c.shown-found.ensures in
+    let is = subst (λ k. AreVersionsInOrder (state_of f.table) c.args.tx.0 c.args.tx.0 (versions_at f.versions.slots f.versions.lists k) → c.shown-found.result ≡ shown_in old c.args.tx.0 k) c.row_key-key.ensures c.shown-found.ensures in
     record {
       stands =
           stands_on i (Do c.args.tx.0 (Update c.args.row)) Accepted (record old { versions = c.put_instead.new.versions; table = c.put_instead.new.table })
@@ -160,14 +160,14 @@ pub returns-clause-step : goal.returns-clause-step
 returns-clause-step c = λ opening steps s h.
     let f = c.self.inside in
     let old : CoreData = core_data f in
-    let is = subst (λ k. IsInOrder (state_of f.table) c.args.tx.0 c.args.tx.0 (versions_at f.versions.slots f.versions.lists k) → c.shown-found.result ≡ shown_in old c.args.tx.0 k) c.row_key-key.ensures c.shown-found.ensures in
+    let is = subst (λ k. AreVersionsInOrder (state_of f.table) c.args.tx.0 c.args.tx.0 (versions_at f.versions.slots f.versions.lists k) → c.shown-found.result ≡ shown_in old c.args.tx.0 k) c.row_key-key.ensures c.shown-found.ensures in
     updated_leads opening steps s old (subst (StandsFor opening steps s) (sym c.self.view_is) h) c.args.tx c.args.row (sym c.not_put.ensures ∙ c.in_default.is) c.shown-found.result is (sym c.in_the_way.ensures ∙ c.in_default-in_the_way.is) c.in-Some-version.old c.in-Some-version.is c.put_instead.new.versions c.put_instead.new.table c.in_ok-put_instead.ensures.ok
 
 pub returns-clause-answer : goal.returns-clause-answer
 returns-clause-answer c = λ opening steps s h.
     let f = c.self.inside in
     let old : CoreData = core_data f in
-    let is = subst (λ k. IsInOrder (state_of f.table) c.args.tx.0 c.args.tx.0 (versions_at f.versions.slots f.versions.lists k) → c.shown-found.result ≡ shown_in old c.args.tx.0 k) c.row_key-key.ensures c.shown-found.ensures in
+    let is = subst (λ k. AreVersionsInOrder (state_of f.table) c.args.tx.0 c.args.tx.0 (versions_at f.versions.slots f.versions.lists k) → c.shown-found.result ≡ shown_in old c.args.tx.0 k) c.row_key-key.ensures c.shown-found.ensures in
     updated_answers opening steps s old (subst (StandsFor opening steps s) (sym c.self.view_is) h) c.args.tx c.args.row (sym c.not_put.ensures ∙ c.in_default.is) c.shown-found.result is (sym c.in_the_way.ensures ∙ c.in_default-in_the_way.is) c.in-Some-version.old c.in-Some-version.is
 
 -- ---- for want of room for what waits
@@ -183,6 +183,6 @@ pub returns-in_err-make_room-clause-step : goal.returns-in_err-make_room-clause-
 returns-in_err-make_room-clause-step c = λ opening steps s h.
     let f = c.self.inside in
     let old : CoreData = core_data f in
-    let is = subst (λ k. IsInOrder (state_of f.table) c.args.tx.0 c.args.tx.0 (versions_at f.versions.slots f.versions.lists k) → c.shown-found.result ≡ shown_in old c.args.tx.0 k) c.row_key-key.ensures c.shown-found.ensures in
+    let is = subst (λ k. AreVersionsInOrder (state_of f.table) c.args.tx.0 c.args.tx.0 (versions_at f.versions.slots f.versions.lists k) → c.shown-found.result ≡ shown_in old c.args.tx.0 k) c.row_key-key.ensures c.shown-found.ensures in
     subst (λ r. LeadsOn opening steps s (Do c.args.tx.0 (Update c.args.row)) r old) (came_spent c.from_residual-in_err-make_room.result c.from_residual-in_err-make_room.ensures.1)
     (update_starved opening steps s old (subst (StandsFor opening steps s) (sym c.self.view_is) h) c.args.tx c.args.row (sym c.not_put.ensures ∙ c.in_default.is) c.shown-found.result is (sym c.in_the_way.ensures ∙ c.in_default-in_the_way.is))

@@ -6,8 +6,8 @@ use Rattle.mvo_core.specs.declared.answers.Settlement.{Settlement}
 use Rattle.mvo_core.specs.Steps.{IsStep, IsSettlement}
 use Rattle.mvo_core.specs.Holding.{HoldsJust}
 use Rattle.mvo_core.specs.Receipts.{Receipt, receipt}
-use Rattle.mvo_run.specs.Receiving.{AreBelow}
-use Rattle.mvo_run.proofs.Receiving.{below_later}
+use Rattle.mvo_engine.specs.run.Receiving.{AreBelow}
+use Rattle.mvo_engine.proofs.run.Receiving.{below_later}
 use Rattle.mvo_engine.proofs.CoreSound.{stays_sound}
 use Rattle.mvo_engine.proofs.Booked.{committed, waited, refused, ends_above}
 use Rattle.mvo_engine.proofs.locked_core.LockedCore.settle.Goals as goal

@@ -4,9 +4,9 @@ use Rattle.std.specs.Result.{IsErrAnd}
 use Rattle.mvo_types.specs.declared.refusal.Refusal.{Refusal}
 use Rattle.mvo_disk.specs.declared.disk.Disk.{Ghosts}
 use Rattle.mvo_store.specs.Calls.StoreCall.{InstallOpen}
-use Rattle.mvo_store.specs.declared.generation.Generation.{Generation}
-use Rattle.mvo_store.specs.declared.log_step.LogStep.{LogStep}
-use Rattle.mvo_store.specs.declared.log_step.LogStep.TheVariants as step
+use Rattle.mvo_store.specs.declared.install.generation.Generation.{Generation}
+use Rattle.mvo_store.specs.declared.append.log_step.LogStep.{LogStep}
+use Rattle.mvo_store.specs.declared.append.log_step.LogStep.TheVariants as step
 use Rattle.mvo_store.proofs.Taken.{refused_by}
 use Rattle.mvo_engine.specs.States.{StoreState}
 use Rattle.mvo_engine.specs.Calls.{IsQuietStep}

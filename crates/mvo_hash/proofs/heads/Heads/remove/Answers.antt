@@ -1,7 +1,7 @@
 use Rattle.std.proofs.Common.{◌≡◌, sym, ap, ◌∙◌, arith}
 use Rattle.std.specs.FinMap.{get, remove}
 use Rattle.mvo_hash.specs.Table.{Table}
-use Rattle.mvo_hash.specs.Shards.{place_of}
+use Rattle.mvo_hash.specs.Shards.{shard_of_key}
 use Rattle.mvo_hash.proofs.Changes.{changing, held_before, room_same, remove_shared, remove_joined}
 use Rattle.mvo_hash.proofs.Finds.{remove_absent}
 use Rattle.mvo_hash.proofs.Shared.{own_place, get_past}
@@ -11,7 +11,7 @@ pub returns-then-at-len-clause-before : goal.returns-then-at-len-clause-before
 returns-then-at-len-clause-before c =
     let seeds = c.self.inside.seeds in
     let ts = c.self.inside.shards.items in
-    let own : place_of seeds c.args.key ≡ c.shard_of-at.result = own_place seeds c.args.key c.hash-hash.result c.shard_of-at.result c.hash-hash.ensures c.shard_of-at.ensures.at in
+    let own : shard_of_key seeds c.args.key ≡ c.shard_of-at.result = own_place seeds c.args.key c.hash-hash.result c.shard_of-at.result c.hash-hash.ensures c.shard_of-at.ensures.at in
     sym (get_past seeds ts c.self.invariant c.args.key c.shard_of-at.result own (omega (arith, c.if-at-len.true, c.len.ensures, c.self.inside.shards.ok)))
     ∙ ap (λ (t : Table). get t.numbers c.args.key) c.self.view_is
 
@@ -19,7 +19,7 @@ pub returns-then-at-len-clause-gone : goal.returns-then-at-len-clause-gone
 returns-then-at-len-clause-gone c =
     let seeds = c.self.inside.seeds in
     let ts = c.self.inside.shards.items in
-    let own : place_of seeds c.args.key ≡ c.shard_of-at.result = own_place seeds c.args.key c.hash-hash.result c.shard_of-at.result c.hash-hash.ensures c.shard_of-at.ensures.at in
+    let own : shard_of_key seeds c.args.key ≡ c.shard_of-at.result = own_place seeds c.args.key c.hash-hash.result c.shard_of-at.result c.hash-hash.ensures c.shard_of-at.ensures.at in
     remove_absent c.args.self.now.numbers c.args.key (ap (λ (t : Table). get t.numbers c.args.key) (sym c.self.view_is)
     ∙ get_past seeds ts c.self.invariant c.args.key c.shard_of-at.result own (omega (arith, c.if-at-len.true, c.len.ensures, c.self.inside.shards.ok)))
 

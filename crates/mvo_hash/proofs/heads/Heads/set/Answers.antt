@@ -2,7 +2,7 @@ use Rattle.std.proofs.Common.{◌≡◌, set, sym, ap, ◌∙◌, subst, arith}
 use Rattle.std.specs.Option.{OnSome, IfNone}
 use Rattle.std.specs.FinMap.{get, insert}
 use Rattle.mvo_hash.specs.Table.{Table}
-use Rattle.mvo_hash.specs.Shards.{place_of, joined}
+use Rattle.mvo_hash.specs.Shards.{shard_of_key, joined}
 use Rattle.mvo_hash.proofs.Changes.{changing, held_before, room_same, set_shared, set_joined, set_away}
 use Rattle.mvo_hash.proofs.Shared.{own_place, get_past}
 use Rattle.mvo_hash.proofs.heads.Heads.set.Goals as goal
@@ -11,7 +11,7 @@ pub returns-then-at-len-clause-before : goal.returns-then-at-len-clause-before
 returns-then-at-len-clause-before c =
     let seeds = c.self.inside.seeds in
     let ts = c.self.inside.shards.items in
-    let own : place_of seeds c.args.key ≡ c.shard_of-at.result = own_place seeds c.args.key c.hash-hash.result c.shard_of-at.result c.hash-hash.ensures c.shard_of-at.ensures.at in
+    let own : shard_of_key seeds c.args.key ≡ c.shard_of-at.result = own_place seeds c.args.key c.hash-hash.result c.shard_of-at.result c.hash-hash.ensures c.shard_of-at.ensures.at in
     sym (get_past seeds ts c.self.invariant c.args.key c.shard_of-at.result own (omega (arith, c.if-at-len.true, c.len.ensures, c.self.inside.shards.ok)))
     ∙ ap (λ (t : Table). get t.numbers c.args.key) c.self.view_is
 

@@ -3,7 +3,7 @@ use Rattle.std.specs.Option.{IsSome}
 use Rattle.std.specs.FinMap.{get, insert}
 use Rattle.mvo_model.proofs.Partials.{on_err}
 use Rattle.mvo_hash.specs.Table.{Table}
-use Rattle.mvo_places.specs.Places.{PlaceTable, placed, place_of}
+use Rattle.mvo_places.specs.Places.{PlaceTable, numbers_as_places, place_numbered}
 use Rattle.mvo_places.specs.Fixed.{Numbers, numbers_over, table_over}
 use Rattle.mvo_places.proofs.Placing.{placed-insert, place_of-number_of, some_placed, none_placed}
 use Rattle.mvo_places.proofs.Over.{after-fixed, after-later, same-fixed, later-at}
@@ -11,16 +11,16 @@ use Rattle.mvo_places.proofs.places.Places.put.Goals as goal
 
 pub returns-then-set-clause-ok : goal.returns-then-set-clause-ok
 returns-then-set-clause-ok c =
-    ap placed (after-fixed c.self.inside.fixed c.set.new.self c.self.inside.heads.numbers c.args.key (Some c.as_number-number.result) c.if-set.ensures.set (c.if-set.ensures.stands.0 refl))
+    ap numbers_as_places (after-fixed c.self.inside.fixed c.set.new.self c.self.inside.heads.numbers c.args.key (Some c.as_number-number.result) c.if-set.ensures.set (c.if-set.ensures.stands.0 refl))
     ∙ placed-insert (numbers_over c.self.inside.fixed c.self.inside.heads.numbers) c.args.key c.as_number-number.result
-    ∙ ap (insert (placed (numbers_over c.self.inside.fixed c.self.inside.heads.numbers)) c.args.key) (ap place_of c.as_number-number.ensures ∙ place_of-number_of c.args.place c.requires.number)
+    ∙ ap (insert (numbers_as_places (numbers_over c.self.inside.fixed c.self.inside.heads.numbers)) c.args.key) (ap place_numbered c.as_number-number.ensures ∙ place_of-number_of c.args.place c.requires.number)
     ∙ ap (λ (t : PlaceTable). insert t.at c.args.key c.args.place) c.self.view_is
 
 pub returns-clause-ok : goal.returns-clause-ok
 returns-clause-ok c =
-    ap placed (after-later c.self.inside.fixed c.set.new.self c.args.key (Some c.as_number-number.result) c.if-set.ensures.set c.if-set.ensures.stands.1 c.self.inside.heads.numbers c.put.new.self.numbers c.in_ok-put.ensures.ok)
+    ap numbers_as_places (after-later c.self.inside.fixed c.set.new.self c.args.key (Some c.as_number-number.result) c.if-set.ensures.set c.if-set.ensures.stands.1 c.self.inside.heads.numbers c.put.new.self.numbers c.in_ok-put.ensures.ok)
     ∙ placed-insert (numbers_over c.self.inside.fixed c.self.inside.heads.numbers) c.args.key c.as_number-number.result
-    ∙ ap (insert (placed (numbers_over c.self.inside.fixed c.self.inside.heads.numbers)) c.args.key) (ap place_of c.as_number-number.ensures ∙ place_of-number_of c.args.place c.requires.number)
+    ∙ ap (insert (numbers_as_places (numbers_over c.self.inside.fixed c.self.inside.heads.numbers)) c.args.key) (ap place_numbered c.as_number-number.ensures ∙ place_of-number_of c.args.place c.requires.number)
     ∙ ap (λ (t : PlaceTable). insert t.at c.args.key c.args.place) c.self.view_is
 
 pub returns-clause-again : goal.returns-clause-again

@@ -3,7 +3,7 @@ use Rattle.mvo_frame.proofs.Crash.{gate_few}
 use Rattle.mvo_format.specs.declared.header.TheConstants.{VERSION}
 use Rattle.mvo_store.specs.StoreData.{StoreData}
 use Rattle.mvo_store.specs.View.{store_data}
-use Rattle.mvo_store.specs.Safe.{IsSound}
+use Rattle.mvo_store.specs.Safe.{IsStoreSound}
 use Rattle.mvo_store.specs.Calls.StoreCall.{AppendBody}
 use Rattle.mvo_store.proofs.Keeping.{Begins, refused_step, fault_step, other_step, done_step, file_others}
 use Rattle.mvo_store.proofs.Logged.{last_stands, last_durable, slots_stay, follows_last, body_leaves, body_up, body_safe, left_same, never_misread}
@@ -41,7 +41,7 @@ pub invariant_of-self-else-is_fault : goal.invariant_of-self-else-is_fault
 invariant_of-self-else-is_fault g c =
     let old : StoreData _ = store_data c.self.inside in
     let same_disk = c.in-Err.ensures.left.other c.if-is_fault.ensures.other in
-    λ _. subst (λ (s : StoreData _). IsSound g.D.Disk s) (left_same old c.write_body.new.disk c.write_body.new.self same_disk c.in-Err.ensures.err) (c.self.invariant c.if-self.false)
+    λ _. subst (λ (s : StoreData _). IsStoreSound g.D.Disk s) (left_same old c.write_body.new.disk c.write_body.new.self same_disk c.in-Err.ensures.err) (c.self.invariant c.if-self.false)
 
 pub returns-in-Ok : goal.returns-in-Ok
 returns-in-Ok g c =

@@ -1,8 +1,8 @@
 use Rattle.std.proofs.Common.{ℕ, ◌<◌, List, [], ◌∷◌, ◌++◌, length, refl, sym, ap, ◌∙◌, subst, arith}
 use Rattle.std.specs.List.{AllByRecursion}
 use Rattle.std.proofs.lemmas.List.{length-append}
-use Rattle.mvo_tale.specs.declared.slot.Slot.{Slot}
-use Rattle.mvo_tale.specs.declared.slot.Slot.TheVariants.{Open}
+use Rattle.mvo_tale.specs.declared.tale_place.TalePlace.{TalePlace}
+use Rattle.mvo_tale.specs.declared.tale_place.TalePlace.TheVariants.{Open}
 use Rattle.mvo_tale.specs.Slots.{AreRising, ends}
 use Rattle.mvo_tale.proofs.Rising.{rising_opened}
 use Rattle.mvo_tale.specs.Forgetting.{behind_gone}
@@ -11,7 +11,7 @@ use Rattle.mvo_tale.proofs.tale.Tale.open.Goals as goal
 
 pub invariant_of-self-2 : goal.invariant_of-self-2
 invariant_of-self-2 c = (
-  subst (λ (xs : List Slot). AreRising (ends xs)) (sym c.in_ok-push_back.ensures.items)
+  subst (λ (xs : List TalePlace). AreRising (ends xs)) (sym c.in_ok-push_back.ensures.items)
       (rising_opened c.self.inside.slots.items (Open c.args.end) c.args.end.0 refl c.self.invariant.0
       (subst (AllByRecursion (λ (e : ℕ). e < c.args.end.0)) (sym (ap ends c.self.view_is) ∙ ends_gone c.self.inside.gone c.self.inside.slots.items) c.requires)),
   omega (arith, ap length c.in_ok-push_back.ensures.items, length-append c.self.inside.slots.items (Open c.args.end ∷ [])),
@@ -27,4 +27,4 @@ pub returns-clause-ok : goal.returns-clause-ok
 returns-clause-ok c =
     ap (behind_gone c.self.inside.gone) c.in_ok-push_back.ensures.items
     ∙ push_gone c.self.inside.gone c.self.inside.slots.items (Open c.args.end ∷ [])
-    ∙ ap (λ (ys : List Slot). ys ++ Open c.args.end ∷ []) c.self.view_is
+    ∙ ap (λ (ys : List TalePlace). ys ++ Open c.args.end ∷ []) c.self.view_is

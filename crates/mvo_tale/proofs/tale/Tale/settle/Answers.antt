@@ -1,16 +1,16 @@
 use Rattle.std.proofs.Common.{◌≡◌, ℕ, ◌-◌, List, Some, length, sym, ap, ◌∙◌, subst, arith}
 use Rattle.std.specs.Prelude.{is_some, slice_set}
 use Rattle.std.proofs.Math.ListN.{length-set}
-use Rattle.mvo_tale.specs.declared.slot.Slot.{Slot}
-use Rattle.mvo_tale.specs.declared.slot.Slot.TheVariants.{Settled}
+use Rattle.mvo_tale.specs.declared.tale_place.TalePlace.{TalePlace}
+use Rattle.mvo_tale.specs.declared.tale_place.TalePlace.TheVariants.{Settled}
 use Rattle.mvo_tale.specs.Slots.{AreRising, ends, open_end_at}
 use Rattle.mvo_tale.specs.Forgetting.{behind_gone}
 use Rattle.mvo_tale.proofs.Rising.{ends_settled}
 use Rattle.mvo_tale.proofs.Gone.{open_after, open_moved, open_there, set_gone}
 use Rattle.mvo_tale.proofs.tale.Tale.settle.Goals as goal
 
-is_open : (xs ys : List Slot) (p e : ℕ) → xs ≡ ys → open_end_at ys p ≡ Some e → open_end_at xs p ≡ Some e
-is_open xs ys p e i h = ap (λ (zs : List Slot). open_end_at zs p) i ∙ h
+is_open : (xs ys : List TalePlace) (p e : ℕ) → xs ≡ ys → open_end_at ys p ≡ Some e → open_end_at xs p ≡ Some e
+is_open xs ys p e i h = ap (λ (zs : List TalePlace). open_end_at zs p) i ∙ h
 
 pub overflow_sub-place : goal.overflow_sub-place
 overflow_sub-place c =
@@ -45,4 +45,4 @@ returns c =
     let le = open_after g c.args.place xs (ap is_some h) in
     ap (λ q. behind_gone g q.items) c.set.ensures
     ∙ set_gone g c.args.place (Settled c.args.entry) xs le
-    ∙ ap (λ (zs : List Slot). slice_set zs c.args.place (Settled c.args.entry)) c.self.view_is
+    ∙ ap (λ (zs : List TalePlace). slice_set zs c.args.place (Settled c.args.entry)) c.self.view_is

@@ -1,5 +1,5 @@
 use Rattle.std.proofs.Common.{refl}
-use Rattle.mvo_store.specs.declared.progress.Progress.TheVariants.{More, Ready as AllWritten}
+use Rattle.mvo_store.specs.declared.jobs.progress.Progress.TheVariants.{More, Ready as AllWritten}
 use Rattle.mvo_world.specs.View.{world_data}
 use Rattle.mvo_world.specs.declared.reply.Reply.TheVariants.{Written, Ready, Progress as Progressed, Shut}
 use Rattle.mvo_world.proofs.Moves.{called}

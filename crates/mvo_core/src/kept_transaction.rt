@@ -1,0 +1,102 @@
+ghost use Rattle.std.specs.Prelude.{◌≡◌};
+ghost use Rattle.mvo_deps.specs.Data.{no_dependencies};
+
+use crate::answers::Validation;
+use mvo_deps::{Dependencies, Node};
+use mvo_txn::TxnTable;
+use mvo_types::{Answer, Op};
+use mvo_work::{WordPlace, Work};
+use std::alloc::{AllocError, Global};
+
+/// The unfinished transactions.
+pub type Table = TxnTable<Node<KeptTransaction>>;
+
+/// What the core keeps of an unfinished transaction, beside where it stands and on whom it depends.
+#[derive(Drop)]
+pub struct KeptTransaction {
+    /// What it has done, and the words that name it.
+    pub work: Work,
+    /// Its place in the tale, from when it draws its end.
+    pub place: usize,
+    /// How many of its entries are checked.
+    pub checked: usize,
+    /// Whether all of them are.
+    pub valid: bool,
+}
+
+impl KeptTransaction {
+    ghost use Rattle.std.specs.Prelude.{◌≡◌, ◌∷◌, OnOk, OnErr};
+    ghost use Rattle.std.specs.Option.{option_to_list};
+    ghost use Rattle.mvo_types.specs.AnswerData.{answer_data};
+    ghost use Rattle.mvo_work.specs.Limits.{MayFollow};
+    ghost use Rattle.mvo_work.specs.Work.{HasRoom};
+    ghost use Rattle.mvo_core.specs.Own.{is_last_check, checked_as};
+    ghost use Rattle.mvo_core.specs.Keeping.{IsPlacedInTale, IsCounted, IsTold};
+    ghost use Rattle.mvo_core.specs.Keeping.{HasDoneAsMuch, HasDoneMore};
+
+    /// It has this place in the tale, and none of its entries is checked yet.
+    pub fn keep_place(&mut self, place: usize)
+        ensures { IsPlacedInTale place self.old self.new }
+    {
+        self.place = place;
+        self.checked = 0;
+        self.valid = false;
+    }
+
+    /// It is told the answer to its operation, or there is no more of it than before.
+    #[inline(always)]
+    pub fn record(&mut self, op: Op, answer: Answer) -> Result<(), AllocError>
+        requires { MayFollow self.old.work.history op (answer_data answer) }
+        ensures ok { OnOk result (IsTold op (answer_data answer) self.old self.new) }
+        ensures err { OnErr result (HasDoneAsMuch self.old self.new) }
+    {
+        self.work.make_room()?;
+        self.work.tell(op, answer);
+        Ok(())
+    }
+
+    /// It is told the answer to a write that put this word, and the other, if there is one.
+    #[inline(always)]
+    pub fn write(&mut self, op: Op, answer: Answer, word: WordPlace, other: Option<WordPlace>)
+        requires room { HasRoom self.old.work }
+        requires limits { MayFollow self.old.work.history op (answer_data answer) }
+        ensures { HasDoneMore op (answer_data answer) (word ∷ option_to_list other)
+            self.old self.new }
+    {
+        self.work.push_word(word);
+        if let Some(other) = other {
+            self.work.push_word(other);
+        }
+        self.work.tell(op, answer);
+    }
+
+    /// Counts a check, and says whether an entry is left. The last one isn't counted.
+    pub fn count_check(&mut self) -> Validation
+        ensures counted { IsCounted self.old self.new }
+        ensures answer { result ≡ checked_as (is_last_check self.old) }
+    {
+        let left = self.work.entry_count().saturating_sub(self.checked);
+        self.valid = left <= 1;
+        if self.valid {
+            return Validation::Valid;
+        }
+        self.checked += 1;
+        Validation::More
+    }
+}
+
+/// One that has done this work, and nothing else.
+pub fn begun(alloc: Global, work: Work) -> Node<KeptTransaction>
+    ensures dependencies { result.dependencies ≡ no_dependencies }
+    ensures work { result.own.work ≡ work }
+{
+    Node {
+        dependencies: Dependencies::new(alloc),
+        own: KeptTransaction {
+            work,
+            place: 0,
+            checked: 0,
+            valid: false,
+        },
+    }
+}

@@ -1,0 +1,23 @@
+//! Tests of the crates below the core.
+mod collecting;
+mod counts;
+mod dependencies;
+mod engine;
+mod hash;
+mod keys;
+mod loading;
+mod open;
+mod passing;
+mod plain;
+mod ranges;
+mod rows;
+mod serial;
+mod sorts;
+mod step;
+mod stories;
+mod story;
+mod table;
+mod tale;
+mod tests;
+mod words;
+mod work;

@@ -1,5 +1,0 @@
-pub mod Rows
-pub mod Opens
-pub mod Gives
-pub mod Files
-pub mod Laws

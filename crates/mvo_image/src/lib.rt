@@ -1,6 +1,0 @@
-//! What opening the image of a disk answers: rows and mark, or the first broken rule.
-#![tactic(auto)]
-
-mod laws;
-
-pub use laws::laws_of_opening;

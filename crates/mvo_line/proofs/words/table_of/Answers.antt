@@ -1,6 +1,0 @@
-use Rattle.std.proofs.Common.{lit≤, rules}
-use Rattle.mvo_line.proofs.Numerals.{read_text}
-use Rattle.mvo_line.proofs.words.table_of.Goals as goal
-
-pub returns-else-has_plus_or_zero-clause-text : goal.returns-else-has_plus_or_zero-clause-text
-returns-else-has_plus_or_zero-clause-text c = read_text 8 _ _ (lit≤ tt) (search rules)

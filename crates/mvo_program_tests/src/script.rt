@@ -1,0 +1,15 @@
+//! Tests of scripts, by their replies, and of the command line.
+mod assert;
+mod checkpoints;
+mod commands;
+mod durable;
+mod full_segment;
+mod lines;
+mod logs;
+mod merges;
+mod rotations;
+mod streams;
+mod texts;
+mod transactions;
+mod transcripts;
+mod worlds;

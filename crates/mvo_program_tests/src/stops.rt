@@ -1,0 +1,7 @@
+//! Tests of what is found of stops and faults.
+mod explained;
+mod failing;
+mod forgotten;
+mod longer;
+mod looked_at;
+mod random;

@@ -1,0 +1,56 @@
+-- The laws of opening.
+use Rattle.std.proofs.Common.{ℕ, Bool, List, [], ◌∷◌, sym, arith}
+use Rattle.std.specs.List.{AllByRecursion}
+use Rattle.mvo_pair.specs.Loading.{LoadsAs}
+use Rattle.mvo_pair.specs.Reading.{pair_found}
+use Rattle.mvo_format.specs.declared.format.Format.{Format}
+use Rattle.mvo_pair.specs.declared.pair.Pair.{Pair}
+use Rattle.mvo_pair.proofs.Loads.{Fits, loads}
+use Rattle.mvo_frame.specs.Reading.{segment_found}
+use Rattle.mvo_frame.proofs.Walk.{segment_says, segment_alone}
+use Rattle.mvo_manifest.specs.Rules.{PairsRise}
+use Rattle.mvo_manifest.specs.Slots.{SlotSays}
+use Rattle.mvo_manifest.specs.Finding.{slot_found}
+use Rattle.mvo_manifest.proofs.Read.{slot_says, slot_alone, pick_says, pick_alone}
+use Rattle.mvo_recovery.specs.image.Opens.{Image}
+use Rattle.mvo_recovery.specs.image.Files.{kind_of, SegmentSays}
+use Rattle.mvo_recovery.specs.image.Laws.{AreFiles, SlotIsExact, PickIsExact, SegmentIsExact, HasOneAnswer, IsExact}
+use Rattle.mvo_recovery.proofs.image.One.{HasOne, opens_one}
+use Rattle.mvo_recovery.proofs.image.Exact.{gives_opens, opens_gives}
+
+pub slot_exact : SlotIsExact
+slot_exact version slot bytes word fits = (slot_says version slot word bytes fits, λ z h. sym (slot_alone version slot word bytes fits z h))
+
+pub pick_exact : PickIsExact
+pick_exact version first second word fits fits_too = (pick_says version word first second fits fits_too, λ z h. sym (pick_alone version word first second fits fits_too z h))
+
+pub segment_exact : SegmentIsExact
+segment_exact f file mark kind bytes word fits = (segment_says f file mark kind bytes word fits, λ z h. sym (segment_alone f file mark kind bytes word fits z h))
+
+module _ (f : Format) (image : Image) (is : AreFiles f image) where
+  slot_one : (n : ℕ) → HasOne (SlotSays f.version n (image n))
+  slot_one n = (slot_found f.version n (image n), slot_exact f.version n (image n) is.version (is.bytes n))
+
+  segment_one : (n mark : ℕ) (last : Bool) → HasOne (SegmentSays f n mark last (image n))
+  segment_one n mark last = (segment_found f n mark (kind_of last) (image n), segment_exact f n mark (kind_of last) (image n) is.version (is.bytes n))
+
+  -- the pairs of a manifest have their words, and so each has one answer
+  pairs_one : (lo hi : ℕ) (ps : List Pair) → PairsRise lo ps hi → AllByRecursion (λ p. HasOne (LoadsAs f p (image p.data_file) (image p.delta_file))) ps
+  pairs_one lo hi [] rise = tt
+  pairs_one lo hi (p ∷ ps) rise =
+      let fits : Fits f p = record { version = is.version; table = is.table; size = is.size; hi = omega (arith, rise.0.top); records = omega (arith, rise.0.records) } in
+      ((pair_found f p (image p.data_file) (image p.delta_file), loads f p (image p.data_file) (image p.delta_file) fits (is.bytes p.data_file) (λ es e. is.bytes p.delta_file)), pairs_one p.hi.0 hi ps rise.1)
+
+pub one_answer : HasOneAnswer
+one_answer f image is =
+    opens_one (SlotSays f.version) (SegmentSays f) f image (record {
+      slot = slot_one f image is;
+      pair = λ n m has. pairs_one f image is 0 m.checkpoint_mark m.pairs has.is.rules.rise;
+      segment = segment_one f image is;
+    })
+
+pub exact : IsExact
+exact f image rows mark = (
+  opens_gives (SlotSays f.version) (SegmentSays f) f image rows mark,
+  gives_opens (SlotSays f.version) (SegmentSays f) f image rows mark,
+)

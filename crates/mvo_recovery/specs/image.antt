@@ -1,0 +1,4 @@
+pub mod Opens
+pub mod Gives
+pub mod Files
+pub mod Laws

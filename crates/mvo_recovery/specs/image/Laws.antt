@@ -1,0 +1,59 @@
+-- The laws of opening.
+use Rattle.std.specs.Prelude.{◌≡◌, ◌↔◌, ℕ, ◌<◌, ◌^◌, List, Some, Ok, slice_index}
+use Rattle.std.specs.FinMap.{get}
+use Rattle.std.specs.List.{Contains}
+use Rattle.mvo_types.specs.declared.row.RowKey.{RowKey}
+use Rattle.mvo_types.specs.RowData.{ContentData}
+use Rattle.mvo_types.specs.Keys.{Map}
+use Rattle.mvo_pair.specs.Data.{Numbered, AreApart}
+use Rattle.mvo_pair.specs.Answers.{IsOnly}
+use Rattle.mvo_format.specs.declared.format.Format.{Format}
+use Rattle.mvo_frame.specs.declared.kind.Kind.{Kind}
+use Rattle.mvo_frame.specs.Reading.{segment_found}
+use Rattle.mvo_manifest.specs.Slots.{SlotSays, PickSays}
+use Rattle.mvo_manifest.specs.Finding.{slot_found, pick_found}
+use Rattle.mvo_recovery.specs.image.Opens.{Image, OpeningOutcome}
+use Rattle.mvo_recovery.specs.image.Files.{SegmentIs, OpensAs, GivesRows}
+use Rattle.mvo_places.specs.Rows.{live_rows_in, rows_of}
+
+abbrev pub AreBytes : List ℕ → Type 0
+AreBytes bytes = (i : ℕ) → slice_index bytes i < 256
+
+-- Files hold bytes, and the numbers of the version have their words, as each value of the program
+-- has it.
+pub record AreFiles (f : Format) (image : Image) : Type 0 where
+  pub version : f.version < 2 ^ 32
+  pub table : f.max_table < 256
+  pub size : f.max_data_len < 2 ^ 16
+  pub bytes : (n : ℕ) → AreBytes (image n)
+
+-- What is found of a slot is said of its bytes, and nothing else is.
+abbrev pub SlotIsExact : Type 0
+SlotIsExact = (version slot : ℕ) (bytes : List ℕ) → version < 2 ^ 32 → AreBytes bytes →
+    IsOnly (SlotSays version slot bytes) (slot_found version slot bytes)
+
+-- So is what is found of both slots.
+abbrev pub PickIsExact : Type 0
+PickIsExact = (version : ℕ) (first second : List ℕ) → version < 2 ^ 32 → AreBytes first →
+    AreBytes second → IsOnly (PickSays version first second) (pick_found version first second)
+
+-- So is what is found of a segment.
+abbrev pub SegmentIsExact : Type 0
+SegmentIsExact = (f : Format) (file mark : ℕ) (kind : Kind) (bytes : List ℕ) →
+    f.version < 2 ^ 32 → AreBytes bytes →
+    IsOnly (SegmentIs f file mark kind bytes) (segment_found f file mark kind bytes)
+
+-- Opening has one answer.
+abbrev pub HasOneAnswer : Type 0
+HasOneAnswer = (f : Format) (image : Image) → AreFiles f image →
+    (out : OpeningOutcome) × IsOnly (OpensAs f image) out
+
+-- It is rows and a mark exactly where the image is well formed and gives them.
+abbrev pub IsExact : Type 0
+IsExact = (f : Format) (image : Image) (rows : Map) (mark : ℕ) →
+    OpensAs f image (Ok (rows, mark)) ↔ GivesRows f image rows mark
+
+-- Where no two live records have one key, the rows of some pairs are those of their live records.
+abbrev pub RowsAreLive : Type 0
+RowsAreLive = (lives : List (List Numbered)) → AreApart lives → (k : RowKey) (h : ContentData) →
+    (get (rows_of lives) k ≡ Some h) ↔ Contains (live_rows_in lives) (k, h)

@@ -1,0 +1,130 @@
+//! Installs the manifest of a job, in three steps.
+ghost use Rattle.std.specs.Prelude.{◌≡◌, ◌&&◌, IfOk};
+ghost use Rattle.mvo_store.specs.Calls.StoreCall.{InstallClose, InstallBody, InstallOpen};
+ghost use Rattle.mvo_store.specs.Calls.{IsStoreStep, AnswersGeneration};
+ghost use Rattle.mvo_store.specs.Causes.{why_not_install_open};
+ghost use Rattle.mvo_store.specs.Jobs.{next_installed, after_install};
+ghost use Rattle.mvo_store.specs.Standing.{MayTakeOverOf, HaveKeysOf};
+ghost use Rattle.mvo_store.specs.Steps.{manifest_by, places_by, segment_by};
+
+use crate::install::generation::Generation;
+use crate::install::install_step::InstallStep;
+use crate::jobs::due::Due;
+use crate::jobs::jobs::Jobs;
+use crate::jobs::step_files::write_step;
+use crate::store::Store;
+use mvo_disk::Disk;
+use mvo_frame::Segment;
+use mvo_manifest::Manifest;
+use mvo_merge::move_places;
+use mvo_places::Places;
+use mvo_types::Refusal;
+use std::mem::replace;
+
+/// Brings the places up to date with what the job has made whose manifest is installed.
+fn take_over(places: &mut Places, jobs: &Jobs)
+    requires { MayTakeOverOf places.old (next_installed jobs.now) }
+    ensures { HaveKeysOf (next_installed jobs.now) →
+        places.new.at ≡ places_by (next_installed jobs.now) places.old.at }
+{
+    match jobs {
+        Jobs::Rotation(_, _) | Jobs::Beside(None, _) => {}
+        Jobs::Beside(Some(checkpoint), _) => {
+            let made = &checkpoint.made;
+            places.take_over(checkpoint.pair.data_file, &made.records, &made.gone);
+        }
+        Jobs::Merge(seen, _) => {
+            let records = &seen.made.records;
+            let (left, right) = (seen.left.data_file, seen.right.data_file);
+            move_places(places, left, right, seen.pair.data_file, records);
+        }
+    }
+}
+
+/// Puts the job's manifest in the place of the installed one, and a rotation's fresh segment in
+/// that of the last. Answers the jobs that run on: a merge whose files aren't all written.
+fn put_installed(jobs: Jobs, manifest: &mut Manifest, segment: &mut Segment) -> Jobs
+    ensures manifest { manifest.new ≡ manifest_by (next_installed jobs) manifest.old }
+    ensures segment { segment.new ≡ segment_by (next_installed jobs) segment.old }
+    ensures jobs { result ≡ after_install jobs }
+{
+    match jobs {
+        Jobs::Rotation(fresh, install) => {
+            *manifest = install.next;
+            *segment = fresh;
+            Jobs::none()
+        }
+        Jobs::Merge(_, install) => {
+            *manifest = install.next;
+            Jobs::none()
+        }
+        Jobs::Beside(checkpoint, merge) => {
+            if let Some(checkpoint) = checkpoint {
+                *manifest = checkpoint.next;
+            }
+            Jobs::Beside(None, merge)
+        }
+    }
+}
+
+impl<D: Disk> Store<D> {
+    /// Closes the gate of the slot that isn't the installed manifest's, and syncs. A gate that is
+    /// closed isn't written again.
+    ///
+    /// Refused: Down, then NothingToDo where this isn't due, then DiskFault.
+    pub fn install_close(&mut self) -> Result<(), Refusal>
+        ensures { IsStoreStep D.Disk self.old InstallClose result self.new }
+    {
+        self.write_due(Due::Install(InstallStep::Close))
+    }
+
+    /// Writes the manifest behind the closed gate, and syncs.
+    ///
+    /// Refused: Down, then NothingToDo where this isn't due, then OutOfMemory, then DiskFault.
+    pub fn install_body(&mut self) -> Result<(), Refusal>
+        ensures { IsStoreStep D.Disk self.old InstallBody result self.new }
+    {
+        self.write_due(Due::Install(InstallStep::Body))
+    }
+
+    // Why no gate of a manifest is opened, before the disk is asked.
+    fn why_not_open(&self) -> Option<Refusal>
+        ensures { result ≡ why_not_install_open self.now }
+    {
+        if let Some(refusal) = self.why_not_due(Due::Install(InstallStep::Open)) {
+            return Some(refusal);
+        }
+        if self.written && self.jobs.has_rotation() {
+            return Some(Refusal::Busy);
+        }
+        None
+    }
+
+    /// Opens the gate, and syncs. The manifest is installed then; the fresh segment of a rotation
+    /// takes frames, and the records of a checkpoint or a merge have their places. A merge beside
+    /// the checkpoint runs on. Answers the generation of the manifest.
+    ///
+    /// Refused: Down, then NothingToDo where this isn't due, then for a rotation Busy while a body
+    /// is written whose gate isn't open, then DiskFault.
+    pub fn install_open(&mut self) -> Result<Generation, Refusal>
+        ensures step { IsStoreStep D.Disk self.old InstallOpen result self.new }
+        ensures generation { IfOk result (λ g. AnswersGeneration self.new g.0) }
+    {
+        if let Some(refusal) = self.why_not_open() {
+            return Err(refusal);
+        }
+        let step = Due::Install(InstallStep::Open);
+        match write_step(self.alloc, &mut self.disk, &self.manifest, &self.jobs, step) {
+            Ok(()) => {
+                take_over(&mut self.places, &self.jobs);
+                let jobs = replace(&mut self.jobs, Jobs::none());
+                self.jobs = put_installed(jobs, &mut self.manifest, &mut self.segment);
+                Ok(Generation(self.manifest.generation()))
+            }
+            Err(refusal) => {
+                self.down = true;
+                Err(refusal)
+            }
+        }
+    }
+}

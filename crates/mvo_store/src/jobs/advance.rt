@@ -1,0 +1,175 @@
+//! What a step makes of the jobs that run.
+ghost use Rattle.std.specs.Prelude.{◌≡◌, length, None};
+ghost use Rattle.mvo_store.specs.declared.jobs.jobs.Jobs.TheVariants.{Beside};
+ghost use Rattle.mvo_store.specs.Jobs.{next_step, stepped, stage_behind, checkpoint_behind};
+ghost use Rattle.mvo_store.specs.Jobs.{checkpoint_by, merge_by, is_of_merge, with_step};
+ghost use Rattle.mvo_store.specs.Jobs.{with_checkpoint, with_merge, with_manifest};
+
+use crate::checkpoint::checkpointing::Checkpointing;
+use crate::checkpoint::stage::CheckpointStage;
+use crate::install::install::Install;
+use crate::install::install_step::InstallStep;
+use crate::jobs::due::Due;
+use crate::jobs::jobs::Jobs;
+use crate::merge::merging::Merging;
+use crate::merge::stage::MergeStage;
+use mvo_manifest::Manifest;
+
+/// The step behind one. Opening the gate is the last.
+fn next_step(step: InstallStep) -> InstallStep
+    ensures { result ≡ next_step step }
+{
+    match step {
+        InstallStep::Close => InstallStep::Body,
+        InstallStep::Body => InstallStep::Open,
+        InstallStep::Open => InstallStep::Open,
+    }
+}
+
+/// The install with one step behind it.
+fn stepped(install: Install) -> Install
+    ensures { result ≡ stepped install }
+{
+    let Install { next, step } = install;
+    Install {
+        next,
+        step: next_step(step),
+    }
+}
+
+/// The stage behind one of a checkpoint with so many older delta files to write: they come behind
+/// the new pair's own.
+fn stage_behind(older: usize, stage: CheckpointStage) -> CheckpointStage
+    ensures { result ≡ stage_behind older stage }
+{
+    match stage {
+        CheckpointStage::Data => CheckpointStage::Delta(0),
+        CheckpointStage::Delta(written) => {
+            if written < older {
+                CheckpointStage::Delta(written + 1)
+            } else {
+                CheckpointStage::Install(InstallStep::Close)
+            }
+        }
+        CheckpointStage::Install(step) => CheckpointStage::Install(next_step(step)),
+    }
+}
+
+/// The checkpoint with one step behind it.
+fn checkpoint_behind(checkpoint: Checkpointing) -> Checkpointing
+    ensures { result ≡ checkpoint_behind checkpoint }
+{
+    let stage = stage_behind(checkpoint.made.deltas.as_slice().len(), checkpoint.stage);
+    let Checkpointing {
+        pair,
+        made,
+        next,
+        stage: _,
+    } = checkpoint;
+    Checkpointing {
+        pair,
+        made,
+        next,
+        stage,
+    }
+}
+
+/// The same of the one that runs.
+fn checkpoint_by(checkpoint: Option<Checkpointing>) -> Option<Checkpointing>
+    ensures { result ≡ checkpoint_by checkpoint }
+{
+    match checkpoint {
+        Some(checkpoint) => Some(checkpoint_behind(checkpoint)),
+        None => None,
+    }
+}
+
+/// The merge that runs with its data file written.
+fn merge_by(merge: Option<Merging>) -> Option<Merging>
+    ensures { result ≡ merge_by merge }
+{
+    match merge {
+        Some(merge) => {
+            let Merging { seen, stage: _ } = merge;
+            Some(Merging {
+                seen,
+                stage: MergeStage::Delta,
+            })
+        }
+        None => None,
+    }
+}
+
+/// Whether the step is one of a merge whose files aren't all written.
+pub fn is_of_merge(step: Due) -> bool
+    ensures { result ≡ is_of_merge step }
+{
+    matches!(step, Due::MergeData | Due::MergeDelta)
+}
+
+/// The jobs that run with this step behind them, which was the next of one of them. The other one
+/// is as it was.
+pub fn with_step(step: Due, jobs: Jobs) -> Jobs
+    ensures { result ≡ with_step step jobs }
+{
+    match jobs {
+        Jobs::Rotation(fresh, install) => Jobs::Rotation(fresh, stepped(install)),
+        Jobs::Merge(seen, install) => Jobs::Merge(seen, stepped(install)),
+        Jobs::Beside(checkpoint, merge) => {
+            if is_of_merge(step) {
+                Jobs::Beside(checkpoint, merge_by(merge))
+            } else {
+                Jobs::Beside(checkpoint_by(checkpoint), merge)
+            }
+        }
+    }
+}
+
+/// The jobs that run, and this checkpoint.
+pub fn with_checkpoint(checkpoint: Checkpointing, jobs: Jobs) -> Jobs
+    ensures { result ≡ with_checkpoint checkpoint jobs }
+{
+    match jobs {
+        Jobs::Beside(running, merge) => Jobs::Beside(running.or(Some(checkpoint)), merge),
+        jobs => jobs,
+    }
+}
+
+/// The jobs that run, and this merge.
+pub fn with_merge(merge: Merging, jobs: Jobs) -> Jobs
+    ensures { result ≡ with_merge merge jobs }
+{
+    match jobs {
+        Jobs::Beside(checkpoint, running) => Jobs::Beside(checkpoint, running.or(Some(merge))),
+        jobs => jobs,
+    }
+}
+
+/// The merge, if one runs, installs this manifest.
+fn installing(next: Manifest, merge: Option<Merging>) -> Jobs
+    ensures { result ≡ with_manifest next (Beside None merge) }
+{
+    match merge {
+        Some(merge) => {
+            let Merging { seen, stage: _ } = merge;
+            Jobs::Merge(
+                seen,
+                Install {
+                    next,
+                    step: InstallStep::Close,
+                },
+            )
+        }
+        None => Jobs::none(),
+    }
+}
+
+/// A merge with its last file written, and with this manifest to be installed, runs alone.
+pub fn with_manifest(next: Manifest, jobs: Jobs) -> Jobs
+    ensures { result ≡ with_manifest next jobs }
+{
+    match jobs {
+        Jobs::Beside(None, merge) => installing(next, merge),
+        jobs => jobs,
+    }
+}

@@ -1,0 +1,212 @@
+//! The jobs that run, and what they keep out.
+ghost use Rattle.std.specs.Prelude.{◌≡◌, length, is_some};
+ghost use Rattle.std.specs.List.{list_any};
+ghost use Rattle.mvo_store.specs.Jobs.{no_jobs, keeps_all_out, keeps_checkpoint_out};
+ghost use Rattle.mvo_store.specs.Jobs.{keeps_merge_out, has_checkpoint, has_rotation};
+ghost use Rattle.mvo_store.specs.Jobs.{due_of, merge_due_of, is_step_due, job_takes_file, takes_file};
+ghost use Rattle.mvo_store.specs.Jobs.{checkpoint_pair, merge_pair, progress_at, progress_of};
+ghost use Rattle.mvo_store.specs.Jobs.{checkpoint_alone, merge_alone, first_due};
+
+use crate::checkpoint::checkpointing::Checkpointing;
+use crate::checkpoint::stage::CheckpointStage;
+use crate::install::install::Install;
+use crate::jobs::due::Due;
+use crate::jobs::progress::Progress;
+use crate::merge::merging::Merging;
+use crate::merge::seen_pairs::SeenPairs;
+use crate::merge::stage::MergeStage;
+use mvo_frame::Segment;
+use mvo_pair::Pair;
+
+/// The jobs that run. Those that can't run beside one another can't be written down: there is one
+/// install at most, and a merge has a manifest only once it runs alone.
+#[derive(Drop)]
+pub enum Jobs {
+    /// A rotation of the log, alone: the fresh segment is written, and takes frames once the
+    /// manifest is installed.
+    Rotation(Segment, Install),
+    /// A merge whose files are written, alone.
+    Merge(SeenPairs, Install),
+    /// A checkpoint of the oldest sealed segment, a merge of two neighbouring pairs whose files
+    /// aren't all written, both, or none.
+    Beside(Option<Checkpointing>, Option<Merging>),
+}
+
+/// The step of a checkpoint that comes next.
+fn due_of(stage: CheckpointStage) -> Due
+    ensures { result ≡ due_of stage }
+{
+    match stage {
+        CheckpointStage::Data => Due::Data,
+        CheckpointStage::Delta(_) => Due::Delta,
+        CheckpointStage::Install(step) => Due::Install(step),
+    }
+}
+
+/// The step of a merge that comes next.
+fn merge_due_of(stage: MergeStage) -> Due
+    ensures { result ≡ merge_due_of stage }
+{
+    match stage {
+        MergeStage::Data => Due::MergeData,
+        MergeStage::Delta => Due::MergeDelta,
+    }
+}
+
+/// Whether this step is the next of the checkpoint, if one runs.
+fn checkpoint_is_due(step: Due, checkpoint: &Option<Checkpointing>) -> bool
+    ensures { result ≡ is_some (first_due step (checkpoint_alone checkpoint.now)) }
+{
+    match checkpoint {
+        Some(checkpoint) => due_of(checkpoint.stage) == step,
+        None => false,
+    }
+}
+
+/// Whether it is that of the merge, if one runs.
+fn merge_is_due(step: Due, merge: &Option<Merging>) -> bool
+    ensures { result ≡ is_some (first_due step (merge_alone merge.now)) }
+{
+    match merge {
+        Some(merge) => merge_due_of(merge.stage) == step,
+        None => false,
+    }
+}
+
+/// Whether the checkpoint, if one runs, gives the file new content.
+fn checkpoint_takes(checkpoint: &Option<Checkpointing>, file: u16) -> bool
+    ensures { result ≡ list_any (λ j. job_takes_file j file) (checkpoint_alone checkpoint.now) }
+{
+    match checkpoint {
+        Some(checkpoint) => {
+            checkpoint.pair.data_file == file || checkpoint.pair.delta_file == file
+        }
+        None => false,
+    }
+}
+
+/// Whether the merge, if one runs, does.
+fn merge_takes(merge: &Option<Merging>, file: u16) -> bool
+    ensures { result ≡ list_any (λ j. job_takes_file j file) (merge_alone merge.now) }
+{
+    match merge {
+        Some(merge) => merge.seen.pair.data_file == file || merge.seen.pair.delta_file == file,
+        None => false,
+    }
+}
+
+/// Whether the next delta file of a checkpoint is the last one.
+fn progress_at(checkpoint: &Checkpointing) -> Progress
+    ensures { result ≡ progress_at (length checkpoint.now.made.deltas) checkpoint.now.stage }
+{
+    match checkpoint.stage {
+        CheckpointStage::Delta(written) => {
+            if written < checkpoint.made.deltas.as_slice().len() {
+                Progress::More
+            } else {
+                Progress::Ready
+            }
+        }
+        _ => Progress::More,
+    }
+}
+
+impl Jobs {
+    /// None.
+    pub fn none() -> Jobs
+        ensures { result ≡ no_jobs }
+    {
+        Jobs::Beside(None, None)
+    }
+
+    /// Whether they keep a rotation out: one runs.
+    pub fn keep_all_out(&self) -> bool
+        ensures { result ≡ keeps_all_out self.now }
+    {
+        !matches!(self, Jobs::Beside(None, None))
+    }
+
+    /// Whether they keep a checkpoint out: one runs, a rotation does, or a merge that is ready.
+    pub fn keep_checkpoint_out(&self) -> bool
+        ensures { result ≡ keeps_checkpoint_out self.now }
+    {
+        !matches!(self, Jobs::Beside(None, _))
+    }
+
+    /// Whether they keep a merge out: one runs, or a rotation does.
+    pub fn keep_merge_out(&self) -> bool
+        ensures { result ≡ keeps_merge_out self.now }
+    {
+        !matches!(self, Jobs::Beside(_, None))
+    }
+
+    /// Whether a checkpoint runs.
+    pub fn has_checkpoint(&self) -> bool
+        ensures { result ≡ has_checkpoint self.now }
+    {
+        matches!(self, Jobs::Beside(Some(_), _))
+    }
+
+    /// Whether a rotation runs.
+    pub fn has_rotation(&self) -> bool
+        ensures { result ≡ has_rotation self.now }
+    {
+        matches!(self, Jobs::Rotation(_, _))
+    }
+
+    /// Whether this step of one of them is the next.
+    pub fn is_due(&self, step: Due) -> bool
+        ensures { result ≡ is_step_due step self.now }
+    {
+        match self {
+            Jobs::Rotation(_, install) => Due::Install(install.step) == step,
+            Jobs::Merge(_, install) => Due::Install(install.step) == step,
+            Jobs::Beside(checkpoint, merge) => {
+                checkpoint_is_due(step, checkpoint) || merge_is_due(step, merge)
+            }
+        }
+    }
+
+    /// Whether one of them gives the file new content.
+    pub fn take_file(&self, file: u16) -> bool
+        ensures { result ≡ takes_file self.now file }
+    {
+        match self {
+            Jobs::Rotation(fresh, _) => fresh.file == file,
+            Jobs::Merge(seen, _) => seen.pair.data_file == file || seen.pair.delta_file == file,
+            Jobs::Beside(checkpoint, merge) => {
+                checkpoint_takes(checkpoint, file) || merge_takes(merge, file)
+            }
+        }
+    }
+
+    /// The pair that a checkpoint makes.
+    pub fn checkpoint_pair(&self) -> Option<Pair>
+        ensures { result ≡ checkpoint_pair self.now }
+    {
+        match self {
+            Jobs::Beside(Some(checkpoint), _) => Some(checkpoint.pair),
+            _ => None,
+        }
+    }
+
+    /// The pair that a merge makes whose files aren't all written.
+    pub fn merge_pair(&self) -> Option<Pair>
+        ensures { result ≡ merge_pair self.now }
+    {
+        match self {
+            Jobs::Beside(_, Some(merge)) => Some(merge.seen.pair),
+            _ => None,
+        }
+    }
+
+    /// Whether the next delta file of a checkpoint is the last one.
+    pub fn progress(&self) -> Progress
+        ensures { result ≡ progress_of self.now }
+    {
+        match self {
+            Jobs::Beside(Some(checkpoint), _) => progress_at(checkpoint),
+            _ => Progress::More,
+        }
+    }
+}

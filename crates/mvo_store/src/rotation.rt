@@ -1,0 +1,3 @@
+//! The rotation of the log.
+
+pub mod begin;

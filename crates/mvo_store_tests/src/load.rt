@@ -1,0 +1,5 @@
+//! The tests of what is found out of a disk.
+mod broken;
+mod image;
+mod vectors;
+mod written;
