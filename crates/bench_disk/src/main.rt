@@ -37,15 +37,37 @@ const ROWS: u64 = 10_000;
 
 fn main(rt: HostRuntime) -> Result<()> {
     let mut words = env::args(&rt)?.skip(1);
-    let Some(kind) = words.next() else {
-        run_groups(&rt, &rt, &None, ROUNDS)?;
-        return open_all(&rt, ROWS);
-    };
+    let kind = words.next();
     let (first, second, third) = (words.next(), words.next(), words.next());
-    match kind.as_str() {
-        "groups" => run_groups(&rt, &rt, &first, number_or(&second, ROUNDS)?),
-        "open" => run_open(&rt, number_or(&first, ROWS)?, &second),
-        "sessions" => run_sessions(&rt, &rt, &third, number(&first)?, number(&second)?),
+    match &kind {
+        Some(kind) => run(&rt, &rt, kind.as_str(), (&first, &second, &third)),
+        None => run_all(&rt, &rt),
+    }
+}
+
+/// What the gate looks at.
+fn run_all<R>(rt: &HostRuntime, threads: &R) -> Result<()>
+where
+    R: AllocGlobal + Clock + Eprint + Print + Threads + Sync,
+{
+    run_groups(rt, threads, &None, ROUNDS)?;
+    open_all(threads, ROWS)
+}
+
+/// What has this name, with the words behind it.
+fn run<R>(
+    rt: &HostRuntime,
+    threads: &R,
+    kind: &str,
+    (first, second, third): (&Option<String>, &Option<String>, &Option<String>),
+) -> Result<()>
+where
+    R: AllocGlobal + Clock + Eprint + Print + Threads + Wait + Sync,
+{
+    match kind {
+        "groups" => run_groups(rt, threads, first, number_or(second, ROUNDS)?),
+        "open" => run_open(threads, number_or(first, ROWS)?, second),
+        "sessions" => run_sessions(rt, threads, third, number(first)?, number(second)?),
         _ => bail!("nothing that is timed has this name"),
     }
 }

@@ -1,7 +1,7 @@
 //! Times of the key index and the ordered index beside std's maps, and of what transactions are
 //! shown of the versions in them. Checksums go to standard output, times to standard error.
-//! Arguments are numbers of keys in place of 10,000, with which alone that is timed which
-//! transactions are shown.
+//! Arguments are numbers of keys in place of 10,000 for the latter; with them the indexes aren't
+//! timed.
 #![tactic(auto)]
 
 mod keys;

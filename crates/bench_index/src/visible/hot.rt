@@ -27,23 +27,22 @@ pub fn run<R: AllocGlobal + Clock + Eprint + Print>(
     let mut rows = Rows::new(rt.alloc(), length)?;
     chain(&mut rows, COLD, 2, 0)?;
     chain(&mut rows, HOT, length, between)?;
+    time(rt, &rows, length, between)
+}
+
+// Times of readers, and of walks.
+fn time<R: Clock + Eprint + Print>(rt: &R, rows: &Rows, length: u64, between: u64) -> Result<()> {
     eprintln!(rt; "a chain of {length}, with {between} of other keys between two versions")?;
     let begin = length.saturating_add(9);
-    let mut sum = read(rt, &rows, COLD, begin, "new reader, a chain of 2")?;
-    sum = sum.wrapping_add(read(rt, &rows, HOT, begin, "new reader, the chain")?);
-    sum = sum.wrapping_add(walk(rt, &rows, length)?);
+    let mut sum = read(rt, rows, COLD, begin, "new reader, a chain of 2")?;
+    sum = sum.wrapping_add(read(rt, rows, HOT, begin, "new reader, the chain")?);
+    sum = sum.wrapping_add(walk(rt, rows, length)?);
     println!(rt; "chain {length}, between {between}: {sum}")?;
     Ok(())
 }
 
 // Times of a reader that is shown the newest version.
-fn read<R: AllocGlobal + Clock + Eprint>(
-    rt: &R,
-    rows: &Rows,
-    key: u64,
-    begin: u64,
-    name: &str,
-) -> Result<u64> {
+fn read<R: Clock + Eprint>(rt: &R, rows: &Rows, key: u64, begin: u64, name: &str) -> Result<u64> {
     let mut sum = 0u64;
     let mut least = Least::new();
     for _ in 0..ROUNDS {
@@ -58,7 +57,7 @@ fn read<R: AllocGlobal + Clock + Eprint>(
 }
 
 // Times of one that walks the whole chain.
-fn walk<R: AllocGlobal + Clock + Eprint>(rt: &R, rows: &Rows, length: u64) -> Result<u64> {
+fn walk<R: Clock + Eprint>(rt: &R, rows: &Rows, length: u64) -> Result<u64> {
     let mut sum = 0u64;
     let mut shown = Least::new();
     let mut checks = Least::new();

@@ -35,29 +35,45 @@ const ALL: [(Call, &str); 4] = [
 /// Times with so many keys of one version each, and with few and many unfinished transactions.
 pub fn run<R: AllocGlobal + Clock + Eprint + Print>(rt: &R, count: u64) -> Result<()> {
     let mut rows = Rows::new(rt.alloc(), count)?;
+    run_with(rt, &mut rows, count)
+}
+
+fn run_with<R: Clock + Eprint + Print>(rt: &R, rows: &mut Rows, count: u64) -> Result<()> {
     for at in 0..count {
         rows.put(at, stamped(at + 1))?;
     }
     for unfinished in UNFINISHED {
-        let mut sum = 0u64;
         let more = unfinished.saturating_sub(rows.table.len() as u64);
         for at in 1..more {
             rows.write(pick(at, count), at % 2 == 0)?;
         }
         let reader = rows.table.begin(0)?;
-        for (call, name) in ALL {
-            let mut least = Least::new();
-            for _ in 0..ROUNDS {
-                let start = Instant::now(rt)?;
-                sum = sum.wrapping_add(calls(&rows, call, reader, count));
-                least.note(rt, start)?;
-            }
-            eprint!(rt; "{count:>8} keys {unfinished:>5} unfinished: ")?;
-            least.tell(rt, name, CALLS)?;
-        }
+        let sum = time_all(rt, rows, reader, count, unfinished)?;
         println!(rt; "keys {count}, unfinished {unfinished}: {sum}")?;
     }
     Ok(())
+}
+
+// Times each kind of call.
+fn time_all<R: Clock + Eprint>(
+    rt: &R,
+    rows: &Rows,
+    reader: TxId,
+    count: u64,
+    unfinished: u64,
+) -> Result<u64> {
+    let mut sum = 0u64;
+    for (call, name) in ALL {
+        let mut least = Least::new();
+        for _ in 0..ROUNDS {
+            let start = Instant::now(rt)?;
+            sum = sum.wrapping_add(calls(rows, call, reader, count));
+            least.note(rt, start)?;
+        }
+        eprint!(rt; "{count:>8} keys {unfinished:>5} unfinished: ")?;
+        least.tell(rt, name, CALLS)?;
+    }
+    Ok(sum)
 }
 
 fn calls(rows: &Rows, call: Call, reader: TxId, count: u64) -> u64 {

@@ -14,13 +14,24 @@ const BYTES: usize = 100;
 const TABLE: u8 = 3;
 
 /// Versions and transactions, as a core keeps them.
-#[derive(Drop)]
 pub struct Rows {
     alloc: Global,
     pub chains: Chains,
     pub index: HashIndex,
     pub ranges: RangeIndex,
     pub table: TxnTable<u64>,
+}
+
+impl Drop for Rows {
+    fn drop(self) {
+        let Rows {
+            alloc: _,
+            chains: _,
+            index: _,
+            ranges: _,
+            table: _,
+        } = self;
+    }
 }
 
 pub fn key_of(index: u64) -> RowKey {
