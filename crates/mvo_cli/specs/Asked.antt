@@ -61,10 +61,10 @@ explain_rule = record (new_rule (codes "explain")) {
 abbrev pub stops_command : App
 stops_command = with_rule (with_rule (new_app (codes "stops")) explain_rule) script_rule
 
--- the program with no command yet, one of which must be there
+-- the program with its version and no command yet, one of which must be there
 abbrev pub no_command : App
 no_command = record {
-  top = record (new_app (codes "mvo")).top { subcommand_required = true };
+  top = record (new_app (codes "mvo")).top { has_version = true; subcommand_required = true };
   subs = [];
 }
 

@@ -1,6 +1,6 @@
 ghost use Rattle.std.specs.Prelude.{◌≡◌, ◌∷◌, [], List, ℕ, Some, false, IfErr, IfOk, IfSome, IsSome, IsSomeAnd};
 ghost use Rattle.std.specs.Prelude.{codes, map, option_map};
-ghost use Rattle.clap.specs.Words.{Text, app_of, kind_of, rule_of, subcommand_rows_of, with_subcommand};
+ghost use Rattle.clap.specs.Words.{FailsBy, Text, app_of, kind_of, rule_of, subcommand_rows_of, with_subcommand};
 ghost use Rattle.clap.specs.declared.Command.TheViews.{out-Command};
 ghost use Rattle.mvo_cli.specs.Asked.{AsksFor, commands, folder_rule, no_command, rows_command, table_rule, with_folder, work_command};
 ghost use Rattle.mvo_cli.specs.Asked.{stops_command};
@@ -14,12 +14,20 @@ use clap::error::ErrorKind;
 use clap::{Arg, ArgMatches, Command, Error};
 use std::alloc::{AllocError, Global};
 
-/// The task that the words ask for, the program's own name first. An error is help that was asked
-/// for, a wrong or lacking word, or out of memory.
+/// The program's name.
+const PROGRAM: &str = "mvo";
+/// The program's version, and the versions of files that it reads.
+const VERSION: &str = "0 files 1";
+
+/// The task that the words ask for, the program's own name first. An error is help or the version
+/// that was asked for, a wrong or lacking word, or out of memory.
 pub fn command<'a>(alloc: Global, words: &'a [&'a str]) -> Result<Task<'a>, Error>
     ensures asked { IfOk result (λ t. AsksFor (map (λ w. w.now) words.entry.now) t) }
     ensures run { (name : Text) → map (λ w. w.now) words.entry.now ≡ name ∷ codes "run" ∷ [] →
         IfErr result (λ e. kind_of e ≡ ErrorKind.OutOfMemory) }
+    ensures version { (name : Text) →
+        map (λ w. w.now) words.entry.now ≡ name ∷ codes "--version" ∷ [] →
+        FailsBy (ErrorKind.DisplayVersion ∷ []) result }
 {
     let mut mvo = command_line(alloc)?;
     task_by(alloc, &mut mvo, words)
@@ -36,6 +44,9 @@ fn task_by<'a>(
     ensures run { app_of mvo.old ≡ commands → (name : Text) →
         map (λ w. w.now) words.entry.now ≡ name ∷ codes "run" ∷ [] →
         IfErr result (λ e. kind_of e ≡ ErrorKind.OutOfMemory) }
+    ensures version { app_of mvo.old ≡ commands → (name : Text) →
+        map (λ w. w.now) words.entry.now ≡ name ∷ codes "--version" ∷ [] →
+        FailsBy (ErrorKind.DisplayVersion ∷ []) result }
 {
     // What was matched is let go of here, before the ways part.
     let task = task_among(alloc, &mvo.try_get_matches_from_mut(words)?);
@@ -142,13 +153,15 @@ fn add_stops<'a>(mvo: Command<'a>, alloc: Global) -> Result<Command<'a>, AllocEr
     mvo.subcommand(stops_command(alloc)?)
 }
 
-/// The program with no command yet.
-fn no_command<'a>(alloc: Global) -> Command<'a>
-    ensures { app_of result ≡ no_command }
+/// The program with no command yet. Its usage has its own name, however its file is called.
+fn no_command<'a>(alloc: Global) -> Result<Command<'a>, AllocError>
+    ensures { IfOk result (λ c. app_of c ≡ no_command) }
 {
-    Command::new(alloc, "mvo")
+    Command::new(alloc, PROGRAM)
         .about("A main-memory multiversion row store with serializable transactions")
+        .version(VERSION)
         .subcommand_required(true)
+        .bin_name(PROGRAM)
 }
 
 /// The program's commands with their help.
@@ -157,7 +170,7 @@ fn command_line<'a>(alloc: Global) -> Result<Command<'a>, AllocError>
 {
     // Each is added by a call that takes the program, so that no way out of here lets go of it.
     let mvo = add_command(
-        no_command(alloc),
+        no_command(alloc)?,
         alloc,
         "format",
         "Makes a new store in a folder",

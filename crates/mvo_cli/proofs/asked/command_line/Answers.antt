@@ -10,7 +10,7 @@ with_one sub a = with_subcommand a sub.top
 
 pub returns : goal.returns
 returns c =
-    let formats = c.in_ok-mvo.ensures ∙ ap (with_one (with_folder (codes "format") true)) c.no_command.ensures in
+    let formats = c.in_ok-mvo.ensures ∙ ap (with_one (with_folder (codes "format") true)) c.in_ok-no_command.ensures in
     let runs = c.in_ok-mvo-2.ensures ∙ ap (with_one (with_folder (codes "run") false)) formats in
     let rows = c.in_ok-mvo-3.ensures ∙ ap (with_one rows_command) runs in
     let checks = c.in_ok-mvo-4.ensures ∙ ap (with_one (with_folder (codes "check") true)) rows in

@@ -1,8 +1,9 @@
-use Rattle.std.proofs.Common.{rules, ap, ap₂, refl, subst, codes, true, false, map, List, Option, Some, None, Result, Ok, Err, [], ◌∷◌, ◌≡◌, ◌∙◌, sym, option_map}
+use Rattle.std.proofs.Common.{rules, ap, ap₂, refl, subst, codes, true, List, Option, Some, None, Result, Ok, Err, [], ◌∷◌, ◌≡◌, ◌∙◌, option_map}
 use Rattle.std.specs.Prelude.{IfOk, IsSome, IfSome, IsSomeAnd}
-use Rattle.std.specs.Borrow.{Bor}
-use Rattle.clap.specs.Words.{App, HasMatchesOf, Row, Text, found_of, is_simple, rows_of, subcommand_of, subcommand_name_of, subcommand_rows_of, takes}
+use Rattle.clap.specs.Words.{App, FailsBy, HasMatchesOf, Row, Text, fault_of, is_simple, is_simple_and_free, subcommand_of, subcommand_rows_of, takes}
 use Rattle.clap.specs.declared.ArgMatches.{ArgMatches}
+use Rattle.clap.specs.declared.error.Error.{Error}
+use Rattle.clap.specs.declared.error.ErrorKind.TheVariants as kind
 use Rattle.clap.proofs.OnLiterals.{clap_on_literals}
 use Rattle.mvo_cli.specs.Asked.{commands, AsksFor}
 use Rattle.mvo_cli.specs.Tasks.{IsTask}
@@ -20,6 +21,20 @@ is_simple_app = refl
 runs : (name : Text) → takes commands (name ∷ codes "run" ∷ []) ≡ true
 unfolding clap_on_literals
 runs name = refl
+
+is_free : is_simple_and_free commands ≡ true
+unfolding clap_on_literals
+is_free = refl
+
+version_fault : (name : Text) → fault_of commands (name ∷ codes "--version" ∷ []) ≡ kind.DisplayVersion ∷ []
+unfolding clap_on_literals
+version_fault name = refl
+
+-- a parse of the word for the version fails as that
+fails_by_version : {T : Type 0} (a : App) (words : List Text) (name : Text) (r : Result T Error) → a ≡ commands → words ≡ name ∷ codes "--version" ∷ [] →
+    (is_simple_and_free a ≡ true → FailsBy (fault_of a words) r) → FailsBy (kind.DisplayVersion ∷ []) r
+fails_by_version a words name r is e fails =
+    subst (λ ks. FailsBy ks r) (ap₂ fault_of is e ∙ version_fault name) (fails (ap is_simple_and_free is ∙ is_free))
 
 first : Text × List Row → Text
 first p = p.0
@@ -56,3 +71,19 @@ returns-in_ok-error-in-Ok-None-clause-run c = λ is name e.
     let rows = same_rows c.in_ok-try_get_matches_from_mut.field-0 _ _ is c.in_ok-try_get_matches_from_mut.ensures.ok.2 in
     let run = ap (option_map (λ (p : Text × List Row). p.0)) rows ∙ run_of _ name e in
     absurd (not_some c.task_among-task.result (c.in-Ok-None.is ∙ ap (λ (o : Option Task). Ok o) c.in-Ok-None.field-0-is) (c.task_among-task.ensures.run run))
+
+some_kind : kind.DisplayVersion ∷ [] ≡ [] → ⊥
+some_kind e = cc
+
+pub returns-in_err-try_get_matches_from_mut-clause-version : goal.returns-in_err-try_get_matches_from_mut-clause-version
+returns-in_err-try_get_matches_from_mut-clause-version c = λ is name e.
+    let failed = fails_by_version {T = ArgMatches} _ _ name (Err c.in_err-try_get_matches_from_mut.field-0.0) is e c.in_err-try_get_matches_from_mut.ensures.kinds in
+    search (rules, failed)
+
+pub returns-in-Ok-Some-clause-version : goal.returns-in-Ok-Some-clause-version
+returns-in-Ok-Some-clause-version c = λ is name e.
+    fails_by_version _ _ name (Ok c.in_ok-try_get_matches_from_mut.field-0) is e c.in_ok-try_get_matches_from_mut.ensures.kinds
+
+pub returns-in_ok-error-in-Ok-None-clause-version : goal.returns-in_ok-error-in-Ok-None-clause-version
+returns-in_ok-error-in-Ok-None-clause-version c = λ is name e.
+    absurd (some_kind (fails_by_version _ _ name (Ok c.in_ok-try_get_matches_from_mut.field-0) is e c.in_ok-try_get_matches_from_mut.ensures.kinds))
