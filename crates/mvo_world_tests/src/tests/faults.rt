@@ -83,7 +83,6 @@ impl Met {
 }
 
 /// The faults of runs that follow one another.
-#[derive(Drop)]
 struct Trial {
     alloc: Global,
     draws: Draws,
@@ -91,6 +90,18 @@ struct Trial {
     met: Met,
     /// What the next run starts from.
     next: Option<Start>,
+}
+
+impl Drop for Trial {
+    fn drop(self) {
+        let Trial {
+            alloc: _,
+            draws: _,
+            keys: _,
+            met: _,
+            next: _,
+        } = self;
+    }
 }
 
 impl Trial {

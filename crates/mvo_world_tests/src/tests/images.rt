@@ -19,13 +19,23 @@ struct Range {
 }
 
 /// What a stop may change of a file since its last sync: the ranges, and all past the kept length.
-#[derive(Drop)]
 pub struct Loose {
     len: usize,
     kept: usize,
     ranges: Vec<Range>,
     /// Nothing was written or cut since.
     is_exact: bool,
+}
+
+impl Drop for Loose {
+    fn drop(self) {
+        let Loose {
+            len: _,
+            kept: _,
+            ranges: _,
+            is_exact: _,
+        } = self;
+    }
 }
 
 /// What a stop is to leave of a disk.

@@ -26,7 +26,6 @@ impl Phase {
 }
 
 /// An unfinished transaction, with what it asked for and what it was told.
-#[derive(Drop)]
 pub struct Open {
     pub id: TxId,
     pub phase: Phase,
@@ -34,13 +33,34 @@ pub struct Open {
     answers: Vec<Answer>,
 }
 
+impl Drop for Open {
+    fn drop(self) {
+        let Open {
+            id: _,
+            phase: _,
+            ops: _,
+            answers: _,
+        } = self;
+    }
+}
+
 /// A committed transaction. So many events were answered before the one that settled it.
-#[derive(Drop)]
 pub struct Commit {
     pub event: usize,
     pub end: Stamp,
     pub ops: Vec<Op>,
     pub answers: Vec<Answer>,
+}
+
+impl Drop for Commit {
+    fn drop(self) {
+        let Commit {
+            event: _,
+            end: _,
+            ops: _,
+            answers: _,
+        } = self;
+    }
 }
 
 /// A group that was closed. So many events were answered before the one that closed it.
@@ -143,7 +163,6 @@ impl Counts {
 }
 
 /// What happened since a world was opened.
-#[derive(Drop)]
 pub struct Observed {
     alloc: Global,
     /// How many events were answered.
@@ -162,6 +181,24 @@ pub struct Observed {
     pub has_queued: bool,
     pub known: Known,
     pub counts: Counts,
+}
+
+impl Drop for Observed {
+    fn drop(self) {
+        let Observed {
+            alloc: _,
+            events: _,
+            latest: _,
+            tale_start: _,
+            open: _,
+            commits: _,
+            groups: _,
+            waiting: _,
+            has_queued: _,
+            known: _,
+            counts: _,
+        } = self;
+    }
 }
 
 pub fn count(number: &mut u64) {

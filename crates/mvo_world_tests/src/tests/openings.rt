@@ -59,7 +59,6 @@ impl Met {
 }
 
 /// The openings of what runs leave, which follow one another.
-#[derive(Drop)]
 struct Trial {
     alloc: Global,
     draws: Draws,
@@ -67,6 +66,18 @@ struct Trial {
     met: Met,
     /// What the next run starts from.
     next: Option<Start>,
+}
+
+impl Drop for Trial {
+    fn drop(self) {
+        let Trial {
+            alloc: _,
+            draws: _,
+            keys: _,
+            met: _,
+            next: _,
+        } = self;
+    }
 }
 
 impl Trial {

@@ -56,7 +56,6 @@ struct Moment {
 }
 
 /// The stops of runs that follow one another.
-#[derive(Drop)]
 struct Trial {
     alloc: Global,
     draws: Draws,
@@ -64,6 +63,18 @@ struct Trial {
     met: Met,
     /// What the next run starts from.
     next: Option<Start>,
+}
+
+impl Drop for Trial {
+    fn drop(self) {
+        let Trial {
+            alloc: _,
+            draws: _,
+            keys: _,
+            met: _,
+            next: _,
+        } = self;
+    }
 }
 
 impl Met {

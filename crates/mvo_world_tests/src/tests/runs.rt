@@ -32,21 +32,41 @@ const EVENTS_APART: u64 = 128;
 const KEYS_IN_ALL: u64 = (RUNS * EVENTS_APART + EVENTS) / EVENTS_OF_A_KEY + KEYS;
 
 /// What a run starts from: the files, and the rows and the mark that they hold.
-#[derive(Drop)]
 pub struct Start {
     pub files: Vec<FileImage>,
     pub rows: Vec<Row>,
     pub mark: Stamp,
 }
 
+impl Drop for Start {
+    fn drop(self) {
+        let Start {
+            files: _,
+            rows: _,
+            mark: _,
+        } = self;
+    }
+}
+
 /// A run: its events, and what was known before each of them and after the last.
-#[derive(Drop)]
 pub struct Run {
     pub alloc: Global,
     pub start: Start,
     pub events: Vec<Event>,
     pub known: Vec<Known>,
     pub observed: Observed,
+}
+
+impl Drop for Run {
+    fn drop(self) {
+        let Run {
+            alloc: _,
+            start: _,
+            events: _,
+            known: _,
+            observed: _,
+        } = self;
+    }
 }
 
 /// A world over the disk, with another seed at most times: no answer depends on it.
