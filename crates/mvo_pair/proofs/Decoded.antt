@@ -7,16 +7,16 @@ use Rattle.std.proofs.lemmas.List.Elements.{recursion_from_All}
 use Rattle.std.proofs.lemmas.Grind.{flat_map-append}
 use Rattle.mvo_bytes.specs.Fields.{field}
 use Rattle.mvo_bytes.proofs.Fields.{length-field}
-use Rattle.mvo_pair.specs.Reading.{first_number}
+use Rattle.mvo_pair.specs.Reading.{number_in}
 use Rattle.mvo_pair.specs.Files.{file_header, delta_magic}
 use Rattle.mvo_pair.proofs.Spelled.{number_back_is, field_behind}
 use Rattle.mvo_pair.proofs.Appends.{length-numbers}
 use Rattle.mvo_pair.specs.Late.{numbers_upto, AreThoseFrom}
 
 -- the number at a place
-number_there : (ns : List ℕ) (i d : ℕ) → AllByRecursion (λ n. n < 256 ^ 4) ns → i < length ns → first_number 4 (drop (4 * i) (flat_map (field 4) ns)) ≡ get_or ns i d
+number_there : (ns : List ℕ) (i d : ℕ) → AllByRecursion (λ n. n < 256 ^ 4) ns → i < length ns → number_in 4 (drop (4 * i) (flat_map (field 4) ns)) ≡ get_or ns i d
 number_there [] i d small lt = absurd (omega (arith, lt))
-number_there (n ∷ ns) zero d small lt = ap (first_number 4) (flat_map-cons (field 4) n ns) ∙ number_back_is 4 n (flat_map (field 4) ns) small.0
+number_there (n ∷ ns) zero d small lt = ap (number_in 4) (flat_map-cons (field 4) n ns) ∙ number_back_is 4 n (flat_map (field 4) ns) small.0
 number_there (n ∷ ns) (suc i) d small lt =
     let at : 4 * suc i ≡ 4 + 4 * i = omega arith in
     let there : drop (4 * suc i) (flat_map (field 4) (n ∷ ns)) ≡ drop (4 * i) (flat_map (field 4) ns) =
@@ -24,11 +24,11 @@ number_there (n ∷ ns) (suc i) d small lt =
     ∙ sym (drop-drop (4 * i) 4 (flat_map (field 4) (n ∷ ns)))
     ∙ ap (λ (l : List ℕ). drop (4 * i) (drop 4 l)) (flat_map-cons (field 4) n ns)
     ∙ ap (λ (l : List ℕ). drop (4 * i) l) (field_behind 4 n (flat_map (field 4) ns)) in
-    ap (first_number 4) there ∙ number_there ns i d small.1 (omega (arith, lt))
+    ap (number_in 4) there ∙ number_there ns i d small.1 (omega (arith, lt))
 
 pub length-upto : (k : ℕ) (bytes : List ℕ) → length (numbers_upto k bytes) ≡ k
 length-upto zero bytes = refl
-length-upto (suc k) bytes = length-append (numbers_upto k bytes) (first_number 4 (drop (4 * k) bytes) ∷ []) ∙ one (length-upto k bytes)
+length-upto (suc k) bytes = length-append (numbers_upto k bytes) (number_in 4 (drop (4 * k) bytes) ∷ []) ∙ one (length-upto k bytes)
   where
     one : length (numbers_upto k bytes) ≡ k → length (numbers_upto k bytes) + 1 ≡ suc k
     one e = omega (arith, e)
@@ -36,7 +36,7 @@ length-upto (suc k) bytes = length-append (numbers_upto k bytes) (first_number 4
 upto_are : (k : ℕ) (ns : List ℕ) → AllByRecursion (λ n. n < 256 ^ 4) ns → k ≤ length ns → numbers_upto k (flat_map (field 4) ns) ≡ take k ns
 upto_are zero ns small le = refl
 upto_are (suc k) ns small le =
-    ap (λ (l : List ℕ). l ++ first_number 4 (drop (4 * k) (flat_map (field 4) ns)) ∷ []) (upto_are k ns small (omega (arith, le)))
+    ap (λ (l : List ℕ). l ++ number_in 4 (drop (4 * k) (flat_map (field 4) ns)) ∷ []) (upto_are k ns small (omega (arith, le)))
     ∙ ap (λ n. take k ns ++ n ∷ []) (number_there ns k 0 small (omega (arith, le)))
     ∙ sym (take_more ns k 0 (omega (arith, le)))
     ∙ ap (λ j. take j ns) (let one : k + 1 ≡ suc k = omega arith in one)
