@@ -80,3 +80,17 @@ fn help_is_no_mistake(rt: HostRuntime) -> Result<(), Fail> {
     holds(&rt, Fault::CommandLine(error).is_help());
     Ok(())
 }
+
+#[test]
+fn the_version_is_told(rt: HostRuntime) -> Result<(), Fail> {
+    let alloc = rt.alloc();
+    for words in [["mvo", "--version"], ["another", "-V"]] {
+        let error = command(alloc, &words).err().ok_or("an error")?;
+        holds(&rt, error.kind() == ErrorKind::DisplayVersion);
+        let fault = Fault::CommandLine(error);
+        same(&rt, &fault.status(), &0);
+        let text = fault.to_string(alloc)?;
+        same(&rt, &text.as_str(), &"mvo 0 files 1\n");
+    }
+    Ok(())
+}
