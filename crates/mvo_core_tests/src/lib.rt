@@ -1,4 +1,4 @@
-//! Tests of the event core over versions, and of the crates below it.
+//! Tests of the event core over versions.
 #![tactic(auto)]
 
 #[cfg(test)]
@@ -21,8 +21,6 @@ mod plain;
 mod random;
 #[cfg(test)]
 mod reply;
-#[cfg(test)]
-mod rules;
 #[cfg(test)]
 mod same;
 #[cfg(test)]

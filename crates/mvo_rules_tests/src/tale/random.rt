@@ -1,0 +1,273 @@
+//! Random ends, commits and groups, against a plain list.
+
+use crate::equal::{above, same_at};
+use crate::numbers::Numbers;
+use crate::tale::checked::{leave_at, next_group, open_at, settle_at};
+use crate::tale::entries::entry_of;
+use crate::tale::plain::{Place, State, is_record, some_operations};
+use mvo_tale::{NextRecords, Tale};
+use mvo_types::{Stamp, TxId};
+use std::alloc::Global;
+use std::process::Abort;
+use std::test::Fail;
+
+const STEPS: u64 = 3_000;
+
+const MOST_ENDS: u64 = 1 << 40;
+
+#[derive(Drop)]
+struct Counts {
+    settled: u64,
+    left: u64,
+    shortened: u64,
+    forgotten: u64,
+    groups: u64,
+    records: u64,
+    empty_groups: u64,
+}
+
+struct Course {
+    alloc: Global,
+    tale: Tale,
+    list: Vec<Place>,
+    numbers: Numbers,
+    clock: u64,
+    closed: u64,
+    from: usize,
+    counts: Counts,
+}
+
+fn count(number: &mut u64, more: u64) {
+    *number = number.saturating_add(more);
+}
+
+impl Drop for Course {
+    fn drop(self) {
+        let Course {
+            alloc: _,
+            tale: _,
+            list: _,
+            numbers: _,
+            clock: _,
+            closed: _,
+            from: _,
+            counts: _,
+        } = self;
+    }
+}
+
+impl Course {
+    fn new(alloc: Global) -> Course {
+        Course {
+            alloc,
+            tale: Tale::new(alloc),
+            list: Vec::new(alloc),
+            numbers: Numbers::new(),
+            clock: 0,
+            closed: 0,
+            from: 0,
+            counts: Counts {
+                settled: 0,
+                left: 0,
+                shortened: 0,
+                forgotten: 0,
+                groups: 0,
+                records: 0,
+                empty_groups: 0,
+            },
+        }
+    }
+
+    /// One step. Whether the tale answers as the list does.
+    fn advance(&mut self) -> Result<bool, Fail> {
+        match self.numbers.below(9) {
+            0 | 1 | 2 => self.open(),
+            3 | 4 | 5 => self.settle(),
+            6 => self.leave(),
+            7 => self.forget(),
+            _ => self.close(),
+        }
+    }
+
+    fn open(&mut self) -> Result<bool, Fail> {
+        let next = self.clock.min(MOST_ENDS) + 1;
+        let end = next.saturating_add(self.numbers.below(3));
+        let place = open_at(&mut self.tale, Stamp(end))?;
+        let is_next = place == Some(self.list.len());
+        self.list.push(Place {
+            end,
+            state: State::Open,
+            wrote: Vec::new(self.alloc),
+        })?;
+        self.clock = end;
+        Ok(is_next)
+    }
+
+    /// A place that is open, if one of a few that are drawn is.
+    fn open_place(&mut self) -> Option<usize> {
+        for _ in 0..4 {
+            let place = self.numbers.below(self.list.len() as u64) as usize;
+            if self.list.get(place).map(|at| at.state) == Some(State::Open) {
+                return Some(place);
+            }
+        }
+        self.list.iter().position(|at| at.state == State::Open)
+    }
+
+    fn settle(&mut self) -> Result<bool, Fail> {
+        let Some(place) = self.open_place() else {
+            return Ok(true);
+        };
+        let Some(at) = self.list.get_mut(place) else {
+            return Ok(false);
+        };
+        let operations = some_operations(self.alloc, &mut self.numbers, &mut at.wrote)?;
+        at.state = State::Settled;
+        let end = Stamp(at.end);
+        let id = TxId(at.end.saturating_sub(1));
+        let Some(entry) = entry_of(self.alloc, id, end, operations)? else {
+            return Ok(false);
+        };
+        count(&mut self.counts.settled, 1);
+        Ok(settle_at(&mut self.tale, place, entry))
+    }
+
+    fn leave(&mut self) -> Result<bool, Fail> {
+        let Some(place) = self.open_place() else {
+            return Ok(true);
+        };
+        let Some(at) = self.list.get_mut(place) else {
+            return Ok(false);
+        };
+        at.state = State::Empty;
+        let end = Stamp(at.end);
+        self.close_up();
+        count(&mut self.counts.left, 1);
+        Ok(leave_at(&mut self.tale, place, end))
+    }
+
+    /// The empty places at the back go, unless all are empty.
+    fn close_up(&mut self) {
+        let before = self.list.len();
+        if self.list.iter().all(|at| at.state == State::Empty) {
+            return;
+        }
+        for _ in 0..before {
+            if self.list.last().map(|at| at.state) != Some(State::Empty) {
+                break;
+            }
+            let _ = self.list.pop();
+        }
+        if self.list.len() < before {
+            count(&mut self.counts.shortened, 1);
+        }
+    }
+
+    /// Commits up to the last mark, or one before it, are forgotten.
+    fn forget(&mut self) -> Result<bool, Fail> {
+        let upto = self.closed.saturating_sub(self.numbers.below(6));
+        self.tale.forget(Stamp(upto));
+        for at in self.list.iter_mut() {
+            if at.state == State::Open || (at.state == State::Settled && at.end > upto) {
+                break;
+            }
+            if at.state == State::Settled {
+                at.state = State::Empty;
+                count(&mut self.counts.forgotten, 1);
+            }
+        }
+        Ok(true)
+    }
+
+    fn low_water(&self) -> u64 {
+        for at in &self.list {
+            if at.state == State::Open {
+                return at.end.saturating_sub(1);
+            }
+        }
+        self.clock
+    }
+
+    fn close(&mut self) -> Result<bool, Fail> {
+        let low = self.low_water();
+        if low <= self.closed {
+            return Ok(true);
+        }
+        let prev = Stamp(self.closed);
+        let found = next_group(&self.tale, self.alloc, self.from, prev, Stamp(low))?;
+        let Some(next) = found else {
+            return Ok(false);
+        };
+        let is_due = self.is_due(&next, low);
+        count(&mut self.counts.groups, 1);
+        count(&mut self.counts.records, next.records.len() as u64);
+        if next.records.is_empty() {
+            count(&mut self.counts.empty_groups, 1);
+        }
+        self.from = next.next;
+        self.closed = next.mark.0;
+        Ok(is_due)
+    }
+
+    /// Whether the records are those of all that wrote above the last mark and up to this one.
+    fn is_due(&self, next: &NextRecords, low: u64) -> bool {
+        let mut at = 0usize;
+        for place in &self.list {
+            let within = self.closed < place.end && place.end <= low;
+            if within && place.state == State::Settled && !place.wrote.is_empty() {
+                let Some(commit) = next.records.get(at) else {
+                    return false;
+                };
+                if !is_record(commit, place.end, &place.wrote) {
+                    return false;
+                }
+                at = at.saturating_add(1);
+            }
+        }
+        at == next.records.len() && next.mark.0 == low
+    }
+
+    /// Whether the tale shows the same at a place as the list.
+    fn is_shown(&mut self) -> bool {
+        let place = self.numbers.below(self.list.len() as u64 + 1) as usize;
+        let shown = self.tale.get(place).map(|entry| entry.end.0);
+        let wanted = match self.list.get(place) {
+            Some(at) if at.state == State::Settled => Some(at.end),
+            _ => None,
+        };
+        self.tale.len() == self.list.len() && shown == wanted
+    }
+}
+
+fn go(rt: &impl Abort, course: &mut Course) -> Result<(), Fail> {
+    for step in 0..STEPS {
+        same_at(rt, &course.advance()?, &true, step);
+        same_at(rt, &course.is_shown(), &true, step);
+    }
+    Ok(())
+}
+
+fn check_counts(rt: &impl Abort, counts: &Counts) {
+    let floors = [
+        (counts.settled, 500),
+        (counts.left, 100),
+        (counts.shortened, 10),
+        (counts.forgotten, 300),
+        (counts.groups, 100),
+        (counts.records, 300),
+        (counts.empty_groups, 5),
+    ];
+    above(rt, &floors);
+}
+
+fn check(rt: &impl Abort, course: &mut Course) -> Result<(), Fail> {
+    go(rt, course)?;
+    check_counts(rt, &course.counts);
+    Ok(())
+}
+
+#[test]
+fn agrees_with_a_plain_list(rt: HostRuntime) -> Result<(), Fail> {
+    let mut course = Course::new(rt.alloc());
+    check(&rt, &mut course)
+}
