@@ -2,7 +2,7 @@
 
 use mvo_disk::Disk;
 use mvo_engine::{Engine, Gate, Run};
-use mvo_store::{Generation, Reclaimed};
+use mvo_store::{Done, Generation, Reclaimed, StoreCall};
 use mvo_types::{Refusal, Stamp};
 use std::sync::Wait;
 use std::sync::atomic::{AtomicU64, Ordering};
@@ -47,7 +47,7 @@ fn shorten_log<L: Run, D: Disk, G: Gate + Drop, R: Wait>(
     was_due(engine.checkpoint(rt))?;
     was_due(engine.merge(rt, 0))?;
     for _ in rt.forever() {
-        if engine.lock_store(rt).reclaim()? == Reclaimed::Done {
+        if let Done::Reclaimed(Reclaimed::Done) = engine.lock_store(rt).call(StoreCall::Reclaim)? {
             break;
         }
     }

@@ -2,8 +2,8 @@
 //! found when the disk is opened again.
 use anyhow::bail;
 use mvo_disk::MemDisk;
-use mvo_store::format;
-use mvo_types::{Refusal, Row, RowKey, TxId};
+use mvo_store::{StoreCall, format};
+use mvo_types::{Op, Refusal, Row, RowKey, TxId};
 use mvo_world::{Event, Reply, World};
 use std::alloc::{AllocError, Global};
 use std::random::RandomSource;
@@ -57,7 +57,7 @@ fn find(
 
 fn find_in(rt: &impl Runtime, world: &mut World<MemDisk>) -> Result<(), anyhow::Error> {
     let tx = begin(world)?;
-    let found = run_all(world, &[Event::Read(tx, KEY)])?;
+    let found = run_all(world, &[Event::Do(tx, Op::Read(KEY))])?;
     tell(rt, &found)
 }
 
@@ -128,14 +128,14 @@ fn row(alloc: Global) -> Result<Row, AllocError> {
 /// The transaction puts the row and commits, and its group becomes durable.
 fn put_and_flush(tx: TxId, row: Row) -> [Event; 9] {
     [
-        Event::Insert(tx, row),
+        Event::Do(tx, Op::Insert(row)),
         Event::Precommit(tx),
         Event::Validate(tx),
         Event::Settle(tx),
         Event::Finish(tx),
         Event::CloseGroup,
         Event::TakeGroup,
-        Event::AppendBody,
-        Event::AppendOpen,
+        Event::Store(StoreCall::AppendBody),
+        Event::Store(StoreCall::AppendOpen),
     ]
 }

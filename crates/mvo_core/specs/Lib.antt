@@ -25,3 +25,4 @@ pub mod Scanning
 pub mod Spare
 pub mod Holding
 pub mod Receipts
+pub mod Operations

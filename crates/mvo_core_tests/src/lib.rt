@@ -16,6 +16,8 @@ mod met;
 #[cfg(test)]
 mod numbers;
 #[cfg(test)]
+mod operations;
+#[cfg(test)]
 mod plain;
 #[cfg(test)]
 mod random;

@@ -4,7 +4,7 @@ use crate::equal::same_at;
 use crate::reply::Reply;
 use mvo_core::{Closed, Core, Finishing, Settlement, Validation};
 use mvo_group::Group;
-use mvo_types::{Answer, MAX_STAMP, RING_GROUPS, Refusal, Row, RowKey, Rows, Stamp, TxId};
+use mvo_types::{Answer, MAX_STAMP, Op, RING_GROUPS, Refusal, Row, RowKey, Rows, Stamp, TxId};
 use rtrb::{Consumer, Producer, RingBuffer};
 use std::alloc::{AllocError, Global};
 use std::process::Abort;
@@ -200,6 +200,10 @@ impl Session {
 
     pub fn delete(&mut self, tx: TxId, key: RowKey) -> Reply {
         answered(self.core.delete(tx, key))
+    }
+
+    pub fn operate(&mut self, tx: TxId, op: Op) -> Reply {
+        answered(self.core.operate(tx, op))
     }
 
     pub fn precommit(&mut self, tx: TxId) -> Reply {

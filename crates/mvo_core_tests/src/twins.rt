@@ -17,7 +17,7 @@ use crate::session::{FEW_GROUPS, Session};
 use mvo_collect::Collection;
 use mvo_core::Closed;
 use mvo_group::Group;
-use mvo_types::{MAX_STAMP, Op, Refusal, Stamp, TxId};
+use mvo_types::{MAX_STAMP, Refusal, Stamp, TxId};
 use std::alloc::{AllocError, Global};
 use std::collections::VecDeque;
 use std::process::Abort;
@@ -44,22 +44,12 @@ fn told(session: &mut Session, id: u64, event: Event) -> Reply {
     let tx = TxId(id);
     match event {
         Event::Begin => session.begin(),
-        Event::Ask(op) => told_of(session, tx, op),
+        Event::Ask(op) => session.operate(tx, op),
         Event::Precommit => session.precommit(tx),
         Event::Validate => session.validate(tx),
         Event::Settle => session.settle(tx),
         Event::RollBack => session.roll_back(tx),
         Event::Finish => session.finish(tx),
-    }
-}
-
-fn told_of(session: &mut Session, tx: TxId, op: Op) -> Reply {
-    match op {
-        Op::Read(key) => session.read(tx, key),
-        Op::Scan(table, lo, hi) => session.scan(tx, table, lo, hi),
-        Op::Insert(row) => session.insert(tx, row),
-        Op::Update(row) => session.update(tx, row),
-        Op::Delete(key) => session.delete(tx, key),
     }
 }
 

@@ -5,11 +5,10 @@ use Rattle.std.proofs.lemmas.Bool.{eqb-true}
 use Rattle.mvo_types.specs.declared.ids.TxId.{TxId}
 use Rattle.mvo_types.specs.declared.ids.Stamp.{Stamp}
 use Rattle.mvo_types.specs.declared.refusal.Refusal.{Refusal}
-use Rattle.mvo_types.specs.Keys.{Map}
 use Rattle.mvo_engine.specs.run.Opening.{Opening}
 use Rattle.mvo_group.specs.Data.{GroupData}
 use Rattle.mvo_model.specs.History.{History}
-use Rattle.mvo_theory.specs.State.{State, StampedTx, preparing_of, opened}
+use Rattle.mvo_theory.specs.State.{State, StampedTx, preparing_of}
 use Rattle.mvo_theory.specs.Sound.{IsPlaced}
 use Rattle.mvo_theory.specs.Causes.{awaited, end_of, end_at}
 use Rattle.mvo_theory.specs.Changes.{after_close}
@@ -22,7 +21,6 @@ use Rattle.mvo_core.specs.declared.answers.Closed as closing
 use Rattle.mvo_core.specs.declared.answers.Settlement.{Settlement}
 use Rattle.mvo_core.specs.declared.answers.Settlement.TheVariants.{Committed, Waiting}
 use Rattle.mvo_core.specs.Data.{CoreData}
-use Rattle.mvo_core.specs.Standing.{HasOpenedOver}
 use Rattle.mvo_core.specs.Steps.{came, IsStep, IsSettlement, settled_as}
 use Rattle.mvo_core.specs.Collecting.{StandsAsBefore}
 use Rattle.mvo_core.specs.Holding.{HoldsJust}
@@ -65,10 +63,6 @@ end_is s t e q = ap (λ (m : Stamp). m.0) (same q)
   where
     same : Committed e ≡ Committed (record { 0 = end_of s t }) → e ≡ record { 0 = end_of s t }
     same p = cc
-
--- nothing is stored of a run that begins
-pub booked_opened : (w : Watched) (rows : Map) (mark : ℕ) (c : CoreData) (total : ℕ) → HasOpenedOver rows mark c → total ≡ 0 → IsBooked w c total
-booked_opened w rows mark c total stands none = record { rows = rows; steps = []; state = opened rows mark; stands = stands; counted = λ low. none }
 
 module _ (w : Watched) {c : CoreData} {total : ℕ} (i : IsBooked w c total) where
   weight_was : i.state.start < w.end → total ≡ tale_weight w.weigh i.state.stamped

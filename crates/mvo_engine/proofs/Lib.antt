@@ -1,7 +1,8 @@
 pub mod Rings
 pub mod CoreSound
-pub mod Collected
 pub mod StoreSound
+mod Called
+mod Jobs
 pub mod Begun
 pub mod Added
 pub mod Counted

@@ -1,6 +1,7 @@
 -- The store under its lock stays sound, and what a stop leaves of it.
 use Rattle.std.proofs.Common.{◌≡◌, inl, inr, ℕ, ◌≤◌, List, [], ◌∷◌, ◌++◌, Option, None, Some, Result, Ok, Err, refl, sym, ap, ◌∙◌, subst, arith, append-nil}
-use Rattle.std.specs.Prelude.{OnOk}
+use Rattle.std.specs.Prelude.{OnOk, max}
+use Rattle.std.proofs.Math.Nat.{max-le}
 use Rattle.std.specs.Option.{option_to_list}
 use Rattle.mvo_types.specs.declared.refusal.Refusal.{Refusal}
 use Rattle.mvo_types.specs.Keys.{Map}
@@ -13,7 +14,13 @@ use Rattle.mvo_store.proofs.Grown.{after_groups-append}
 use Rattle.mvo_store.specs.Seen.{disk_of, mark_of, pending_of}
 use Rattle.mvo_store.specs.StoreData.{StoreData, opening}
 use Rattle.mvo_store.specs.Standing.{Gives, GivesOr, FollowsMark, HasSlots, KeepsRows, KeepsAllRows, IsKeeping, after_taken}
-use Rattle.mvo_store.specs.Calls.{StoreCall, IsStoreStep}
+use Rattle.mvo_store.specs.Calls.{AnswersCall, StoreStep, IsStoreStep}
+use Rattle.mvo_store.specs.Calls.StoreStep.{Call}
+use Rattle.mvo_store.specs.declared.jobs.due.Due.TheVariants.{Install}
+use Rattle.mvo_store.specs.declared.install.install_step.InstallStep.TheVariants.{Close}
+use Rattle.mvo_store.specs.declared.call.StoreCall.{StoreCall}
+use Rattle.mvo_store.specs.declared.call.StoreCall.TheVariants.{AppendOpen, Step}
+use Rattle.mvo_store.specs.declared.done.Done.TheVariants.{Durable}
 use Rattle.mvo_store.proofs.Taken.{KeepsTaken, IsQuiet, left_taken, quiet_taken, quiet_rows, refused_rows}
 use Rattle.mvo_world.proofs.Standing.{mark_after-append, opening_pending}
 use Rattle.mvo_engine.specs.run.Opening.{Opening}
@@ -121,8 +128,21 @@ module _ {D : Type 0} (d : Ghosts D) {o : Opening} {s t : StoreData D} {received
       let m = taken.mark in
       (kept d i.0 t taken was keeps, i.1, omega (arith, m, p), i.3)
 
-  pub stays_quiet : {A : Type 0} {call : StoreCall} {result : Result A Refusal} → IsStoreStep d s call result t → IsQuiet call → IsSoundStore d o t received × P × (published ≤ mark_of t) × Q
+  pub stays_quiet : {A : Type 0} {call : StoreStep} {result : Result A Refusal} → IsStoreStep d s call result t → IsQuiet call → IsSoundStore d o t received × P × (published ≤ mark_of t) × Q
   stays_quiet {A} {call} {result} h quiet = stays_kept (quiet_taken d s call result t quiet h.comes) h.honest (quiet_rows d s call result t quiet h)
 
-  pub stays_refused : {A : Type 0} {call : StoreCall} {e : Refusal} → IsStoreStep {A = A} d s call (Err e) t → IsSoundStore d o t received × P × (published ≤ mark_of t) × Q
+  pub stays_refused : {A : Type 0} {call : StoreStep} {e : Refusal} → IsStoreStep {A = A} d s call (Err e) t → IsSoundStore d o t received × P × (published ≤ mark_of t) × Q
   stays_refused {A} {call} {e} h = stays_kept (left_taken d call e s t h.comes.left) h.honest (refused_rows A d s call e t h)
+
+  -- and over the opening of a group's gate, whose mark is published
+  pub stays_durable : (call : StoreCall) (n : ℕ) → IsStoreStep d s (Call call) (Ok (Durable n)) t → AnswersCall d s call (Durable n) t → IsSoundStore d o t received × P × (max published n ≤ mark_of t) × Q
+  stays_durable AppendOpen n h is =
+      let made = h.comes.made.makes in
+      let up = above d i.0 made.group made.there in
+      let at = ap (λ (y : StoreData D). mark_of y) made.after in
+      let p = i.2 in
+      let old : published ≤ mark_of t = omega (arith, p, up, at) in
+      let now : n ≤ mark_of t = omega (arith, is) in
+      (appended d i.0 t made.group made.there at (ap (λ (y : StoreData D). pending_of y) made.after) h.honest h.keeps, i.1, max-le old now, i.3)
+  stays_durable (Step (Install Close)) n h is = absurd is
+  stays_durable call n h is = absurd is

@@ -1,5 +1,5 @@
 -- What the calls under the locks come to, and those of a session.
-use Rattle.std.specs.Prelude.{◌≡◌, ◌⊎◌, ◌<◌, ◌≤◌, ◌+◌, ℕ, Bool, true, false, List, [], ◌∷◌, ◌++◌, Option, None, Some, Result, Ok, Err, if◌then◌else◌, max, IfSome}
+use Rattle.std.specs.Prelude.{◌≡◌, ◌⊎◌, ◌<◌, ◌≤◌, ◌+◌, ℕ, Bool, true, false, List, [], ◌∷◌, ◌++◌, Option, None, Some, Result, Ok, Err, if◌then◌else◌, max, IfOk, IfSome}
 use Rattle.mvo_types.specs.declared.refusal.Refusal.{Refusal}
 use Rattle.mvo_types.specs.declared.refusal.Refusal.TheVariants.{NoSuchTransaction, Busy, NothingToDo, OutOfMemory}
 use Rattle.mvo_types.specs.declared.ids.TxId.{TxId}
@@ -13,7 +13,7 @@ use Rattle.mvo_model.specs.Trace.{Step}
 use Rattle.mvo_disk.specs.declared.disk.Disk.{Ghosts}
 use Rattle.mvo_group.specs.Data.{GroupData}
 use Rattle.mvo_theory.specs.State.{State}
-use Rattle.mvo_theory.specs.Calls.{Call}
+use Rattle.mvo_theory.specs.Calls as theory
 use Rattle.mvo_theory.specs.Calls.Call.{Begin, Settle}
 use Rattle.mvo_theory.specs.Causes.{is_failure, why_not_close}
 use Rattle.mvo_core.specs.declared.answers.Closed.{Closed}
@@ -26,15 +26,18 @@ use Rattle.mvo_core.specs.Steps.{IsStep}
 use Rattle.mvo_core.specs.Closing.{IsClosedNow, IsNotClosed}
 use Rattle.mvo_store.specs.Seen.{mark_of}
 use Rattle.mvo_store.specs.Causes.{why_not_take}
-use Rattle.mvo_store.specs.Calls.{StoreCall, IsStoreStep}
-use Rattle.mvo_store.specs.Calls.StoreCall.{Take, AppendOpen}
+use Rattle.mvo_store.specs.Calls.{AnswersCall, IsStoreStep}
+use Rattle.mvo_store.specs.Calls.StoreStep.{Take, Call}
+use Rattle.mvo_store.specs.declared.call.StoreCall.{StoreCall}
+use Rattle.mvo_store.specs.declared.done.Done.{Done}
+use Rattle.mvo_store.specs.declared.done.Done.TheVariants.{Durable}
 use Rattle.mvo_engine.specs.declared.run.run.TheConstants.{MAX_SESSIONS}
 use Rattle.mvo_core.specs.Receipts.{Receipt, receipt}
 use Rattle.mvo_engine.specs.States.{CoreState, SendsState, StoreState, SessionState}
 
 -- a step of the core that closes no group
-pub record IsCoreStep {A : Type 0} (old : CoreState) (call : Call) (result : Result A Refusal)
-    (new : CoreState) : Type 0 where
+pub record IsCoreStep {A : Type 0} (old : CoreState) (call : theory.Call)
+    (result : Result A Refusal) (new : CoreState) : Type 0 where
   pub step : IsStep old.core call result new.core
   pub sends : new.sends ≡ old.sends
   pub made : new.made ≡ old.made
@@ -82,13 +85,6 @@ pub record IsCoreSending (old : CoreState) (result : Result Closed Refusal) (new
   pub sending : IsSending old.core old.sends result new.core new.sends
   pub made : new.made ≡ old.made
 
--- a step of the store with which no group is received and no mark is published
-pub record IsQuietStep {D A : Type 0} (d : Ghosts D) (old : StoreState D) (call : StoreCall)
-    (result : Result A Refusal) (new : StoreState D) : Type 0 where
-  pub step : IsStoreStep d old.store call result new.store
-  pub received : new.received ≡ old.received
-  pub published : new.published ≡ old.published
-
 -- the next group, which begins at the store's mark, is being appended
 pub record HasTaken {D : Type 0} (d : Ghosts D) (old new : StoreState D) : Type 0 where
   pub group : GroupData
@@ -109,17 +105,24 @@ pub record IsNotTaken {D : Type 0} (old : StoreState D) (e : Refusal) (new : Sto
     pub received : new.received ≡ old.received
     pub published : new.published ≡ old.published
 
--- what is published once the mark is durable
-abbrev pub published_after : {A : Type 0} → ℕ → Result A Refusal → ℕ → ℕ
-published_after published (Ok a) mark = max published mark
-published_after published (Err e) mark = published
+-- the next group is taken, or not
+abbrev pub IsTaking : {D A : Type 0} → Ghosts D → StoreState D → Result A Refusal → StoreState D
+    → Type 0
+IsTaking d old (Ok a) new = HasTaken d old new
+IsTaking d old (Err e) new = IsNotTaken old e new
 
--- the gate of the group that was being appended is opened, and its mark is published
-pub record IsAppendStep {D A : Type 0} (d : Ghosts D) (old : StoreState D)
-    (result : Result A Refusal) (new : StoreState D) : Type 0 where
-  pub step : IsStoreStep d old.store AppendOpen result new.store
+-- what is published behind a call: also a mark that it answers durable
+abbrev pub published_by : ℕ → Result Done Refusal → ℕ
+published_by published (Ok (Durable mark)) = max published mark
+published_by published result = published
+
+-- A call of the store: no group is received, and a mark that is durable then is published.
+pub record IsLockedCall {D : Type 0} (d : Ghosts D) (old : StoreState D) (call : StoreCall)
+    (result : Result Done Refusal) (new : StoreState D) : Type 0 where
+  pub step : IsStoreStep d old.store (Call call) result new.store
+  pub answers : IfOk result (λ done. AnswersCall d old.store call done new.store)
   pub received : new.received ≡ old.received
-  pub published : new.published ≡ published_after old.published result (mark_of new.store)
+  pub published : new.published ≡ published_by old.published result
 
 -- ---- a session
 

@@ -1,5 +1,6 @@
 -- What collecting under the lock of the core comes to.
-use Rattle.std.specs.Prelude.{◌≡◌, ◌+◌, ℕ, min}
+use Rattle.std.specs.Prelude.{◌≡◌, ◌+◌, ◌-◌, ◌^◌, ◌<◌, ℕ, min, List, [], ◌∷◌, ◌++◌}
+use Rattle.std.specs.List.{AllByRecursion, sum}
 use Rattle.mvo_theory.specs.State.{State}
 use Rattle.mvo_core.specs.Collection.{Collection}
 use Rattle.mvo_core.specs.Garbage.{horizon, garbage_count}
@@ -26,3 +27,16 @@ pub record HasCollectedUpTo (old : CoreState) (most n : ℕ) (new : CoreState) :
   pub stands : StandsAsBefore old.core new.core
   pub core : new.core ≡ record old.core { versions = new.core.versions }
   pub rest : new ≡ record old { core = new.core }
+
+-- so many were collected under the lock of the core, which was taken for it
+abbrev pub WasCollected : ℕ → ℕ → Type 0
+WasCollected most n = (old new : CoreState) × HasCollectedUpTo old most n new
+
+-- Collections alone, one after another, each of at most so many, up to the first of fewer, which
+-- left no garbage. The answer is the sum, as far as a number says it.
+pub record HaveCollected (most all : ℕ) : Type 0 where
+  pub before : List ℕ
+  pub last : ℕ
+  pub fewer : last < most
+  pub each : AllByRecursion (WasCollected most) (before ++ last ∷ [])
+  pub sum : all ≡ min (sum (before ++ last ∷ [])) (2 ^ 64 - 1)

@@ -6,7 +6,7 @@ pub mod Opened
 pub mod States
 pub mod Calls
 pub mod Legal
-pub mod Logging
+pub mod Jobs
 pub mod Flushing
 pub mod Collecting
 pub mod Booked

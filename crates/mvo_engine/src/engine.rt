@@ -1,3 +1,4 @@
+mod call_by_call;
 mod jobs;
 
 ghost use Rattle.std.specs.Prelude.{◌≡◌};
@@ -57,6 +58,9 @@ impl<L: Run, D: Disk, G: Gate + Drop> Engine<L, D, G> {
     ghost use Rattle.mvo_engine.specs.Audited.{IsAudited};
     ghost use Rattle.mvo_engine.specs.Opened.{IsNamedBy};
     ghost use Rattle.mvo_engine.specs.Sound.{GivesSome};
+    ghost use Rattle.mvo_engine.specs.declared.engine.TheConstants.{AT_ONCE};
+    ghost use Rattle.mvo_engine.specs.Collecting.{HaveCollected};
+    ghost use Rattle.mvo_engine.specs.Flushing.{IsClosingFirst, IsWholeFlush};
 
     /// An engine of these parts, which name its run.
     pub fn new(fresh: Fresh<D>, gate: G) -> Engine<L, D, G>
@@ -107,12 +111,19 @@ impl<L: Run, D: Disk, G: Gate + Drop> Engine<L, D, G> {
     /// Refused, what was made durable stays so: OutOfMemory, Down, DiskFault, and where the log has
     /// to be rotated ClockSpent, SegmentsFull, and Busy beside a job: a job that a refusal stopped
     /// is brought on by its own steps alone, under the guard of the store.
-    pub fn flush<R: Wait>(&self, rt: &R) -> Result<Stamp, Refusal> {
-        self.close_group(rt)?;
+    pub fn flush<R: Wait>(&self, rt: &R) -> Result<Stamp, Refusal>
+        ensures { IsWholeFlush D.Disk result }
+    {
+        match self.close_group(rt) {
+            Ok(()) => {}
+            Err(refusal) => return Err(refusal),
+        }
         for _ in rt.forever() {
             let mut store = self.lock_store(rt);
-            if !store.flush_one()? {
-                return Ok(store.mark());
+            match store.flush_one() {
+                Ok(true) => {}
+                Ok(false) => return Ok(store.mark()),
+                Err(refusal) => return Err(refusal),
             }
         }
         unreachable!()
@@ -122,21 +133,25 @@ impl<L: Run, D: Disk, G: Gate + Drop> Engine<L, D, G> {
     /// garbage depends on the start of the tale (`CoreGuard::trim_tale`), so it is called behind a
     /// trim. The lock of the core is given back after each 128 versions, so that sessions go on
     /// meanwhile; those that come to be garbage in the meantime are taken too. It takes no memory.
-    pub fn collect<R: Wait>(&self, rt: &R) -> u64 {
+    pub fn collect<R: Wait>(&self, rt: &R) -> u64
+        ensures { HaveCollected AT_ONCE result }
+    {
         let mut all = 0u64;
         for _ in rt.forever() {
             let taken = self.enter_core(rt).collect_up_to(AT_ONCE);
             all = all.saturating_add(taken);
             if taken < AT_ONCE {
-                break;
+                return all;
             }
             thread::yield_now();
         }
-        all
+        unreachable!()
     }
 
     // Closes the next group, where there is one to close and room for it.
-    fn close_group<R: Wait>(&self, rt: &R) -> Result<(), Refusal> {
+    fn close_group<R: Wait>(&self, rt: &R) -> Result<(), Refusal>
+        ensures { IsClosingFirst result }
+    {
         match self.enter_core(rt).close_group(&self.marks) {
             Ok(_) => Ok(()),
             Err(Refusal::NothingToDo | Refusal::RingFull) => Ok(()),

@@ -4,7 +4,7 @@ use crate::sends::Sends;
 use mvo_core::{Closed, Collection, Core, Finishing, Settlement, Tale, Validation};
 use mvo_disk::Disk;
 use mvo_marks::{Marks, Seat};
-use mvo_types::{Answer, Refusal, Row, RowKey, Stamp, TxId};
+use mvo_types::{Answer, Op, Refusal, Stamp, TxId};
 use std::alloc::Global;
 use std::marker::Model;
 use std::sync::ledger::{Book, Share};
@@ -59,7 +59,6 @@ impl<L: Run> Model for LockedCore<L> {
 
 impl<L: Run> LockedCore<L> {
     ghost use Rattle.std.specs.Prelude.{◌≡◌, ◌≤◌, ◌+◌, ◌<◌, [], true, IfOk, IfErr, IfSome};
-    ghost use Rattle.mvo_types.specs.declared.op.Op.TheVariants as Op;
     ghost use Rattle.mvo_types.specs.declared.refusal.Refusal.{Refusal};
     ghost use Rattle.mvo_theory.specs.Calls.Call.{Do, Precommit, Validate};
     ghost use Rattle.mvo_theory.specs.Calls.Call.{Rollback, Finish, Trim};
@@ -230,44 +229,12 @@ impl<L: Run> LockedCore<L> {
         self.core.begin_tx()
     }
 
-    /// As `Core::read`.
-    pub fn read(&mut self, tx: TxId, key: RowKey) -> Result<Answer, Refusal>
-        ensures step { IsCoreStep self.old (Do tx.0 (Op.Read key)) result self.new }
-        ensures answer { IfOk result (IsAnswered self.old.core tx.0 (Op.Read key)) }
+    /// As `Core::operate`.
+    pub fn operate(&mut self, tx: TxId, op: Op) -> Result<Answer, Refusal>
+        ensures step { IsCoreStep self.old (Do tx.0 op) result self.new }
+        ensures answer { IfOk result (IsAnswered self.old.core tx.0 op) }
     {
-        self.core.read(tx, key)
-    }
-
-    /// As `Core::scan`.
-    pub fn scan(&mut self, tx: TxId, table: u8, lo: u64, hi: u64) -> Result<Answer, Refusal>
-        ensures step { IsCoreStep self.old (Do tx.0 (Op.Scan table lo hi)) result self.new }
-        ensures answer { IfOk result (IsAnswered self.old.core tx.0 (Op.Scan table lo hi)) }
-    {
-        self.core.scan(tx, table, lo, hi)
-    }
-
-    /// As `Core::insert`.
-    pub fn insert(&mut self, tx: TxId, row: Row) -> Result<Answer, Refusal>
-        ensures step { IsCoreStep self.old (Do tx.0 (Op.Insert row)) result self.new }
-        ensures answer { IfOk result (IsAnswered self.old.core tx.0 (Op.Insert row)) }
-    {
-        self.core.insert(tx, row)
-    }
-
-    /// As `Core::update`.
-    pub fn update(&mut self, tx: TxId, row: Row) -> Result<Answer, Refusal>
-        ensures step { IsCoreStep self.old (Do tx.0 (Op.Update row)) result self.new }
-        ensures answer { IfOk result (IsAnswered self.old.core tx.0 (Op.Update row)) }
-    {
-        self.core.update(tx, row)
-    }
-
-    /// As `Core::delete`.
-    pub fn delete(&mut self, tx: TxId, key: RowKey) -> Result<Answer, Refusal>
-        ensures step { IsCoreStep self.old (Do tx.0 (Op.Delete key)) result self.new }
-        ensures answer { IfOk result (IsAnswered self.old.core tx.0 (Op.Delete key)) }
-    {
-        self.core.delete(tx, key)
+        self.core.operate(tx, op)
     }
 
     /// As `Core::precommit`.

@@ -3,7 +3,7 @@ use crate::run::Run;
 use mvo_disk::Disk;
 use mvo_group::Group;
 use mvo_marks::{Marks, Publisher, Seat};
-use mvo_store::{Durable, Generation, Manifest, Progress, Reclaimed, Store};
+use mvo_store::{Done, Manifest, Store, StoreCall};
 use mvo_types::{Refusal, Stamp};
 use rtrb::{Consumer, Producer};
 use std::alloc::Global;
@@ -59,24 +59,16 @@ impl<L: Run, D: Disk> Model for LockedStore<L, D> {
 
 impl<L: Run, D: Disk> LockedStore<L, D> {
     ghost use Rattle.std.specs.Prelude.{◌≡◌, ◌≤◌, ◌++◌, List, Some};
-    ghost use Rattle.std.specs.Prelude.{OnOk, IfOk, IfErr};
+    ghost use Rattle.std.specs.Prelude.{OnOk, IfErr};
     ghost use Rattle.rtrb.specs.Ring.{sent, received};
     ghost use Rattle.mvo_group.specs.Data.{GroupData};
     ghost use Rattle.mvo_disk.specs.Disk.{IsHonest};
     ghost use Rattle.mvo_engine.specs.Opening.{WasFormatted};
     ghost use Rattle.mvo_store.specs.Seen.{disk_of, mark_of, installed_manifest};
     ghost use Rattle.mvo_store.specs.Causes.{why_not_take};
-    ghost use Rattle.mvo_store.specs.Calls.StoreCall.{AppendBody, RotateWrite};
-    ghost use Rattle.mvo_store.specs.Calls.StoreCall.{CheckpointRead, CheckpointData};
-    ghost use Rattle.mvo_store.specs.Calls.StoreCall.{CheckpointDelta};
-    ghost use Rattle.mvo_store.specs.Calls.StoreCall.{MergeRead, MergeData, MergeDelta};
-    ghost use Rattle.mvo_store.specs.Calls.StoreCall.{InstallClose, InstallBody, InstallOpen};
-    ghost use Rattle.mvo_store.specs.Calls.StoreCall.{Reclaim};
-    ghost use Rattle.mvo_store.specs.Calls.{AnswersMark, AnswersGeneration, AnswersProgress};
-    ghost use Rattle.mvo_store.specs.Reclaiming.{HasReclaimed};
     ghost use Rattle.mvo_engine.specs.run.Rings.{ring_of, ring_from};
     ghost use Rattle.mvo_engine.specs.Sound.{IsSoundStore, GivesReceived, LeavesReceived};
-    ghost use Rattle.mvo_engine.specs.Calls.{IsQuietStep, IsAppendStep, HasTaken, IsNotTaken};
+    ghost use Rattle.mvo_engine.specs.Calls.{IsLockedCall, HasTaken, IsNotTaken};
 
     /// A store with its end of the ring and the publishing seat.
     pub fn new(
@@ -177,112 +169,22 @@ impl<L: Run, D: Disk> LockedStore<L, D> {
         };
         // A look at a field: from then on the proof knows that the group keeps its rules.
         let _ = group.mark();
-        match self.store.take_group(group) {
-            Ok(()) => Ok(()),
-            Err((refusal, _)) => Err(refusal),
-        }
+        self.store.accept_group(group);
+        Ok(())
     }
 
-    /// As `Store::append_body`.
-    pub fn append_body(&mut self) -> Result<(), Refusal>
-        ensures { IsQuietStep D.Disk self.old AppendBody result self.new }
-    {
-        self.store.append_body()
-    }
-
-    /// As `Store::append_open`, and publishes the mark that is durable then.
-    pub fn append_open(&mut self, marks: &Marks) -> Result<Durable, Refusal>
+    /// As `Store::call`. A mark that is durable then is published.
+    pub fn call(&mut self, marks: &Marks, call: StoreCall) -> Result<Done, Refusal>
         requires { marks.now ≡ L.marks }
-        ensures step { IsAppendStep D.Disk self.old result self.new }
-        ensures mark { IfOk result (AnswersMark self.new.store) }
+        ensures { IsLockedCall D.Disk self.old call result self.new }
     {
-        match self.store.append_open() {
-            Ok(durable) => {
+        match self.store.call(call) {
+            Ok(Done::Durable(durable)) => {
                 marks.publish(&mut self.publisher, &durable);
-                Ok(durable)
+                Ok(Done::Durable(durable))
             }
+            Ok(done) => Ok(done),
             Err(refusal) => Err(refusal),
         }
-    }
-
-    /// As `Store::rotate_write`.
-    pub fn rotate_write(&mut self) -> Result<(), Refusal>
-        ensures { IsQuietStep D.Disk self.old RotateWrite result self.new }
-    {
-        self.store.rotate_write()
-    }
-
-    /// As `Store::checkpoint_read`.
-    pub fn checkpoint_read(&mut self) -> Result<(), Refusal>
-        ensures { IsQuietStep D.Disk self.old CheckpointRead result self.new }
-    {
-        self.store.checkpoint_read()
-    }
-
-    /// As `Store::checkpoint_data`.
-    pub fn checkpoint_data(&mut self) -> Result<(), Refusal>
-        ensures { IsQuietStep D.Disk self.old CheckpointData result self.new }
-    {
-        self.store.checkpoint_data()
-    }
-
-    /// As `Store::checkpoint_delta`.
-    pub fn checkpoint_delta(&mut self) -> Result<Progress, Refusal>
-        ensures step { IsQuietStep D.Disk self.old CheckpointDelta result self.new }
-        ensures progress { IfOk result (AnswersProgress self.old.store) }
-    {
-        self.store.checkpoint_delta()
-    }
-
-    /// As `Store::merge_read`.
-    pub fn merge_read(&mut self, place: usize) -> Result<(), Refusal>
-        ensures { IsQuietStep D.Disk self.old (MergeRead place) result self.new }
-    {
-        self.store.merge_read(place)
-    }
-
-    /// As `Store::merge_data`.
-    pub fn merge_data(&mut self) -> Result<(), Refusal>
-        ensures { IsQuietStep D.Disk self.old MergeData result self.new }
-    {
-        self.store.merge_data()
-    }
-
-    /// As `Store::merge_delta`.
-    pub fn merge_delta(&mut self) -> Result<(), Refusal>
-        ensures { IsQuietStep D.Disk self.old MergeDelta result self.new }
-    {
-        self.store.merge_delta()
-    }
-
-    /// As `Store::install_close`.
-    pub fn install_close(&mut self) -> Result<(), Refusal>
-        ensures { IsQuietStep D.Disk self.old InstallClose result self.new }
-    {
-        self.store.install_close()
-    }
-
-    /// As `Store::install_body`.
-    pub fn install_body(&mut self) -> Result<(), Refusal>
-        ensures { IsQuietStep D.Disk self.old InstallBody result self.new }
-    {
-        self.store.install_body()
-    }
-
-    /// As `Store::install_open`.
-    pub fn install_open(&mut self) -> Result<Generation, Refusal>
-        ensures step { IsQuietStep D.Disk self.old InstallOpen result self.new }
-        ensures generation { IfOk result (λ g. AnswersGeneration self.new.store g.0) }
-    {
-        self.store.install_open()
-    }
-
-    /// As `Store::reclaim`.
-    pub fn reclaim(&mut self) -> Result<Reclaimed, Refusal>
-        ensures step { IsQuietStep D.Disk self.old Reclaim result self.new }
-        ensures reclaimed { IfOk result (λ answer.
-            HasReclaimed D.Disk self.old.store answer self.new.store) }
-    {
-        self.store.reclaim()
     }
 }

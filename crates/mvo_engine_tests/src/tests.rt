@@ -1,4 +1,5 @@
 mod beside;
+mod calls;
 mod counting;
 mod depending;
 mod down;

@@ -1,7 +1,6 @@
 //! Workers and their jobs: each job is taken once, first in first out, or is left.
 #![tactic(auto)]
 
-mod done;
 mod front;
 mod handing_out;
 mod hired;
@@ -13,6 +12,7 @@ mod outcome;
 mod rule;
 mod serving;
 mod ticket;
+mod worker_end;
 mod workers;
 
 pub use front::Front;

@@ -3,13 +3,13 @@ ghost use Rattle.std.specs.Prelude.{◌≡◌, ◌<◌, ◌++◌, ◌∷◌, [],
 ghost use Rattle.mvo_front.specs.Outcomes.{AreOutcomes, outcome_numbers};
 ghost use Rattle.mvo_front.specs.Queue.{IsButForTaken, worker};
 
-use crate::done::Done;
 use crate::front::Front;
 use crate::job::Job;
 use crate::job_queue::JobQueue;
 use crate::job_work::JobWork;
 use crate::outcome::Outcome;
 use crate::ticket::Ticket;
+use crate::worker_end::WorkerEnd;
 use std::sync::Wait;
 
 /// Runs a job that was taken.
@@ -95,12 +95,12 @@ pub fn serve<L: JobQueue, W: JobWork, R: Wait>(
     front: &Front<L>,
     ticket: Ticket<L>,
     outcomes: Vec<Outcome>,
-) -> Done<L>
+) -> WorkerEnd<L>
     requires new { ticket ≡ worker }
     requires none { vec_len outcomes ≡ 0 }
 {
     let mut ticket = ticket;
     let mut outcomes = outcomes;
     serve_all(rt, work, front, &mut ticket, &mut outcomes);
-    Done::new(ticket, outcomes)
+    WorkerEnd::new(ticket, outcomes)
 }

@@ -5,7 +5,6 @@ ghost use Rattle.mvo_front.specs.Named.{IsQueueNamedBy};
 ghost use Rattle.mvo_front.specs.Outcomes.{AreAnswered, AreOutcomes};
 ghost use Rattle.mvo_front.specs.Queue.{first_hand, hand};
 
-use crate::done::Done;
 use crate::front::Front;
 use crate::handing_out::hand_out;
 use crate::hired::Hired;
@@ -16,6 +15,7 @@ use crate::new_queue::NewQueue;
 use crate::outcome::Outcome;
 use crate::serving::serve;
 use crate::ticket::Ticket;
+use crate::worker_end::WorkerEnd;
 use std::alloc::{AllocError, Global};
 use std::marker::Brand;
 use std::sync::Wait;
@@ -101,7 +101,7 @@ fn serve_hired<L: JobQueue, W: JobWork, R: Wait>(
     work: &W,
     front: &Front<L>,
     hired: Hired<L>,
-) -> Done<L> {
+) -> WorkerEnd<L> {
     let Hired { ticket, outcomes } = hired;
     serve(rt, work, front, ticket, outcomes)
 }
@@ -113,7 +113,7 @@ fn gather<L: JobQueue, R: Wait>(
     front: &Front<L>,
     ticket: Ticket<L>,
     outcomes: Vec<Outcome>,
-    done: Vec<Done<L>>,
+    done: Vec<WorkerEnd<L>>,
 ) -> Result<Vec<Outcome>, AllocError>
     requires pushes { ticket.pushes ≡ true }
     requires parts { ticket.parts + vec_len done ≡ 1024 }
@@ -133,7 +133,7 @@ fn gather<L: JobQueue, R: Wait>(
 fn take_back<L: JobQueue>(
     front: &Front<L>,
     ticket: &mut Ticket<L>,
-    done: Vec<Done<L>>,
+    done: Vec<WorkerEnd<L>>,
     outcomes: &mut Vec<Outcome>,
 ) -> Result<(), AllocError>
     requires { AreOutcomes outcomes.old.items ticket.old.taken }
@@ -144,7 +144,7 @@ fn take_back<L: JobQueue>(
 {
     let mut done = done;
     while let Some(one) = done.pop() {
-        let Done {
+        let WorkerEnd {
             ticket: theirs,
             outcomes: mut more,
         } = one;

@@ -4,6 +4,7 @@ use Rattle.std.proofs.Common.{◌≡◌, ◌≢◌, ℕ, List, [], Option, Some,
 use Rattle.std.specs.Prelude.{IsSome, IsSomeAnd, MatchOption}
 use Rattle.std.specs.Borrow.{Bor}
 use Rattle.mvo_types.specs.declared.ids.TxId.{TxId}
+use Rattle.mvo_types.specs.declared.op.Op.TheVariants as op
 use Rattle.mvo_world.specs.WorldData.{WorldData}
 use Rattle.mvo_world.specs.declared.event.Event.{Event}
 use Rattle.mvo_world.specs.declared.event.Event.TheVariants as event
@@ -56,11 +57,11 @@ pub has_event : (l : Line) (tx : TxId) → IsSome (name_in l) → ((n : Bor (Lis
     ((n : Bor (List ℕ)) → l ≢ line.Commit n) → ((n : Bor (List ℕ)) → l ≢ line.Poll n) →
     (e : Event) × (event_by l tx ≡ Some e)
 has_event (line.Begin n) tx is i u s c p = absurd (not_some None refl is)
-has_event (line.Read n k) tx is i u s c p = (event.Read tx k, refl)
-has_event (line.Scan n k) tx is i u s c p = (event.Scan tx k.table k.lo k.hi, refl)
+has_event (line.Read n k) tx is i u s c p = (event.Do tx (op.Read k), refl)
+has_event (line.Scan n k) tx is i u s c p = (event.Do tx (op.Scan k.table k.lo k.hi), refl)
 has_event (line.Insert n k) tx is i u s c p = absurd (i n k refl)
 has_event (line.Update n k) tx is i u s c p = absurd (u n k refl)
-has_event (line.Delete n k) tx is i u s c p = (event.Delete tx k, refl)
+has_event (line.Delete n k) tx is i u s c p = (event.Do tx (op.Delete k), refl)
 has_event (line.Precommit n) tx is i u s c p = (event.Precommit tx, refl)
 has_event (line.Validate n) tx is i u s c p = (event.Validate tx, refl)
 has_event (line.Settle n) tx is i u s c p = absurd (s n refl)
@@ -72,23 +73,11 @@ has_event line.Collect tx is i u s c p = absurd (not_some None refl is)
 has_event (line.Trim j) tx is i u s c p = absurd (not_some None refl is)
 has_event line.Group tx is i u s c p = absurd (not_some None refl is)
 has_event line.Take tx is i u s c p = absurd (not_some None refl is)
-has_event line.Body tx is i u s c p = absurd (not_some None refl is)
-has_event line.Open tx is i u s c p = absurd (not_some None refl is)
 has_event line.Flush tx is i u s c p = absurd (not_some None refl is)
-has_event line.RotateWrite tx is i u s c p = absurd (not_some None refl is)
-has_event line.CheckpointRead tx is i u s c p = absurd (not_some None refl is)
-has_event line.CheckpointData tx is i u s c p = absurd (not_some None refl is)
-has_event line.CheckpointDelta tx is i u s c p = absurd (not_some None refl is)
-has_event (line.MergeRead j) tx is i u s c p = absurd (not_some None refl is)
-has_event line.MergeData tx is i u s c p = absurd (not_some None refl is)
-has_event line.MergeDelta tx is i u s c p = absurd (not_some None refl is)
-has_event line.InstallClose tx is i u s c p = absurd (not_some None refl is)
-has_event line.InstallBody tx is i u s c p = absurd (not_some None refl is)
-has_event line.InstallOpen tx is i u s c p = absurd (not_some None refl is)
 has_event line.Rotate tx is i u s c p = absurd (not_some None refl is)
 has_event line.Checkpoint tx is i u s c p = absurd (not_some None refl is)
 has_event (line.Merge j) tx is i u s c p = absurd (not_some None refl is)
-has_event line.Reclaim tx is i u s c p = absurd (not_some None refl is)
+has_event (line.Store call) tx is i u s c p = absurd (not_some None refl is)
 
 -- that of a line of no transaction, which is none of these
 pub has_step : (l : Line) → name_in l ≡ None → ((n : Bor (List ℕ)) → l ≢ line.Begin n) → l ≢ line.Flush → l ≢ line.Rotate →
@@ -110,23 +99,11 @@ has_step line.Collect is b f r c m = (event.Collect, refl)
 has_step (line.Trim j) is b f r c m = (event.Trim j, refl)
 has_step line.Group is b f r c m = (event.CloseGroup, refl)
 has_step line.Take is b f r c m = (event.TakeGroup, refl)
-has_step line.Body is b f r c m = (event.AppendBody, refl)
-has_step line.Open is b f r c m = (event.AppendOpen, refl)
 has_step line.Flush is b f r c m = absurd (f refl)
-has_step line.RotateWrite is b f r c m = (event.RotateWrite, refl)
-has_step line.CheckpointRead is b f r c m = (event.CheckpointRead, refl)
-has_step line.CheckpointData is b f r c m = (event.CheckpointData, refl)
-has_step line.CheckpointDelta is b f r c m = (event.CheckpointDelta, refl)
-has_step (line.MergeRead i) is b f r c m = (event.MergeRead i, refl)
-has_step line.MergeData is b f r c m = (event.MergeData, refl)
-has_step line.MergeDelta is b f r c m = (event.MergeDelta, refl)
-has_step line.InstallClose is b f r c m = (event.InstallClose, refl)
-has_step line.InstallBody is b f r c m = (event.InstallBody, refl)
-has_step line.InstallOpen is b f r c m = (event.InstallOpen, refl)
 has_step line.Rotate is b f r c m = absurd (r refl)
 has_step line.Checkpoint is b f r c m = absurd (c refl)
 has_step (line.Merge i) is b f r c m = absurd (m i refl)
-has_step line.Reclaim is b f r c m = (event.Reclaim, refl)
+has_step (line.Store call) is b f r c m = (event.Store call, refl)
 
 module _ {D : Type 0} (P : WorldData D → Event → Reply → WorldData D → Type 0) where
   by_text : (d : Driver D) (l : Line) (b : BoundTx) (r : Reply) (d' : Driver D) → bound_by d.names (text_of (name_in l)) ≡ Some b →
@@ -149,23 +126,11 @@ module _ {D : Type 0} (P : WorldData D → Event → Reply → WorldData D → T
   by_text d (line.Trim j) b r d' bound it = absurd it
   by_text d line.Group b r d' bound it = absurd it
   by_text d line.Take b r d' bound it = absurd it
-  by_text d line.Body b r d' bound it = absurd it
-  by_text d line.Open b r d' bound it = absurd it
   by_text d line.Flush b r d' bound it = absurd it
-  by_text d line.RotateWrite b r d' bound it = absurd it
-  by_text d line.CheckpointRead b r d' bound it = absurd it
-  by_text d line.CheckpointData b r d' bound it = absurd it
-  by_text d line.CheckpointDelta b r d' bound it = absurd it
-  by_text d (line.MergeRead i) b r d' bound it = absurd it
-  by_text d line.MergeData b r d' bound it = absurd it
-  by_text d line.MergeDelta b r d' bound it = absurd it
-  by_text d line.InstallClose b r d' bound it = absurd it
-  by_text d line.InstallBody b r d' bound it = absurd it
-  by_text d line.InstallOpen b r d' bound it = absurd it
   by_text d line.Rotate b r d' bound it = absurd it
   by_text d line.Checkpoint b r d' bound it = absurd it
   by_text d (line.Merge i) b r d' bound it = absurd it
-  by_text d line.Reclaim b r d' bound it = absurd it
+  by_text d (line.Store call) b r d' bound it = absurd it
 
   -- what is answered for the transaction that the name is bound to answers the line
   pub by_bound : (d : Driver D) (l : Line) (name : List ℕ) (b : BoundTx) (r : Reply) (d' : Driver D) → name_in l ≡ Some name →
@@ -195,23 +160,11 @@ module _ {D : Type 0} (P : WorldData D → Event → Reply → WorldData D → T
   by_event d (line.Trim j) name b e r d' is it = absurd (cc)
   by_event d line.Group name b e r d' is it = absurd (cc)
   by_event d line.Take name b e r d' is it = absurd (cc)
-  by_event d line.Body name b e r d' is it = absurd (cc)
-  by_event d line.Open name b e r d' is it = absurd (cc)
   by_event d line.Flush name b e r d' is it = absurd (cc)
-  by_event d line.RotateWrite name b e r d' is it = absurd (cc)
-  by_event d line.CheckpointRead name b e r d' is it = absurd (cc)
-  by_event d line.CheckpointData name b e r d' is it = absurd (cc)
-  by_event d line.CheckpointDelta name b e r d' is it = absurd (cc)
-  by_event d (line.MergeRead i) name b e r d' is it = absurd (cc)
-  by_event d line.MergeData name b e r d' is it = absurd (cc)
-  by_event d line.MergeDelta name b e r d' is it = absurd (cc)
-  by_event d line.InstallClose name b e r d' is it = absurd (cc)
-  by_event d line.InstallBody name b e r d' is it = absurd (cc)
-  by_event d line.InstallOpen name b e r d' is it = absurd (cc)
   by_event d line.Rotate name b e r d' is it = absurd (cc)
   by_event d line.Checkpoint name b e r d' is it = absurd (cc)
   by_event d (line.Merge i) name b e r d' is it = absurd (cc)
-  by_event d line.Reclaim name b e r d' is it = absurd (cc)
+  by_event d (line.Store call) name b e r d' is it = absurd (cc)
 
   -- the one step that a line of no transaction asks for
   pub by_step : (d : Driver D) (l : Line) (e : Event) (r : Reply) (d' : Driver D) → event_of_line l ≡ Some e → IsStepOf P d e r d' → IsAnswerTo P d l r d'
@@ -232,23 +185,11 @@ module _ {D : Type 0} (P : WorldData D → Event → Reply → WorldData D → T
   by_step d (line.Trim j) e r d' is it = subst (λ (x : Event). IsStepOf P d x r d') (sym (event_same _ _ is)) it
   by_step d line.Group e r d' is it = subst (λ (x : Event). IsStepOf P d x r d') (sym (event_same _ _ is)) it
   by_step d line.Take e r d' is it = subst (λ (x : Event). IsStepOf P d x r d') (sym (event_same _ _ is)) it
-  by_step d line.Body e r d' is it = subst (λ (x : Event). IsStepOf P d x r d') (sym (event_same _ _ is)) it
-  by_step d line.Open e r d' is it = subst (λ (x : Event). IsStepOf P d x r d') (sym (event_same _ _ is)) it
   by_step d line.Flush e r d' is it = absurd (cc)
-  by_step d line.RotateWrite e r d' is it = subst (λ (x : Event). IsStepOf P d x r d') (sym (event_same _ _ is)) it
-  by_step d line.CheckpointRead e r d' is it = subst (λ (x : Event). IsStepOf P d x r d') (sym (event_same _ _ is)) it
-  by_step d line.CheckpointData e r d' is it = subst (λ (x : Event). IsStepOf P d x r d') (sym (event_same _ _ is)) it
-  by_step d line.CheckpointDelta e r d' is it = subst (λ (x : Event). IsStepOf P d x r d') (sym (event_same _ _ is)) it
-  by_step d (line.MergeRead i) e r d' is it = subst (λ (x : Event). IsStepOf P d x r d') (sym (event_same _ _ is)) it
-  by_step d line.MergeData e r d' is it = subst (λ (x : Event). IsStepOf P d x r d') (sym (event_same _ _ is)) it
-  by_step d line.MergeDelta e r d' is it = subst (λ (x : Event). IsStepOf P d x r d') (sym (event_same _ _ is)) it
-  by_step d line.InstallClose e r d' is it = subst (λ (x : Event). IsStepOf P d x r d') (sym (event_same _ _ is)) it
-  by_step d line.InstallBody e r d' is it = subst (λ (x : Event). IsStepOf P d x r d') (sym (event_same _ _ is)) it
-  by_step d line.InstallOpen e r d' is it = subst (λ (x : Event). IsStepOf P d x r d') (sym (event_same _ _ is)) it
   by_step d line.Rotate e r d' is it = absurd (cc)
   by_step d line.Checkpoint e r d' is it = absurd (cc)
   by_step d (line.Merge i) e r d' is it = absurd (cc)
-  by_step d line.Reclaim e r d' is it = subst (λ (x : Event). IsStepOf P d x r d') (sym (event_same _ _ is)) it
+  by_step d (line.Store call) e r d' is it = subst (λ (x : Event). IsStepOf P d x r d') (sym (event_same _ _ is)) it
 
   -- a commit of the transaction that the name is bound to
   pub by_commit : (d : Driver D) (l : Line) (n : Bor (List ℕ)) (name : List ℕ) (b : BoundTx) (r : Reply) (d' : Driver D) → l ≡ line.Commit n →

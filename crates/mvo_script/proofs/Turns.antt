@@ -4,30 +4,27 @@ use Rattle.std.specs.Option.{option_to_list}
 use Rattle.std.specs.Prelude.{is_some}
 use Rattle.mvo_types.specs.declared.refusal.Refusal.{Refusal}
 use Rattle.mvo_types.specs.declared.refusal.Refusal.TheVariants.{Busy, NothingToDo, RingFull, SegmentFull, Down}
-use Rattle.mvo_group.specs.Data.{GroupData}
-use Rattle.mvo_core.specs.declared.answers.Closed.{Closed as ClosedGroup}
 use Rattle.mvo_disk.specs.declared.disk.Disk.{Ghosts}
 use Rattle.mvo_store.specs.Seen.{pending_of}
 use Rattle.mvo_types.specs.Causes.{when, first_cause}
-use Rattle.mvo_store.specs.Causes.{why_not_take}
-use Rattle.mvo_store.specs.Calls.{StoreCall}
-use Rattle.mvo_store.specs.Calls.StoreCall.{AppendBody as AppendBodyCall, RotateWrite as RotateWriteCall, InstallClose as InstallCloseCall, InstallBody as InstallBodyCall, InstallOpen as InstallOpenCall}
-use Rattle.mvo_store.specs.declared.append.log_step.LogStep.{LogStep}
-use Rattle.mvo_store.specs.declared.append.log_step.LogStep.TheVariants.{Take, AppendBody, AppendOpen, RotateWrite, InstallClose, InstallBody, InstallOpen}
-use Rattle.mvo_store.specs.Flushing.{IsTurn, IsAppend, IsRotatedAppend, AreUntilStop, group_append, log_rotation, turn_goes_on}
+use Rattle.mvo_store.specs.Calls.StoreStep.{Call}
+use Rattle.mvo_store.specs.declared.call.StoreCall.{StoreCall}
+use Rattle.mvo_store.specs.declared.call.StoreCall.TheVariants.{AppendBody, AppendOpen}
+use Rattle.mvo_store.specs.declared.done.Done.{Done}
+use Rattle.mvo_store.specs.declared.done.Done.TheVariants.{Written}
+use Rattle.mvo_store.specs.Flushing.{IsTurn, IsAppend, IsAppendHere, IsRotatedAppend, lets_go_on}
 use Rattle.mvo_store.specs.Flushing.IsAppend.{AtBody, AtOpen, AtFull}
-use Rattle.mvo_store.specs.Flushing.IsRotatedAppend.{AtRotation, AtAppend}
+use Rattle.mvo_store.specs.Flushing.IsAppendHere.{HereAtBody, HereAtOpen}
+use Rattle.mvo_store.specs.Wholes.{AreToRefusal, rotation}
 use Rattle.mvo_store.proofs.Taken.{IsQuiet, quiet_taken}
 use Rattle.mvo_store.specs.StoreData.{StoreData}
 use Rattle.mvo_world.specs.WorldData.{WorldData, waiting}
 use Rattle.mvo_world.specs.Ring.{oldest}
-use Rattle.mvo_world.specs.Replies.{IsReplyTo, IsStored, or_nothing}
-use Rattle.mvo_world.specs.Logging.{IsLogStep, log_event_of, result_of}
-use Rattle.mvo_world.specs.declared.event.Event.{Event}
-use Rattle.mvo_world.specs.declared.event.Event.TheVariants as event
+use Rattle.mvo_world.specs.Replies.{IsReplyTo, IsStored, or_nothing, reply_of}
+use Rattle.mvo_world.specs.Logging.{IsCallBy, IsTakingBy}
 use Rattle.mvo_world.specs.declared.reply.Reply.{Reply}
-use Rattle.mvo_world.specs.declared.reply.Reply.TheVariants.{Closed, Taken, Written, Durable, Ready, Shut, Installed, Refused}
-use Rattle.mvo_script.specs.Flushing.{IsFlush, IsFlushed, stops_close}
+use Rattle.mvo_world.specs.declared.reply.Reply.TheVariants.{Refused}
+use Rattle.mvo_script.specs.Flushing.{stops_close}
 
 -- ---- what stops a flush
 
@@ -37,37 +34,6 @@ close_goes (Refused NothingToDo) h = refl
 close_goes (Refused RingFull) h = refl
 close_goes (Refused why) h = absurd (h why refl (λ e. cc) (λ e. cc))
 close_goes _ h = refl
-
-pub close_stops : {D : Type 0} (d : Ghosts D) (w v : WorldData D) (r : Reply) → IsReplyTo d w event.CloseGroup r v → ((c : ClosedGroup) → r ≢ Closed c) → r ≢ Refused NothingToDo → r ≢ Refused RingFull → stops_close r ≡ true
-close_stops d w v (Closed c) it one two three = absurd (one c refl)
-close_stops d w v (Refused NothingToDo) it one two three = absurd (two refl)
-close_stops d w v (Refused RingFull) it one two three = absurd (three refl)
-close_stops d w v (Refused _) it one two three = refl
-close_stops d w v _ it one two three = absurd it
-
-pub stopped_flush : {D : Type 0} (w : WorldData D) (r : Reply) → stops_close r ≡ true → IsFlushed w r
-stopped_flush w (Refused why) h = tt
-stopped_flush w _ h = cc
-
--- ---- where no group is left
-
-emptied : (down : Bool) (pending : Option GroupData) (ring : List GroupData) → or_nothing (first_cause (when down Down ∷ when (is_some pending) Busy ∷ [])) (oldest ring) ≡ Some NothingToDo → (ring ≡ []) × (pending ≡ None)
-emptied true pending ring h = cc
-emptied false (Some g) ring h = cc
-emptied false None (g ∷ gs) h = cc
-emptied false None [] h = (refl, refl)
-
-pub nothing_left : {D : Type 0} (d : Ghosts D) (w v : WorldData D) → IsLogStep d w Take (Err NothingToDo) v → (v.ring ≡ []) × (pending_of v.store ≡ None)
-nothing_left {D} d w v it = go it.0 it.1 it.2
-  where
-    go : (r : Reply) → IsReplyTo d w event.TakeGroup r v → ◌≡◌ {A = Result (Unit {0}) Refusal} (Err NothingToDo) (result_of r) → (v.ring ≡ []) × (pending_of v.store ≡ None)
-    go (Refused why) asked e =
-        let is : why ≡ NothingToDo = cc e in
-        let cause = subst (λ (x : Refusal). or_nothing (why_not_take w.store) (oldest w.ring) ≡ Some x) is asked.0 in
-        let none = emptied _ _ w.ring cause in
-        (ap (λ (x : WorldData D). x.ring) asked.1 ∙ none.0, ap (λ (x : WorldData D). pending_of x.store) asked.1 ∙ none.1)
-    go Taken asked e = cc
-    go _ asked e = absurd asked
 
 -- ---- how many groups wait
 
@@ -91,119 +57,96 @@ none_pending true pending next h = cc
 none_pending false (Some g) next h = cc
 none_pending false None next h = refl
 
--- the steps of a rotation
-abbrev IsOfRotation : LogStep → Type 0
-IsOfRotation RotateWrite = Unit {0}
-IsOfRotation InstallClose = Unit {0}
-IsOfRotation InstallBody = Unit {0}
-IsOfRotation InstallOpen = Unit {0}
-IsOfRotation s = ⊥
+-- none of the calls takes a group, and none makes one durable
+abbrev AreQuiet : List StoreCall → Type 0
+AreQuiet [] = Unit {0}
+AreQuiet (call ∷ rest) = IsQuiet (Call call) × AreQuiet rest
+
+refused_body : (r : Result Done Refusal) (done : Done) → lets_go_on r ≡ false → r ≡ Ok done → ⊥
+refused_body (Ok a) done stop is = cc
+refused_body (Err e) done stop is = cc
+
+not_refused : (done : Done) (e : Refusal) → reply_of (Ok done) ≡ Refused e → ⊥
+not_refused Written e is = cc
+not_refused _ e is = cc
 
 module _ {D : Type 0} (d : Ghosts D) where
-  stored_keeps : (call : StoreCall) (result : Result (Unit {0}) Refusal) → IsQuiet call → (w v : WorldData D) → IsStored d w call result v → KeepsGroups w v
+  abbrev Comes : WorldData D → StoreCall → Result Done Refusal → WorldData D → Type 0
+  Comes = IsCallBy (IsReplyTo d)
+
+  abbrev Takes : WorldData D → Result (Unit {0}) Refusal → WorldData D → Type 0
+  Takes = IsTakingBy (IsReplyTo d)
+
+  stored_keeps : (call : StoreCall) (result : Result Done Refusal) → IsQuiet (Call call) → (w v : WorldData D) → IsStored d w call result v → KeepsGroups w v
   stored_keeps call result quiet w v it = record {
     ring = ap (λ (x : WorldData D). x.ring) it.rest;
-    pending = (quiet_taken d w.store call result v.store quiet it.comes).pending;
+    pending = (quiet_taken d w.store (Call call) result v.store quiet it.comes).pending;
   }
 
-  step_keeps : (s : LogStep) → IsOfRotation s → (w v : WorldData D) (r : Reply) → IsReplyTo d w (log_event_of s) r v → KeepsGroups w v
-  step_keeps RotateWrite h w v Ready it = stored_keeps RotateWriteCall (Ok tt) tt w v it
-  step_keeps RotateWrite h w v (Refused why) it = stored_keeps RotateWriteCall (Err why) tt w v it
-  step_keeps RotateWrite h w v _ it = absurd it
-  step_keeps InstallClose h w v Shut it = stored_keeps InstallCloseCall (Ok tt) tt w v it
-  step_keeps InstallClose h w v (Refused why) it = stored_keeps InstallCloseCall (Err why) tt w v it
-  step_keeps InstallClose h w v _ it = absurd it
-  step_keeps InstallBody h w v Written it = stored_keeps InstallBodyCall (Ok tt) tt w v it
-  step_keeps InstallBody h w v (Refused why) it = stored_keeps InstallBodyCall (Err why) tt w v it
-  step_keeps InstallBody h w v _ it = absurd it
-  step_keeps InstallOpen h w v (Installed n) it = stored_keeps InstallOpenCall (Ok tt) tt w v it.0
-  step_keeps InstallOpen h w v (Refused why) it = stored_keeps InstallOpenCall (Err why) tt w v it
-  step_keeps InstallOpen h w v _ it = absurd it
-  step_keeps Take h w v r it = absurd h
-  step_keeps AppendBody h w v r it = absurd h
-  step_keeps AppendOpen h w v r it = absurd h
+  quiet_count : (call : StoreCall) → IsQuiet (Call call) → (w v : WorldData D) (r : Result Done Refusal) → Comes w call r v → count v ≡ count w
+  quiet_count call quiet w v r it = kept_count w v (stored_keeps call it.0 quiet w v it.2)
 
-  body_keeps : (w v : WorldData D) (r : Reply) → IsReplyTo d w event.AppendBody r v → turn_goes_on AppendBody (result_of r) ≡ true → KeepsGroups w v
-  body_keeps w v Written it h = stored_keeps AppendBodyCall (Ok tt) tt w v it
-  body_keeps w v (Refused Busy) it h = stored_keeps AppendBodyCall (Err Busy) tt w v it
-  body_keeps w v (Refused _) it h = cc
-  body_keeps w v _ it h = absurd it
+  -- calls up to the first that is refused
+  quiet_counts : (calls : List StoreCall) → AreQuiet calls → (w v : WorldData D) (r : Result Done Refusal) → AreToRefusal Comes calls w r v → count v ≡ count w
+  quiet_counts [] quiet w v r it = absurd it
+  quiet_counts (call ∷ []) quiet w v r it = quiet_count call quiet.0 w v r it
+  quiet_counts (call ∷ next ∷ rest) quiet w v r (inl a) = quiet_count call quiet.0 w v (Err a.0) a.2
+  quiet_counts (call ∷ next ∷ rest) quiet w v r (inr a) =
+      quiet_counts (next ∷ rest) quiet.1 a.1 v r a.3 ∙ quiet_count call quiet.0 w a.1 (Ok a.0) a.2
 
-  full_keeps : (w v : WorldData D) (r : Reply) → IsReplyTo d w event.AppendBody r v → ◌≡◌ {A = Result (Unit {0}) Refusal} (Err SegmentFull) (result_of r) → KeepsGroups w v
-  full_keeps w v Written it h = cc
-  full_keeps w v (Refused why) it h = stored_keeps AppendBodyCall (Err why) tt w v it
-  full_keeps w v _ it h = absurd it
-
-  taken_count : (w v : WorldData D) (r : Reply) → IsReplyTo d w event.TakeGroup r v → turn_goes_on Take (result_of r) ≡ true → count v ≡ count w
-  taken_count w v Taken it h =
+  taken_count : (w v : WorldData D) (r : Result (Unit {0}) Refusal) → Takes w r v → lets_go_on r ≡ true → count v ≡ count w
+  taken_count w v (Ok a) it h =
       let none = none_pending _ _ (oldest w.ring) it.0 in
       let before : count w ≡ length (it.1.group ∷ v.ring) = same_length (pending_of w.store) None w.ring (it.1.group ∷ v.ring) none it.1.there in
       let taken = ap (λ (s : StoreData D). pending_of s) it.1.comes.made.makes in
       let after : count v ≡ length (it.1.group ∷ v.ring) = same_length (pending_of v.store) (Some it.1.group) v.ring v.ring taken refl in
       after ∙ sym before
-  taken_count w v (Refused Busy) it h = ap (λ (x : WorldData D). length (waiting x)) it.1
-  taken_count w v (Refused _) it h = cc
-  taken_count w v _ it h = absurd it
+  taken_count w v (Err Busy) it h = ap (λ (x : WorldData D). length (waiting x)) it.1
+  taken_count w v (Err _) it h = cc
 
-  opened_count : (w v : WorldData D) (r : Reply) → IsReplyTo d w event.AppendOpen r v → ◌≡◌ {A = Result (Unit {0}) Refusal} (Ok tt) (result_of r) → count v < count w
-  opened_count w v (Durable m) it is =
-      let made = it.0.comes.made.makes in
+  durable_count : (w v : WorldData D) (done : Done) (result : Result Done Refusal) → reply_of (Ok done) ≡ reply_of result → IsStored d w AppendOpen result v → count v < count w
+  durable_count w v done (Ok a) is it =
+      let made = it.comes.made.makes in
       let pending : pending_of v.store ≡ None = ap (λ (s : StoreData D). pending_of s) made.after in
-      let ring : v.ring ≡ w.ring = ap (λ (x : WorldData D). x.ring) it.0.rest in
+      let ring : v.ring ≡ w.ring = ap (λ (x : WorldData D). x.ring) it.rest in
       let after : count v ≡ length w.ring = same_length (pending_of v.store) None v.ring w.ring pending ring in
       let before : count w ≡ length (made.group ∷ w.ring) = same_length (pending_of w.store) (Some made.group) w.ring w.ring made.there refl in
       omega arith
-  opened_count w v (Refused why) it is = cc
-  opened_count w v _ it is = absurd it
+  durable_count w v done (Err e) is it = absurd (not_refused done e is)
 
-  append_count : (w v : WorldData D) → AreUntilStop (IsLogStep d) group_append w (Ok tt) v → count v < count w
-  append_count w v (inl h) = let passes = h.1 in cc
-  append_count w v (inr a) =
-      let goes = subst (λ (q : Result (Unit {0}) Refusal). turn_goes_on AppendBody q ≡ true) a.2.2 a.3 in
-      let same = kept_count w a.1 (body_keeps w a.1 a.2.0 a.2.1 goes) in
-      let less = opened_count a.1 v a.4.0 a.4.1 a.4.2 in
+  opened_count : (w v : WorldData D) (r : Result Done Refusal) (done : Done) → r ≡ Ok done → Comes w AppendOpen r v → count v < count w
+  opened_count w v r done is it = durable_count w v done it.0 (sym (ap reply_of is) ∙ it.1) it.2
+
+  here_count : (w v : WorldData D) (r : Result Done Refusal) (done : Done) → r ≡ Ok done → IsAppendHere Comes w r v → count v < count w
+  here_count w v r done is (HereAtBody stop it) = absurd (refused_body r done stop is)
+  here_count w v r done is (HereAtOpen q u goes it rest) =
+      let same = quiet_count AppendBody tt w u q it in
+      let less = opened_count u v r done is rest in
       omega arith
 
-  -- a step of a rotation that went on, and the rest
-  then_keeps : (s next : LogStep) (rest : List LogStep) → IsOfRotation s → (w v : WorldData D) → AreUntilStop (IsLogStep d) (s ∷ next ∷ rest) w (Ok tt) v → ((m : WorldData D) → AreUntilStop (IsLogStep d) (next ∷ rest) m (Ok tt) v → count v ≡ count m) → count v ≡ count w
-  then_keeps s next rest h w v (inl a) go = let passes = a.1 in cc
-  then_keeps s next rest h w v (inr a) go = go a.1 a.4 ∙ kept_count w a.1 (step_keeps s h w a.1 a.2.0 a.2.1)
-
-  rotation_keeps : (w v : WorldData D) → AreUntilStop (IsLogStep d) log_rotation w (Ok tt) v → count v ≡ count w
-  rotation_keeps w v it =
-      then_keeps RotateWrite InstallClose (InstallBody ∷ InstallOpen ∷ []) tt w v it (λ a one.
-      then_keeps InstallClose InstallBody (InstallOpen ∷ []) tt a v one (λ b two.
-      then_keeps InstallBody InstallOpen [] tt b v two (λ c three.
-      kept_count c v (step_keeps InstallOpen tt c v three.0 three.1))))
-
-  rotated_count : (w v : WorldData D) (r : Result (Unit {0}) Refusal) → r ≡ Ok tt → IsRotatedAppend (IsLogStep d) w r v → count v < count w
-  rotated_count w v r is (AtRotation e refused it) = cc
-  rotated_count w v r is (AtAppend u it rest) =
-      let same = rotation_keeps w u it in
-      let less = append_count u v (subst (λ (x : Result (Unit {0}) Refusal). AreUntilStop (IsLogStep d) group_append u x v) is rest) in
+  rotated_count : (w v : WorldData D) (r : Result Done Refusal) (done : Done) → r ≡ Ok done → IsRotatedAppend Comes w r v → count v < count w
+  rotated_count w v r done is (inl a) = let refused = sym is ∙ a.1 in cc
+  rotated_count w v r done is (inr a) =
+      let same = quiet_counts rotation (tt, (tt, (tt, (tt, tt)))) w a.1 (Ok a.0) a.2 in
+      let less = here_count a.1 v r done is a.3 in
       omega arith
 
-  appended_count : (w v : WorldData D) (r : Result (Unit {0}) Refusal) → r ≡ Ok tt → IsAppend (IsLogStep d) w r v → count v < count w
-  appended_count w v r is (AtBody other stop it) = let passes = sym (ap (turn_goes_on AppendBody) is) ∙ stop in cc
-  appended_count w v r is (AtOpen q u goes it rest) =
-      let on = subst (λ (x : Result (Unit {0}) Refusal). turn_goes_on AppendBody x ≡ true) it.2 goes in
-      let same = kept_count w u (body_keeps w u it.0 it.1 on) in
-      let less = opened_count u v rest.0 rest.1 (sym is ∙ rest.2) in
+  appended_count : (w v : WorldData D) (r : Result Done Refusal) (done : Done) → r ≡ Ok done → IsAppend Comes w r v → count v < count w
+  appended_count w v r done is (AtBody other stop it) = absurd (refused_body r done stop is)
+  appended_count w v r done is (AtOpen q u goes it rest) =
+      let same = quiet_count AppendBody tt w u q it in
+      let less = opened_count u v r done is rest in
       omega arith
-  appended_count w v r is (AtFull u it rest) =
-      let same = kept_count w u (full_keeps w u it.0 it.1 it.2) in
-      let less = rotated_count u v r is rest in
+  appended_count w v r done is (AtFull u it rest) =
+      let same = quiet_count AppendBody tt w u (Err SegmentFull) it in
+      let less = rotated_count u v r done is rest in
       omega arith
 
   -- a turn that makes a group durable leaves one less
-  pub turn_count : (w v : WorldData D) → IsTurn (IsLogStep d) w (Ok true) v → length (waiting v) < length (waiting w)
+  pub turn_count : (w v : WorldData D) → IsTurn (IsTakingBy (IsReplyTo d)) (IsCallBy (IsReplyTo d)) w (Ok true) v → length (waiting v) < length (waiting w)
   turn_count w v it =
-      let goes = subst (λ (q : Result (Unit {0}) Refusal). turn_goes_on Take q ≡ true) it.2.2 it.3 in
-      let same = taken_count w it.1 it.2.0 it.2.1 goes in
-      let less = appended_count it.1 v (Ok tt) refl it.4 in
+      let same = taken_count w it.1.1 it.1.0 it.1.2 it.1.3 in
+      let less = appended_count it.1.1 v (Ok it.0) it.0 refl it.1.4 in
       omega arith
 
 -- ---- the same reply by another name
-
-pub flush_at : {D : Type 0} (P : WorldData D → Event → Reply → WorldData D → Type 0) (w v : WorldData D) (r s : Reply) → r ≡ s → IsFlush P w r v → IsFlush P w s v
-flush_at P w v r s same it = subst (λ (x : Reply). IsFlush P w x v) same it

@@ -1,13 +1,18 @@
 -- The reply to each line of a script, and what that leaves.
-use Rattle.std.specs.Prelude.{◌≡◌, ◌≢◌, ◌⊎◌, ℕ, zero, suc, List, None, Ok, IsSomeAnd}
+use Rattle.std.specs.Prelude.{◌≡◌, ◌≢◌, ◌⊎◌, ℕ, zero, suc, List, None, Result, Ok, IsSomeAnd}
 use Rattle.hex.specs.Hex.{decode_of}
 use Rattle.mvo_types.specs.RowData.{RowData}
 use Rattle.mvo_types.specs.declared.ids.TxId.{TxId}
 use Rattle.mvo_types.specs.declared.ids.Stamp.{Stamp}
+use Rattle.mvo_types.specs.declared.op.Op.{Op}
+use Rattle.mvo_types.specs.declared.op.Op.TheVariants as op
+use Rattle.mvo_types.specs.declared.refusal.Refusal.{Refusal}
 use Rattle.mvo_types.specs.declared.refusal.Refusal.TheVariants.{OutOfMemory}
 use Rattle.mvo_core.specs.declared.answers.Settlement.TheVariants.{Committed}
 use Rattle.mvo_core.specs.declared.answers.Validation.TheVariants as validation
 use Rattle.mvo_core.specs.declared.answers.Finishing.TheVariants as finishing
+use Rattle.mvo_world.specs.Logging.{IsCallBy}
+use Rattle.mvo_world.specs.Replies.{reply_of}
 use Rattle.mvo_world.specs.WorldData.{WorldData}
 use Rattle.mvo_world.specs.declared.event.Event.{Event}
 use Rattle.mvo_world.specs.declared.event.Event.TheVariants as event
@@ -15,16 +20,14 @@ use Rattle.mvo_world.specs.declared.reply.Reply.{Reply}
 use Rattle.mvo_world.specs.declared.reply.Reply.TheVariants.{Prepared, Validated, Settled, Finished, Polled, Refused}
 use Rattle.mvo_script.specs.Bound.{bound_by, BindsBegun, BindsEnd, KeepsBound, is_covered}
 use Rattle.mvo_script.specs.Flushing.{IsFlush, IsFlushed}
-use Rattle.mvo_script.specs.Rotating.{rotation}
-use Rattle.mvo_script.specs.Stopping.{AreToRefusal}
-use Rattle.mvo_script.specs.Checkpointing.{IsCheckpoint}
-use Rattle.mvo_script.specs.Merging.{merge}
 use Rattle.mvo_script.specs.declared.bound.BoundTx.{BoundTx}
 use Rattle.mvo_script.specs.declared.driver.Driver.{Driver}
 use Rattle.mvo_script.specs.declared.line.line.Line.{Line}
 use Rattle.mvo_script.specs.declared.line.line.Line.TheVariants as line
 use Rattle.mvo_script.specs.declared.line.line.RowText.{RowText}
 use Rattle.mvo_store.specs.Seen.{mark_of}
+use Rattle.mvo_store.specs.Wholes.{AreToRefusal, IsCheckpoint, Part, merge, rotation}
+use Rattle.mvo_store.specs.declared.done.Done.{Done}
 use Rattle.mvo_script.specs.declared.names.Names.{Names}
 
 -- the line speaks of a name that isn't bound
@@ -56,6 +59,11 @@ abbrev pub IsRowOf : RowText → RowData → Type 0
 IsRowOf text row =
     (bytes : List ℕ) × (decode_of text.digits.now ≡ Ok bytes) × (row ≡ row_of_text text bytes)
 
+-- a whole job of the world's store came to this, and the names stay
+abbrev pub IsWholeJob : {D : Type 0} → Part (WorldData D) → Driver D → Reply → Driver D → Type 0
+IsWholeJob Job d r d' = (result : Result Done Refusal) × (r ≡ reply_of result)
+    × Job d.world result d'.world × (d'.names ≡ d.names)
+
 -- ---- by the steps of the world that the driver makes
 module _ {D : Type 0} (IsStep : WorldData D → Event → Reply → WorldData D → Type 0) where
   -- the world makes this step, and the names stay
@@ -70,12 +78,14 @@ module _ {D : Type 0} (IsStep : WorldData D → Event → Reply → WorldData D 
       ⊎ ((r ≡ Refused OutOfMemory) × (d'.world ≡ d.world) × KeepsBound d.names d'.names)
 
   -- one step with the row that a line gives
-  abbrev pub TakesRow : Driver D → (RowData → Event) → RowText → Reply → Driver D → Type 0
-  TakesRow d e text r d' = (row : RowData) × IsRowOf text row × IsStepOf d (e row) r d'
+  abbrev pub TakesRow : Driver D → TxId → (RowData → Op) → RowText → Reply → Driver D → Type 0
+  TakesRow d tx put text r d' =
+      (row : RowData) × IsRowOf text row × IsStepOf d (event.Do tx (put row)) r d'
 
   -- that is made; or it is refused without memory for the data, and nothing changes
-  abbrev pub IsRowStep : Driver D → (RowData → Event) → RowText → Reply → Driver D → Type 0
-  IsRowStep d e text r d' = TakesRow d e text r d' ⊎ ((r ≡ Refused OutOfMemory) × (d' ≡ d))
+  abbrev pub IsRowStep : Driver D → TxId → (RowData → Op) → RowText → Reply → Driver D → Type 0
+  IsRowStep d tx put text r d' =
+      TakesRow d tx put text r d' ⊎ ((r ≡ Refused OutOfMemory) × (d' ≡ d))
 
   -- the transaction is settled, and its end is noted for the name
   pub record IsSettleStep (d : Driver D) (name : List ℕ) (tx : TxId) (r : Reply) (d' : Driver D)
@@ -84,17 +94,17 @@ module _ {D : Type 0} (IsStep : WorldData D → Event → Reply → WorldData D 
     pub names : NotesEnd d.names d'.names name r
 
   -- so many steps of one event, each answered that more is left
-  abbrev pub AreMore : Reply → ℕ → Event → Driver D → Driver D → Type 0
-  AreMore more zero e d d' = d' ≡ d
-  AreMore more (suc n) e d d' =
-      (v : Driver D) × AreMore more n e d v × IsStepOf v e more d'
+  abbrev pub AreMoreSteps : Reply → ℕ → Event → Driver D → Driver D → Type 0
+  AreMoreSteps more zero e d d' = d' ≡ d
+  AreMoreSteps more (suc n) e d d' =
+      (v : Driver D) × AreMoreSteps more n e d v × IsStepOf v e more d'
 
   -- steps of one event while it is answered that more is left, and the reply to the last
   pub record AreStepsOf (more_left : Reply) (d : Driver D) (e : Event) (r : Reply)
       (d' : Driver D) : Type 0 where
     pub count : ℕ
     pub before : Driver D
-    pub more : AreMore more_left count e d before
+    pub more : AreMoreSteps more_left count e d before
     pub last : IsStepOf before e r d' ⊎ ((r ≡ more_left) × (d' ≡ before))
 
   abbrev pub AreChecks : Driver D → TxId → Reply → Driver D → Type 0
@@ -132,11 +142,15 @@ module _ {D : Type 0} (IsStep : WorldData D → Event → Reply → WorldData D 
   abbrev pub IsTxStep : Driver D → List ℕ → (TxId → Event) → Reply → Driver D → Type 0
   IsTxStep d name e r d' = IsSomeAnd (bound_by d.names name) (λ b. IsStepOf d (e b.tx) r d')
 
+  -- that step is an operation
+  abbrev pub IsTxOp : Driver D → List ℕ → Op → Reply → Driver D → Type 0
+  IsTxOp d name op r d' = IsTxStep d name (λ tx. event.Do tx op) r d'
+
   -- the same with the row that a line gives
-  abbrev pub IsTxRowStep : Driver D → List ℕ → (TxId → RowData → Event) → RowText → Reply
-      → Driver D → Type 0
-  IsTxRowStep d name e text r d' =
-      IsSomeAnd (bound_by d.names name) (λ b. IsRowStep d (e b.tx) text r d')
+  abbrev pub IsTxRowStep : Driver D → List ℕ → (RowData → Op) → RowText → Reply → Driver D
+      → Type 0
+  IsTxRowStep d name put text r d' =
+      IsSomeAnd (bound_by d.names name) (λ b. IsRowStep d b.tx put text r d')
 
   -- whether the transaction that the name is bound to is durable; nothing changes
   abbrev pub IsPolled : Driver D → BoundTx → Reply → Driver D → Type 0
@@ -145,12 +159,12 @@ module _ {D : Type 0} (IsStep : WorldData D → Event → Reply → WorldData D 
   -- a line is answered
   abbrev pub IsAnswerTo : Driver D → Line → Reply → Driver D → Type 0
   IsAnswerTo d (line.Begin name) r d' = IsBeginStep d name.now r d'
-  IsAnswerTo d (line.Read name key) r d' = IsTxStep d name.now (λ tx. event.Read tx key) r d'
+  IsAnswerTo d (line.Read name key) r d' = IsTxOp d name.now (op.Read key) r d'
   IsAnswerTo d (line.Scan name range) r d' =
-      IsTxStep d name.now (λ tx. event.Scan tx range.table range.lo range.hi) r d'
-  IsAnswerTo d (line.Insert name text) r d' = IsTxRowStep d name.now event.Insert text r d'
-  IsAnswerTo d (line.Update name text) r d' = IsTxRowStep d name.now event.Update text r d'
-  IsAnswerTo d (line.Delete name key) r d' = IsTxStep d name.now (λ tx. event.Delete tx key) r d'
+      IsTxOp d name.now (op.Scan range.table range.lo range.hi) r d'
+  IsAnswerTo d (line.Insert name text) r d' = IsTxRowStep d name.now op.Insert text r d'
+  IsAnswerTo d (line.Update name text) r d' = IsTxRowStep d name.now op.Update text r d'
+  IsAnswerTo d (line.Delete name key) r d' = IsTxOp d name.now (op.Delete key) r d'
   IsAnswerTo d (line.Precommit name) r d' = IsTxStep d name.now event.Precommit r d'
   IsAnswerTo d (line.Validate name) r d' = IsTxStep d name.now event.Validate r d'
   IsAnswerTo d (line.Settle name) r d' =
@@ -165,36 +179,22 @@ module _ {D : Type 0} (IsStep : WorldData D → Event → Reply → WorldData D 
   IsAnswerTo d (line.Trim upto) r d' = IsStepOf d (event.Trim upto) r d'
   IsAnswerTo d line.Group r d' = IsStepOf d event.CloseGroup r d'
   IsAnswerTo d line.Take r d' = IsStepOf d event.TakeGroup r d'
-  IsAnswerTo d line.Body r d' = IsStepOf d event.AppendBody r d'
-  IsAnswerTo d line.Open r d' = IsStepOf d event.AppendOpen r d'
   IsAnswerTo d line.Flush r d' =
       IsFlush IsStep d.world r d'.world × IsFlushed d'.world r × (d'.names ≡ d.names)
-  IsAnswerTo d line.RotateWrite r d' = IsStepOf d event.RotateWrite r d'
-  IsAnswerTo d line.CheckpointRead r d' = IsStepOf d event.CheckpointRead r d'
-  IsAnswerTo d line.CheckpointData r d' = IsStepOf d event.CheckpointData r d'
-  IsAnswerTo d line.CheckpointDelta r d' = IsStepOf d event.CheckpointDelta r d'
-  IsAnswerTo d (line.MergeRead place) r d' = IsStepOf d (event.MergeRead place) r d'
-  IsAnswerTo d line.MergeData r d' = IsStepOf d event.MergeData r d'
-  IsAnswerTo d line.MergeDelta r d' = IsStepOf d event.MergeDelta r d'
-  IsAnswerTo d line.InstallClose r d' = IsStepOf d event.InstallClose r d'
-  IsAnswerTo d line.InstallBody r d' = IsStepOf d event.InstallBody r d'
-  IsAnswerTo d line.InstallOpen r d' = IsStepOf d event.InstallOpen r d'
-  IsAnswerTo d line.Rotate r d' =
-      AreToRefusal IsStep rotation d.world r d'.world × (d'.names ≡ d.names)
-  IsAnswerTo d line.Checkpoint r d' =
-      IsCheckpoint IsStep d.world r d'.world × (d'.names ≡ d.names)
+  IsAnswerTo d line.Rotate r d' = IsWholeJob (AreToRefusal (IsCallBy IsStep) rotation) d r d'
+  IsAnswerTo d line.Checkpoint r d' = IsWholeJob (IsCheckpoint (IsCallBy IsStep)) d r d'
   IsAnswerTo d (line.Merge place) r d' =
-      AreToRefusal IsStep (merge place) d.world r d'.world × (d'.names ≡ d.names)
-  IsAnswerTo d line.Reclaim r d' = IsStepOf d event.Reclaim r d'
+      IsWholeJob (AreToRefusal (IsCallBy IsStep) (merge place)) d r d'
+  IsAnswerTo d (line.Store call) r d' = IsStepOf d (event.Store call) r d'
 
   -- a line is answered, for the transaction that its name is bound to
   abbrev pub IsAnswerBy : Driver D → Line → List ℕ → BoundTx → Reply → Driver D → Type 0
-  IsAnswerBy d (line.Read _ key) name b r d' = IsStepOf d (event.Read b.tx key) r d'
+  IsAnswerBy d (line.Read _ key) name b r d' = IsStepOf d (event.Do b.tx (op.Read key)) r d'
   IsAnswerBy d (line.Scan _ range) name b r d' =
-      IsStepOf d (event.Scan b.tx range.table range.lo range.hi) r d'
-  IsAnswerBy d (line.Insert _ text) name b r d' = IsRowStep d (event.Insert b.tx) text r d'
-  IsAnswerBy d (line.Update _ text) name b r d' = IsRowStep d (event.Update b.tx) text r d'
-  IsAnswerBy d (line.Delete _ key) name b r d' = IsStepOf d (event.Delete b.tx key) r d'
+      IsStepOf d (event.Do b.tx (op.Scan range.table range.lo range.hi)) r d'
+  IsAnswerBy d (line.Insert _ text) name b r d' = IsRowStep d b.tx op.Insert text r d'
+  IsAnswerBy d (line.Update _ text) name b r d' = IsRowStep d b.tx op.Update text r d'
+  IsAnswerBy d (line.Delete _ key) name b r d' = IsStepOf d (event.Do b.tx (op.Delete key)) r d'
   IsAnswerBy d (line.Precommit _) name b r d' = IsStepOf d (event.Precommit b.tx) r d'
   IsAnswerBy d (line.Validate _) name b r d' = IsStepOf d (event.Validate b.tx) r d'
   IsAnswerBy d (line.Settle _) name b r d' = IsSettleStep d name b.tx r d'

@@ -1,6 +1,7 @@
 -- Which step of the world a line asks for, and of which transaction.
 use Rattle.std.specs.Prelude.{ℕ, List, Option, Some, None}
 use Rattle.mvo_types.specs.declared.ids.TxId.{TxId}
+use Rattle.mvo_types.specs.declared.op.Op.TheVariants as op
 use Rattle.mvo_world.specs.declared.event.Event.{Event}
 use Rattle.mvo_world.specs.declared.event.Event.TheVariants as event
 use Rattle.mvo_script.specs.declared.line.line.Line.{Line}
@@ -24,32 +25,14 @@ name_in _ = None
 
 -- the step that a line of a transaction asks for, where it is one alone and has no data
 abbrev pub event_by : Line → TxId → Option Event
-event_by (line.Read name key) tx = Some (event.Read tx key)
-event_by (line.Scan name range) tx = Some (event.Scan tx range.table range.lo range.hi)
-event_by (line.Delete name key) tx = Some (event.Delete tx key)
+event_by (line.Read name key) tx = Some (event.Do tx (op.Read key))
+event_by (line.Scan name range) tx = Some (event.Do tx (op.Scan range.table range.lo range.hi))
+event_by (line.Delete name key) tx = Some (event.Do tx (op.Delete key))
 event_by (line.Precommit name) tx = Some (event.Precommit tx)
 event_by (line.Validate name) tx = Some (event.Validate tx)
 event_by (line.Rollback name) tx = Some (event.Rollback tx)
 event_by (line.Finish name) tx = Some (event.Finish tx)
 event_by _ tx = None
-
--- the step of an install, or the one that empties a file behind it
-abbrev pub install_event_of : Line → Option Event
-install_event_of line.InstallClose = Some event.InstallClose
-install_event_of line.InstallBody = Some event.InstallBody
-install_event_of line.InstallOpen = Some event.InstallOpen
-install_event_of line.Reclaim = Some event.Reclaim
-install_event_of _ = None
-
--- the step of a checkpoint or of a merge, or one that both end with
-abbrev pub job_event_of : Line → Option Event
-job_event_of line.CheckpointRead = Some event.CheckpointRead
-job_event_of line.CheckpointData = Some event.CheckpointData
-job_event_of line.CheckpointDelta = Some event.CheckpointDelta
-job_event_of (line.MergeRead place) = Some (event.MergeRead place)
-job_event_of line.MergeData = Some event.MergeData
-job_event_of line.MergeDelta = Some event.MergeDelta
-job_event_of l = install_event_of l
 
 -- the step that a line of no transaction asks for, where it is one alone
 abbrev pub event_of_line : Line → Option Event
@@ -57,7 +40,5 @@ event_of_line line.Collect = Some event.Collect
 event_of_line (line.Trim upto) = Some (event.Trim upto)
 event_of_line line.Group = Some event.CloseGroup
 event_of_line line.Take = Some event.TakeGroup
-event_of_line line.Body = Some event.AppendBody
-event_of_line line.Open = Some event.AppendOpen
-event_of_line line.RotateWrite = Some event.RotateWrite
-event_of_line l = job_event_of l
+event_of_line (line.Store call) = Some (event.Store call)
+event_of_line _ = None

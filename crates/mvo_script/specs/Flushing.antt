@@ -6,7 +6,7 @@ use Rattle.mvo_types.specs.declared.refusal.Refusal.TheVariants.{NothingToDo, Ri
 use Rattle.mvo_store.specs.Flushing.{IsTurn}
 use Rattle.mvo_store.specs.Seen.{mark_of, pending_of}
 use Rattle.mvo_world.specs.WorldData.{WorldData}
-use Rattle.mvo_world.specs.Logging.{IsLogStepBy}
+use Rattle.mvo_world.specs.Logging.{IsCallBy, IsTakingBy}
 use Rattle.mvo_world.specs.declared.event.Event.{Event}
 use Rattle.mvo_world.specs.declared.event.Event.TheVariants.{CloseGroup}
 use Rattle.mvo_world.specs.declared.reply.Reply.{Reply}
@@ -33,7 +33,8 @@ module _ {D : Type 0} (IsStep : WorldData D → Event → Reply → WorldData D 
   abbrev pub AreTurns : ℕ → WorldData D → WorldData D → Type 0
   AreTurns zero w w' = w' ≡ w
   AreTurns (suc n) w w' =
-      (v : WorldData D) × AreTurns n w v × IsTurn (IsLogStepBy IsStep) v (Ok true) w'
+      (v : WorldData D) × AreTurns n w v
+      × IsTurn (IsTakingBy IsStep) (IsCallBy IsStep) v (Ok true) w'
 
   -- the next group is closed, where there is one and room for it, and turns are made
   pub record HasTurned (w w' : WorldData D) : Type 0 where
@@ -49,6 +50,7 @@ module _ {D : Type 0} (IsStep : WorldData D → Event → Reply → WorldData D 
   pub data IsFlush (w : WorldData D) (r : Reply) (w' : WorldData D) : Type 0 where
     AtClose : stops_close r ≡ true → IsStep w CloseGroup r w' → IsFlush w r w'
     AtTurn : (v : WorldData D) (e : Refusal) → r ≡ Refused e
-        → HasTurned w v → IsTurn (IsLogStepBy IsStep) v (Err e) w' → IsFlush w r w'
+        → HasTurned w v → IsTurn (IsTakingBy IsStep) (IsCallBy IsStep) v (Err e) w' → IsFlush w r w'
     AtEnd : (v : WorldData D) (mark : Stamp) → r ≡ Durable mark → mark_of w'.store ≡ mark.0
-        → HasTurned w v → IsTurn (IsLogStepBy IsStep) v (Ok false) w' → IsFlush w r w'
+        → HasTurned w v
+        → IsTurn (IsTakingBy IsStep) (IsCallBy IsStep) v (Ok false) w' → IsFlush w r w'

@@ -2,10 +2,6 @@ pub mod line
 pub mod Begun
 pub mod Bound
 pub mod Fresh
-pub mod Stopping
-pub mod Rotating
-pub mod Checkpointing
-pub mod Merging
 pub mod Flushing
 pub mod Events
 pub mod Answers

@@ -3,19 +3,16 @@ ghost use Rattle.mvo_script.specs.Answers.{IsRowOf};
 ghost use Rattle.mvo_script.specs.Fresh.{IsFreshWorld};
 
 use crate::bound::BoundTx;
-use crate::checkpoint::checkpoint;
 use crate::events::{event_by, event_of_line, name_in};
 use crate::flush::flush;
-use crate::line::{Line, RowText, SortRange};
-use crate::merge::merge;
+use crate::line::{Line, RowText};
 use crate::names::Names;
 use crate::reply::LineReply;
-use crate::rotate::rotate;
 use mvo_core::{Finishing, Settlement, Validation};
 use mvo_disk::{Disk, MemDisk};
-use mvo_store::format;
-use mvo_types::{Refusal, Row, Stamp, TxId};
-use mvo_world::{Event, Reply, World};
+use mvo_store::{format, run_checkpoint, run_merge, run_rotation};
+use mvo_types::{Op, Refusal, Row, Stamp, TxId};
+use mvo_world::{Event, Reply, World, reply_of};
 use std::alloc::Global;
 use std::thread::Threads;
 
@@ -165,9 +162,9 @@ impl<D: Disk> Driver<D> {
         match line {
             Line::Begin(name) => Some(self.begin(name)),
             Line::Flush => Some(flush(&mut self.world)),
-            Line::Rotate => Some(rotate(&mut self.world)),
-            Line::Checkpoint => Some(checkpoint(&mut self.world)),
-            Line::Merge(place) => Some(merge(&mut self.world, place)),
+            Line::Rotate => Some(reply_of(run_rotation(&mut self.world))),
+            Line::Checkpoint => Some(reply_of(run_checkpoint(&mut self.world))),
+            Line::Merge(place) => Some(reply_of(run_merge(&mut self.world, place))),
             _ => self.ask_if(event_of_line(line)),
         }
     }
@@ -208,30 +205,22 @@ impl<D: Disk> Driver<D> {
         }
     }
 
-    fn scan(&mut self, tx: TxId, range: SortRange) -> Reply
-        ensures { let step = IsReplyTo D.Disk in
-            IsStepOf step self.old (Event.Scan tx range.table range.lo range.hi) result self.new }
-    {
-        let SortRange { table, lo, hi } = range;
-        self.ask(Event::Scan(tx, table, lo, hi))
-    }
-
     fn insert(&mut self, tx: TxId, text: RowText<'_>) -> Reply
         ensures { let step = IsReplyTo D.Disk in
-            IsRowStep step self.old (Event.Insert tx) text.entry result self.new }
+            IsRowStep step self.old tx Op.Insert text.entry result self.new }
     {
         match decoded(self.alloc, text) {
-            Some(row) => self.ask(Event::Insert(tx, row)),
+            Some(row) => self.ask(Event::Do(tx, Op::Insert(row))),
             None => Reply::Refused(Refusal::OutOfMemory),
         }
     }
 
     fn update(&mut self, tx: TxId, text: RowText<'_>) -> Reply
         ensures { let step = IsReplyTo D.Disk in
-            IsRowStep step self.old (Event.Update tx) text.entry result self.new }
+            IsRowStep step self.old tx Op.Update text.entry result self.new }
     {
         match decoded(self.alloc, text) {
-            Some(row) => self.ask(Event::Update(tx, row)),
+            Some(row) => self.ask(Event::Do(tx, Op::Update(row))),
             None => Reply::Refused(Refusal::OutOfMemory),
         }
     }

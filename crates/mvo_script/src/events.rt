@@ -1,8 +1,8 @@
 ghost use Rattle.std.specs.Prelude.{◌≡◌, option_map};
-ghost use Rattle.mvo_script.specs.Events.{event_by, event_of_line, install_event_of, job_event_of, name_in};
+ghost use Rattle.mvo_script.specs.Events.{event_by, event_of_line, name_in};
 
 use crate::line::{Line, SortRange};
-use mvo_types::TxId;
+use mvo_types::{Op, TxId};
 use mvo_world::Event;
 
 /// The name of the transaction that a line asks something of.
@@ -31,9 +31,9 @@ pub fn event_by(line: Line<'_>, tx: TxId) -> Option<Event>
     ensures { result ≡ event_by line.entry tx }
 {
     match line {
-        Line::Read(_, key) => Some(Event::Read(tx, key)),
-        Line::Scan(_, SortRange { table, lo, hi }) => Some(Event::Scan(tx, table, lo, hi)),
-        Line::Delete(_, key) => Some(Event::Delete(tx, key)),
+        Line::Read(_, key) => Some(Event::Do(tx, Op::Read(key))),
+        Line::Scan(_, SortRange { table, lo, hi }) => Some(Event::Do(tx, Op::Scan(table, lo, hi))),
+        Line::Delete(_, key) => Some(Event::Do(tx, Op::Delete(key))),
         Line::Precommit(_) => Some(Event::Precommit(tx)),
         Line::Validate(_) => Some(Event::Validate(tx)),
         Line::Rollback(_) => Some(Event::Rollback(tx)),
@@ -51,37 +51,7 @@ pub fn event_of_line(line: Line<'_>) -> Option<Event>
         Line::Trim(upto) => Some(Event::Trim(upto)),
         Line::Group => Some(Event::CloseGroup),
         Line::Take => Some(Event::TakeGroup),
-        Line::Body => Some(Event::AppendBody),
-        Line::Open => Some(Event::AppendOpen),
-        Line::RotateWrite => Some(Event::RotateWrite),
-        _ => job_event_of(line),
-    }
-}
-
-/// The step of a checkpoint or of a merge, or one that both end with.
-fn job_event_of(line: Line<'_>) -> Option<Event>
-    ensures { result ≡ job_event_of line.entry }
-{
-    match line {
-        Line::CheckpointRead => Some(Event::CheckpointRead),
-        Line::CheckpointData => Some(Event::CheckpointData),
-        Line::CheckpointDelta => Some(Event::CheckpointDelta),
-        Line::MergeRead(place) => Some(Event::MergeRead(place)),
-        Line::MergeData => Some(Event::MergeData),
-        Line::MergeDelta => Some(Event::MergeDelta),
-        _ => install_event_of(line),
-    }
-}
-
-/// The step of an install, or the one that empties a file behind it.
-fn install_event_of(line: Line<'_>) -> Option<Event>
-    ensures { result ≡ install_event_of line.entry }
-{
-    match line {
-        Line::InstallClose => Some(Event::InstallClose),
-        Line::InstallBody => Some(Event::InstallBody),
-        Line::InstallOpen => Some(Event::InstallOpen),
-        Line::Reclaim => Some(Event::Reclaim),
+        Line::Store(call) => Some(Event::Store(call)),
         _ => None,
     }
 }

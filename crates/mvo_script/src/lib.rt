@@ -2,15 +2,12 @@
 #![tactic(auto)]
 
 mod bound;
-mod checkpoint;
 mod driver;
 mod events;
 mod flush;
 mod line;
-mod merge;
 mod names;
 mod reply;
-mod rotate;
 mod script;
 
 pub use driver::Driver;

@@ -401,31 +401,3 @@ module _ {D : Type 0} (d : Ghosts D) (m : ManifestData) (g : Merging) (late : Li
     many = many;
     unchanged = λ _. refl;
   }
-
-  -- memory or a fault refuses it
-  pub write_refused : (old new : D) (e : Refusal) → IsWriteRefusal d.fault_count old new e → ◌≡◌ {A = Bool} (d.moment new).honest (d.moment old).honest
-      → OthersStay g.seen.pair.delta_file (d.content old) (d.content new) (d.may_leave old) (d.may_leave new) → LeavesOnly d.moment d.left_since old new (Touched g.seen.pair.delta_file (d.may_leave old) (λ _. ⊤)) → IsWrittenEnd d old new m g late (Err e)
-  write_refused old new e refused honest rest any_moment = record {
-    honest = honest;
-    next = tt;
-    bytes = tt;
-    durable = tt;
-    rest = rest;
-    any_moment = any_moment;
-    count = counts refused;
-    refused = inl (stops refused);
-    many = λ broken. absurd (stop_or_misread e (stops refused) broken);
-    unchanged = same refused;
-  }
-    where
-      stops : IsWriteRefusal d.fault_count old new e → IsStop e
-      stops (inl memory) = inl memory.0
-      stops (inr fault) = inr fault.0
-
-      same : IsWriteRefusal d.fault_count old new e → e ≢ DiskFault → new ≡ old
-      same (inl memory) ne = memory.1
-      same (inr fault) ne = absurd (ne fault.0)
-
-      counts : IsWriteRefusal d.fault_count old new e → CountsFaults {X = ManifestData} (d.fault_count old) (d.fault_count new) (Err e)
-      counts (inl memory) = subst (λ (k : Refusal). CountsFaults {X = ManifestData} (d.fault_count old) (d.fault_count new) (Err k)) (sym memory.0) (ap d.fault_count memory.1)
-      counts (inr fault) = subst (λ (k : Refusal). CountsFaults {X = ManifestData} (d.fault_count old) (d.fault_count new) (Err k)) (sym fault.0) fault.1

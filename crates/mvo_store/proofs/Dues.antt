@@ -50,7 +50,9 @@ use Rattle.mvo_store.specs.Jobs.Job.{Rotation, Checkpoint, Merge, MergeInstall}
 use Rattle.mvo_store.specs.Standing.{IsRunning, HaveJobs, ShareNone, JobsHaveRoom, JobHasRoom, IsUp, MayBeLeft, HasSlots, HasBody, HasWork, MayTakeOver, HaveKeys}
 use Rattle.mvo_store.specs.Safe.{IsWithin, IsSafeWork, AreSafe, HasNext, IsSafe, IsStoreSound}
 use Rattle.mvo_store.specs.Writing.{StandsWith, StillGives, IsFileDue, IsFileAt, IsMergeFileAt, WritesFile, WritesFor, HasMadeStep, TakesMemory, IsStepRefusal, IsOpened}
-use Rattle.mvo_store.specs.Calls.{call_of, why_not_store, MayMeet, Makes, HasStepped, IsFileOf, IsFileOfJob, MayTouch, KeepsOthers, IsStoreStep, rows_behind}
+use Rattle.mvo_store.specs.Calls.{why_not_store, MayMeet, Makes, HasStepped, IsFileOf, IsFileOfJob, MayTouch, KeepsOthers, IsStoreStep, rows_behind}
+use Rattle.mvo_store.specs.Calls.StoreStep.{Call}
+use Rattle.mvo_store.specs.declared.call.StoreCall.TheVariants.{Step}
 use Rattle.mvo_store.specs.declared.install.install.Install.{Install as InstallData}
 use Rattle.mvo_store.specs.declared.checkpoint.stage.CheckpointStage.TheVariants.{Data as AtData, Delta as AtDelta, Install as AtInstall}
 use Rattle.mvo_store.specs.declared.checkpoint.stage.CheckpointStage.{CheckpointStage}
@@ -93,42 +95,42 @@ abbrev pub IsPlain : Due → Type 0
 IsPlain step = (step ≢ MergeDelta) × (step ≢ Install Open)
 
 -- each such call is a step of a job
-pub why_of : {D : Type 0} (s : StoreData D) (step : Due) → IsPlain step → why_not_store s (call_of step) ≡ why_not_due step s
+pub why_of : {D : Type 0} (s : StoreData D) (step : Due) → IsPlain step → why_not_store s (Call (Step step)) ≡ why_not_due step s
 why_of s (Install Open) other = absurd (other.1 refl)
 why_of s MergeDelta other = absurd (other.0 refl)
 why_of s step other = refl
 
 module _ {D : Type 0} (d : Ghosts D) (old new : StoreData D) where
-  pub makes_of : (step : Due) → IsPlain step → HasStepped step old new → Makes d (call_of step) old new
+  pub makes_of : (step : Due) → IsPlain step → HasStepped step old new → Makes d (Call (Step step)) old new
   makes_of (Install Open) other h = absurd (other.1 refl)
   makes_of MergeDelta other h = absurd (other.0 refl)
   makes_of step other h = h
 
-  due_file : (step : Due) (n : ℕ) → IsFileOf step old n → MayTouch d (call_of step) old new n
+  due_file : (step : Due) (n : ℕ) → IsFileOf step old n → MayTouch d (Call (Step step)) old new n
   due_file (Install Close) n h = h
   due_file step n h = h
 
 -- and keeps the rows
-pub rows_of : {D A : Type 0} (s : StoreData D) (a : A) (step : Due) (rows : Map) → rows_behind {A = A} s (call_of step) (Ok a) rows ≡ rows
+pub rows_of : {D A : Type 0} (s : StoreData D) (a : A) (step : Due) (rows : Map) → rows_behind {A = A} s (Call (Step step)) (Ok a) rows ≡ rows
 rows_of s a (Install Close) rows = refl
 rows_of s a step rows = refl
 
-pub begins_due : {D : Type 0} (d : Ghosts D) (s t : StoreData D) (step : Due) → IsPlain step → s ≡ t → why_not_due step t ≡ None → (s.down ≡ false → IsStoreSound d s) → Begins d s (call_of step)
-begins_due d s t step other same none = begins d s t (call_of step) same (why_of t step other ∙ none)
+pub begins_due : {D : Type 0} (d : Ghosts D) (s t : StoreData D) (step : Due) → IsPlain step → s ≡ t → why_not_due step t ≡ None → (s.down ≡ false → IsStoreSound d s) → Begins d s (Call (Step step))
+begins_due d s t step other same none = begins d s t (Call (Step step)) same (why_of t step other ∙ none)
 
-pub due_in : {D : Type 0} (s : StoreData D) (step : Due) → IsPlain step → why_not_store s (call_of step) ≡ None → is_step_due step s.jobs ≡ true
+pub due_in : {D : Type 0} (s : StoreData D) (step : Due) → IsPlain step → why_not_store s (Call (Step step)) ≡ None → is_step_due step s.jobs ≡ true
 due_in s step other none = may_step step s (sym (why_of s step other) ∙ none)
 
 -- the job whose step it is
-pub due_job : {D : Type 0} (s : StoreData D) (step : Due) → IsPlain step → why_not_store s (call_of step) ≡ None → (j : Job) × (job_due step s.jobs ≡ Some j)
+pub due_job : {D : Type 0} (s : StoreData D) (step : Due) → IsPlain step → why_not_store s (Call (Step step)) ≡ None → (j : Job) × (job_due step s.jobs ≡ Some j)
 due_job s step other none = some_due step s.jobs (due_in s step other none)
 
-pub memory_of : (step : Due) → TakesMemory step → MayMeet (call_of step) OutOfMemory
+pub memory_of : (step : Due) → TakesMemory step → MayMeet (Call (Step step)) OutOfMemory
 memory_of (Install Close) h = absurd h
 memory_of (Install Open) h = absurd h
 memory_of step h = inl refl
 
-pub fault_of : (step : Due) → MayMeet (call_of step) DiskFault
+pub fault_of : (step : Due) → MayMeet (Call (Step step)) DiskFault
 fault_of (Install Close) = refl
 fault_of (Install Open) = refl
 fault_of MergeDelta = inr (inl refl)
@@ -254,8 +256,8 @@ module _ {D : Type 0} (d : Ghosts D) (s : StoreData D) (step : Due) (j : Job) (i
   stands_of rows up = record { settled = up.settled; job = of_due (IsRunning (d.content s.disk) (d.may_leave s.disk) s.manifest up.parts) due_here up.jobs }
 
   -- the other files are as they were
-  pub step_others : (t : StoreData D) → WritesFile d s.disk t.disk (IsFileDue s.manifest j) → KeepsOthers d (call_of step) s t
-  step_others t w = file_others d (call_of step) s t w.file (due_file d s t step w.file (subst (λ (o : Option Job). IsFileOfJob s.manifest o w.file) (sym is) w.is)) w.rest
+  pub step_others : (t : StoreData D) → WritesFile d s.disk t.disk (IsFileDue s.manifest j) → KeepsOthers d (Call (Step step)) s t
+  step_others t w = file_others d (Call (Step step)) s t w.file (due_file d s t step w.file (subst (λ (o : Option Job). IsFileOfJob s.manifest o w.file) (sym is) w.is)) w.rest
 
   module _ (new : D) (writes : IsHonest (d.moment new) → WritesFor d s.disk new s.manifest j) where
     as_it_was : new ≡ s.disk → s.down ≡ false → record s { disk = new; down = false } ≡ s
@@ -290,14 +292,14 @@ module _ {D : Type 0} (d : Ghosts D) (s : StoreData D) (step : Due) (j : Job) (i
         merge_work c g e k rows up = subst (λ (i : Job). HasWork (d.content s.disk) (d.may_leave s.disk) s.manifest up.parts i) k (stands_of rows up).job.work
 
     -- memory or a fault refuses it
-    pub step_refused : {A : Type 0} → OnlyNow d → CountsNow d → Begins d s (call_of step) → (IsHonest (d.moment new) → IsHonest (d.moment s.disk)) → WritesFile d s.disk new (IsFileDue s.manifest j) → (e : Refusal) → IsStepRefusal d.fault_count (step_due j) s.disk new e
-        → (b : Bool) → OnTrue b (e ≡ DiskFault) → OnFalse b (e ≢ DiskFault) → IsStoreStep {A = A} d s (call_of step) (Err e) (record s { disk = new; down = b })
+    pub step_refused : {A : Type 0} → OnlyNow d → CountsNow d → Begins d s (Call (Step step)) → (IsHonest (d.moment new) → IsHonest (d.moment s.disk)) → WritesFile d s.disk new (IsFileDue s.manifest j) → (e : Refusal) → IsStepRefusal d.fault_count (step_due j) s.disk new e
+        → (b : Bool) → OnTrue b (e ≡ DiskFault) → OnFalse b (e ≢ DiskFault) → IsStoreStep {A = A} d s (Call (Step step)) (Err e) (record s { disk = new; down = b })
     step_refused {A} only_now counts_now b was file e refused true fault other = fault_step b counts_now new e fault (fault_of step) (count_of d.fault_count s.disk new e fault refused.refusal) was step_leaves
         (step_others (record s { disk = new; down = true }) file)
     step_refused {A} only_now counts_now b was file e refused false fault other =
         let left = memory_left d.fault_count s.disk new e other refused.refusal in
-        let memory : MayMeet (call_of step) e = subst (MayMeet (call_of step)) (sym left.0) (memory_of step (subst TakesMemory (step_is due_here) (refused.memory left.0))) in
-        other_step d only_now s (record s { disk = new; down = false }) (call_of step) e (as_it_was left.1 b.up) other (λ is. subst IsMisread left.0 is) (err_is d A (call_of step) (why_not_store s (call_of step)) e b.none memory)
+        let memory : MayMeet (Call (Step step)) e = subst (MayMeet (Call (Step step))) (sym left.0) (memory_of step (subst TakesMemory (step_is due_here) (refused.memory left.0))) in
+        other_step d only_now s (record s { disk = new; down = false }) (Call (Step step)) e (as_it_was left.1 b.up) other (λ is. subst IsMisread left.0 is) (err_is d A (Call (Step step)) (why_not_store s (Call (Step step))) e b.none memory)
 
     -- the store stays as it stood, unless the disk met a fault
     pub refused_sound : IsStoreSound d s → (due : Due) (e : Refusal) → IsStepRefusal d.fault_count due s.disk new e → s.down ≡ false → (b : Bool) → OnFalse b (e ≢ DiskFault) → b ≡ false → IsStoreSound d (record s { disk = new; down = b })

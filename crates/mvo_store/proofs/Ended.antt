@@ -26,13 +26,19 @@ use Rattle.mvo_store.specs.Safe.{IsSafeMerge, AreSafe, IsSafe, IsStoreSound}
 use Rattle.mvo_store.specs.Standing.{IsUp}
 use Rattle.mvo_store.specs.Writing.{IsFileDue, IsMergeFileAt, JobStandsFor, WritesFile, IsEndOf}
 use Rattle.mvo_store.specs.Calls.{IsMergeEnded, IsStoreStep}
-use Rattle.mvo_store.specs.Calls.StoreCall.{MergeDelta as EndMerge}
+use Rattle.mvo_store.specs.Calls.{StoreStep}
+use Rattle.mvo_store.specs.Calls.StoreStep.{Call}
+use Rattle.mvo_store.specs.declared.call.StoreCall.TheVariants.{Step}
 use Rattle.mvo_store.proofs.Keeping.{CountsNow, Begins, begins, may_end, slots_as, stays_up, stays_safe, looked_safe, fault_step, misread_step, looked_step, done_step}
 use Rattle.mvo_store.proofs.Turning.{ends_alone}
 use Rattle.mvo_store.proofs.Dues.{stands_of, step_others, step_leaves, step_slots}
 use Rattle.mvo_store.proofs.Looks.{looked_same, misread_count}
 
 -- its delta file comes next
+-- the call that writes the last file of a merge
+abbrev EndMerge : StoreStep
+EndMerge = Call (Step MergeDelta)
+
 last_stage : (stage : MergeStage) → merge_due_of stage ≡ MergeDelta → stage ≡ MergeAtDelta
 last_stage MergeAtData e = absurd (cc e)
 last_stage MergeAtDelta e = refl

@@ -31,8 +31,9 @@ use Rattle.mvo_store.specs.Causes.{why_not_take, why_not_rotate, why_not_checkpo
 use Rattle.mvo_store.specs.Jobs.{keeps_all_out, keeps_checkpoint_out, keeps_merge_out, has_checkpoint, has_rotation, is_step_due}
 use Rattle.mvo_store.specs.Planning.{MayReadCheckpoint}
 use Rattle.mvo_store.specs.MergeReading.{MayReadMerge}
-use Rattle.mvo_store.specs.Calls.{StoreCall, why_not_store, MayMeet, IsRefused, Makes, HasNoFault, LeftByRefusal, LeftByMemory, MayTouch, KeepsOthers, IsStoreStep, rows_behind}
-use Rattle.mvo_store.specs.Calls.StoreCall.{Take, AppendOpen, CheckpointRead, MergeRead, MergeDelta as MergeDeltaCall}
+use Rattle.mvo_store.specs.Calls.{StoreStep, why_not_store, MayMeet, IsRefused, Makes, HasNoFault, LeftByRefusal, LeftByMemory, MayTouch, KeepsOthers, IsStoreStep, rows_behind}
+use Rattle.mvo_store.specs.Calls.StoreStep.{Take, Call}
+use Rattle.mvo_store.specs.declared.call.StoreCall.TheVariants.{AppendOpen, CheckpointRead, MergeRead, Step}
 
 -- ---- the slots
 
@@ -164,13 +165,17 @@ module _ {D : Type 0} (d : Ghosts D) where
   }
 
 -- the store is up
-up_of : {D : Type 0} (s : StoreData D) (call : StoreCall) → why_not_store s call ≡ None → s.down ≡ false
+up_of : {D : Type 0} (s : StoreData D) (call : StoreStep) → why_not_store s call ≡ None → s.down ≡ false
 up_of s (Take g) e = grind arith
+up_of s (Call (Step MergeDelta)) e = grind arith
+up_of s (Call (Step (Install Open))) e = grind arith
 up_of s call e = grind arith
 
 -- no cause is a fault or what was misread
-cause_apart : {D : Type 0} (s : StoreData D) (call : StoreCall) (cause : Refusal) → why_not_store s call ≡ Some cause → (cause ≢ DiskFault) × (IsMisread cause → ⊥)
+cause_apart : {D : Type 0} (s : StoreData D) (call : StoreStep) (cause : Refusal) → why_not_store s call ≡ Some cause → (cause ≢ DiskFault) × (IsMisread cause → ⊥)
 cause_apart s (Take g) cause is = grind arith
+cause_apart s (Call (Step MergeDelta)) cause is = grind arith
+cause_apart s (Call (Step (Install Open))) cause is = grind arith
 cause_apart s call cause is = grind arith
 
 -- a step of a job may be made
@@ -212,72 +217,72 @@ pub may_merge_at : {D : Type 0} (place : ℕ) (s : StoreData D) → why_not_merg
 may_merge_at place s e = grind arith
 
 -- a refusal keeps the rows as they are
-err_keeps : {D : Type 0} (A : Type 0) (d : Ghosts D) (old new : StoreData D) (call : StoreCall) (e : Refusal) → KeepsAllRows d old new → IsKeeping d (rows_behind {A = A} old call (Err e)) old new
-err_keeps A d old new AppendOpen e h = h
+err_keeps : {D : Type 0} (A : Type 0) (d : Ghosts D) (old new : StoreData D) (call : StoreStep) (e : Refusal) → KeepsAllRows d old new → IsKeeping d (rows_behind {A = A} old call (Err e)) old new
+err_keeps A d old new (Call AppendOpen) e h = h
 err_keeps A d old new call e h = h
 
 module _ {D : Type 0} (d : Ghosts D) where
-  same_left : (call : StoreCall) (s : StoreData D) → LeftByMemory d call s s
-  same_left CheckpointRead s = record { after = refl; no_fault = refl }
-  same_left (MergeRead place) s = record { after = refl; no_fault = refl }
-  same_left MergeDeltaCall s = record { after = refl; no_fault = refl }
+  same_left : (call : StoreStep) (s : StoreData D) → LeftByMemory d call s s
+  same_left (Call CheckpointRead) s = record { after = refl; no_fault = refl }
+  same_left (Call (MergeRead place)) s = record { after = refl; no_fault = refl }
+  same_left (Call (Step MergeDelta)) s = record { after = refl; no_fault = refl }
   same_left call s = refl
 
   -- nothing changes
-  left_same : (call : StoreCall) (e : Refusal) (s : StoreData D) → e ≢ DiskFault → (IsMisread e → ⊥) → LeftByRefusal d call e s s
+  left_same : (call : StoreStep) (e : Refusal) (s : StoreData D) → e ≢ DiskFault → (IsMisread e → ⊥) → LeftByRefusal d call e s s
   left_same call e s ne never = record { fault = λ is. absurd (ne is); memory = λ is. same_left call s; misread = λ is. absurd (never is); other = λ f m n. refl }
 
   -- ---- the files
 
   -- no file changes
-  pub all_others : (call : StoreCall) (old new : StoreData D) → AllStay (d.content old.disk) (d.content new.disk) (d.may_leave old.disk) (d.may_leave new.disk) → KeepsOthers d call old new
+  pub all_others : (call : StoreStep) (old new : StoreData D) → AllStay (d.content old.disk) (d.content new.disk) (d.may_leave old.disk) (d.may_leave new.disk) → KeepsOthers d call old new
   all_others call old new stay = record { content = λ n _. stay.content n; images = λ n c _. stay.images n c; keeps = λ n c _. stay.keeps n c }
 
-  same_others : (call : StoreCall) (s : StoreData D) → KeepsOthers d call s s
+  same_others : (call : StoreStep) (s : StoreData D) → KeepsOthers d call s s
   same_others call s = record { content = λ n _. refl; images = λ n c _ left. left; keeps = λ n c _ left. left }
 
   -- but the one that the call may write
-  pub file_others : (call : StoreCall) (old new : StoreData D) (file : ℕ) → MayTouch d call old new file → OthersStay file (d.content old.disk) (d.content new.disk) (d.may_leave old.disk) (d.may_leave new.disk) → KeepsOthers d call old new
+  pub file_others : (call : StoreStep) (old new : StoreData D) (file : ℕ) → MayTouch d call old new file → OthersStay file (d.content old.disk) (d.content new.disk) (d.may_leave old.disk) (d.may_leave new.disk) → KeepsOthers d call old new
   file_others call old new file may rest =
       let apart : (n : ℕ) → (MayTouch d call old new n → ⊥) → n ≢ file = λ n others e. others (subst (MayTouch d call old new) (sym e) may) in
       record { content = λ n others. rest.content n (apart n others); images = λ n c others. rest.images n c (apart n others); keeps = λ n c others. rest.keeps n c (apart n others) }
 
   -- ---- a call that no cause refuses, of a store that is up
 
-  pub record Begins (s : StoreData D) (call : StoreCall) : Type 0 where
+  pub record Begins (s : StoreData D) (call : StoreStep) : Type 0 where
     pub none : why_not_store s call ≡ None
     pub up : s.down ≡ false
     pub sound : IsStoreSound d s
 
   -- so it is, where a store's value is known and its invariant
-  pub begins : (s t : StoreData D) (call : StoreCall) → s ≡ t → why_not_store t call ≡ None → (s.down ≡ false → IsStoreSound d s) → Begins s call
+  pub begins : (s t : StoreData D) (call : StoreStep) → s ≡ t → why_not_store t call ≡ None → (s.down ≡ false → IsStoreSound d s) → Begins s call
   begins s t call same none invariant =
       let here = subst (λ (u : StoreData D). why_not_store u call ≡ None) (sym same) none in
       record { none = here; up = up_of s call here; sound = invariant (up_of s call here) }
 
   -- ---- each way
 
-  pub err_is : (A : Type 0) (call : StoreCall) (why : Option Refusal) (e : Refusal) → why ≡ None → MayMeet call e → IsRefused {A = A} call why (Err e)
+  pub err_is : (A : Type 0) (call : StoreStep) (why : Option Refusal) (e : Refusal) → why ≡ None → MayMeet call e → IsRefused {A = A} call why (Err e)
   err_is A call why e none may = subst (λ (o : Option Refusal). IsRefused {A = A} call o (Err e)) (sym none) may
 
-  err_step : {A : Type 0} (s t : StoreData D) (call : StoreCall) (e : Refusal) → IsRefused {A = A} call (why_not_store s call) (Err e) → LeftByRefusal d call e s t → (IsHonest (d.moment t.disk) → IsHonest (d.moment s.disk)) → (IsHonest (d.moment t.disk) → KeepsAllRows d s t) → KeepsOthers d call s t → IsStoreStep {A = A} d s call (Err e) t
+  err_step : {A : Type 0} (s t : StoreData D) (call : StoreStep) (e : Refusal) → IsRefused {A = A} call (why_not_store s call) (Err e) → LeftByRefusal d call e s t → (IsHonest (d.moment t.disk) → IsHonest (d.moment s.disk)) → (IsHonest (d.moment t.disk) → KeepsAllRows d s t) → KeepsOthers d call s t → IsStoreStep {A = A} d s call (Err e) t
   err_step {A} s t call e refused left was keeps others = record { comes = record { refused = refused; made = tt; left = left }; honest = was; keeps = λ honest. err_keeps A d s t call e (keeps honest); others = others }
 
   -- it is refused, and nothing has changed
-  pub other_step : {A : Type 0} → OnlyNow d → (s t : StoreData D) (call : StoreCall) (e : Refusal) → t ≡ s → e ≢ DiskFault → (IsMisread e → ⊥) → IsRefused {A = A} call (why_not_store s call) (Err e) → IsStoreStep {A = A} d s call (Err e) t
+  pub other_step : {A : Type 0} → OnlyNow d → (s t : StoreData D) (call : StoreStep) (e : Refusal) → t ≡ s → e ≢ DiskFault → (IsMisread e → ⊥) → IsRefused {A = A} call (why_not_store s call) (Err e) → IsStoreStep {A = A} d s call (Err e) t
   other_step {A} only_now s t call e same ne never refused = subst (λ (u : StoreData D). IsStoreStep {A = A} d s call (Err e) u) (sym same) (err_step s s call e refused (left_same call e s ne never) (λ h. h) (λ _. refused_keeps d only_now s) (same_others call s))
 
   -- so where a cause stands
-  pub refused_step : {A : Type 0} → OnlyNow d → (s : StoreData D) (call : StoreCall) (cause : Refusal) → why_not_store s call ≡ Some cause → IsStoreStep {A = A} d s call (Err cause) s
+  pub refused_step : {A : Type 0} → OnlyNow d → (s : StoreData D) (call : StoreStep) (cause : Refusal) → why_not_store s call ≡ Some cause → IsStoreStep {A = A} d s call (Err cause) s
   refused_step {A} only_now s call cause is =
       let apart = cause_apart s call cause is in
       other_step only_now s s call cause refl apart.0 apart.1 (subst (λ (o : Option Refusal). IsRefused {A = A} call o (Err cause)) (sym is) refl)
 
   -- and where memory is refused first
-  pub memory_step : {A : Type 0} → OnlyNow d → (s : StoreData D) (call : StoreCall) → why_not_store s call ≡ None → MayMeet call OutOfMemory → IsStoreStep {A = A} d s call (Err OutOfMemory) s
+  pub memory_step : {A : Type 0} → OnlyNow d → (s : StoreData D) (call : StoreStep) → why_not_store s call ≡ None → MayMeet call OutOfMemory → IsStoreStep {A = A} d s call (Err OutOfMemory) s
   memory_step {A} only_now s call none may = other_step only_now s s call OutOfMemory refl (λ e. cc) (λ never. never) (err_is A call (why_not_store s call) OutOfMemory none may)
 
-module _ {D : Type 0} {d : Ghosts D} {s : StoreData D} {call : StoreCall} (b : Begins d s call) where
+module _ {D : Type 0} {d : Ghosts D} {s : StoreData D} {call : StoreStep} (b : Begins d s call) where
   -- the disk met a fault
   pub fault_step : {A : Type 0} → CountsNow d → (disk : D) (e : Refusal) → e ≡ DiskFault → MayMeet call DiskFault → d.fault_count disk ≡ d.fault_count s.disk + 1 → (IsHonest (d.moment disk) → IsHonest (d.moment s.disk)) → (IsHonest (d.moment disk) → AllLeave d s disk) → KeepsOthers d call s (record s { disk = disk; down = true })
       → IsStoreStep {A = A} d s call (Err e) (record s { disk = disk; down = true })

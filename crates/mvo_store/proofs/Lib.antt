@@ -4,6 +4,7 @@ pub mod Taken
 pub mod Counted
 pub mod Working
 pub mod Logged
+mod Goes
 pub mod Checkpoints
 pub mod Written
 pub mod Neighbours

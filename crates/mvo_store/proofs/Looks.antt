@@ -24,7 +24,7 @@ use Rattle.mvo_store.specs.Jobs.{Job, jobs_of, job_takes_file}
 use Rattle.mvo_store.specs.Jobs.Job.{Rotation, Checkpoint, Merge, MergeInstall}
 use Rattle.mvo_store.specs.Standing.{HaveJobs, ShareNone, JobsHaveRoom, IsUp, MayBeLeft, HasSlots, HasWork}
 use Rattle.mvo_store.specs.Safe.{IsStoreSound}
-use Rattle.mvo_store.specs.Calls.{MayMeet, Makes, IsStoreStep, rows_behind, StoreCall, HasNoFault, LeftByMemory}
+use Rattle.mvo_store.specs.Calls.{MayMeet, Makes, IsStoreStep, rows_behind, StoreStep, HasNoFault, LeftByMemory}
 use Rattle.mvo_store.proofs.Keeping.{stays_up, AllLeave, CountsNow, slots_as, now_left, touched_left, Begins, fault_step, misread_step, all_others, done_step, looked_step, looked_safe}
 use Rattle.mvo_store.proofs.Checkpoints.{stop_or_misread}
 use Rattle.mvo_store.proofs.Working.{IsOfPair, RestsOn, jobs_framed, each_job, each_follows, written_of_pair, merged_of_pair}
@@ -40,7 +40,7 @@ misread_count before now (Corrupt file) is count = count
 misread_count before now BadVersion is count = count
 misread_count before now e is count = absurd is
 
-module _ {D : Type 0} {d : Ghosts D} {s : StoreData D} {call : StoreCall} (b : Begins d s call) (new : D) (rest : AllStay (d.content s.disk) (d.content new) (d.may_leave s.disk) (d.may_leave new)) where
+module _ {D : Type 0} {d : Ghosts D} {s : StoreData D} {call : StoreStep} (b : Begins d s call) (new : D) (rest : AllStay (d.content s.disk) (d.content new) (d.may_leave s.disk) (d.may_leave new)) where
   -- the store stays up, whatever jobs run then
   pub looked_up : (rows : Map) (up : IsUp d s rows) (places : PlaceTable) (jobs : Jobs) → places.at ≡ s.places.at → JobsHaveRoom places jobs → HaveJobs (d.content s.disk) (d.may_leave s.disk) s.manifest up.parts jobs → ShareNone jobs → d.fault_count new ≡ d.fault_count s.disk
       → IsUp d (record s { disk = new; places = places; jobs = jobs }) rows
@@ -130,7 +130,7 @@ not_rested s n free j not_taken on = go (rests_kept s.manifest j n on)
     go (inl used) = unnamed_unused s.manifest n free.first free.unnamed used
     go (inr is) = absurd (cc (is, not_taken))
 
-module _ {D : Type 0} {d : Ghosts D} {s : StoreData D} {call : StoreCall} (b : Begins d s call) (mid new : D) (file : ℕ) (free : IsUnused s.manifest s.jobs file) (looks : AllStay (d.content s.disk) (d.content mid) (d.may_leave s.disk) (d.may_leave mid)) (rest : OthersStay file (d.content mid) (d.content new) (d.may_leave mid) (d.may_leave new)) where
+module _ {D : Type 0} {d : Ghosts D} {s : StoreData D} {call : StoreStep} (b : Begins d s call) (mid new : D) (file : ℕ) (free : IsUnused s.manifest s.jobs file) (looks : AllStay (d.content s.disk) (d.content mid) (d.may_leave s.disk) (d.may_leave mid)) (rest : OthersStay file (d.content mid) (d.content new) (d.may_leave mid) (d.may_leave new)) where
   -- the other files are as they were
   pub others_stay : OthersStay file (d.content s.disk) (d.content new) (d.may_leave s.disk) (d.may_leave new)
   others_stay = record {

@@ -30,8 +30,9 @@ use Rattle.mvo_store.specs.Safe.{IsSafeCheckpoint, IsSafeMerge, IsSafeWork, AreS
 use Rattle.mvo_store.specs.Standing.{IsRunning, HasWork, HaveJobs, ShareNone, JobsHaveRoom, JobHasRoom, IsUp, MayTakeOverOf, HaveKeysOf}
 use Rattle.mvo_store.specs.Steps.{manifest_after, places_after, manifest_by, segment_by, places_by, IsNextBy, IsNextOf, IsCheckpointOf, IsMergeOf}
 use Rattle.mvo_store.specs.Writing.{JobStandsFor, IsJobStep, IsDueStep}
-use Rattle.mvo_store.specs.Calls.{StoreCall, call_of, why_not_store, IsRefused, IsReadToCheckpoint, IsReadToMerge, IsStoreStep}
-use Rattle.mvo_store.specs.Calls.StoreCall.{InstallOpen, CheckpointRead, CheckpointDelta, MergeRead}
+use Rattle.mvo_store.specs.Calls.{StoreStep, IsReadToCheckpoint, IsReadToMerge, IsStoreStep}
+use Rattle.mvo_store.specs.Calls.StoreStep.{Call}
+use Rattle.mvo_store.specs.declared.call.StoreCall.TheVariants.{CheckpointRead, MergeRead, Step}
 use Rattle.mvo_store.proofs.Keeping.{OnlyNow, CountsNow, Begins, begins, may_open, none_keeps_checkpoint, none_keeps_merge, stays_safe, fault_step, done_step}
 use Rattle.mvo_store.proofs.Beside.{IsDueIn, due_in_jobs}
 use Rattle.mvo_store.proofs.Beside.IsDueIn.{TheRotation, TheMerge, TheCheckpoint, OfMerge}
@@ -44,26 +45,26 @@ use Rattle.mvo_store.proofs.CameLate.{merged_there}
 -- ---- a step that is due
 
 -- no cause refuses the call, and the step is the next of this job
-pub record IsDueAt {D : Type 0} (d : Ghosts D) (s : StoreData D) (call : StoreCall) (step : Due) : Type 0 where
+pub record IsDueAt {D : Type 0} (d : Ghosts D) (s : StoreData D) (call : StoreStep) (step : Due) : Type 0 where
   pub begins : Begins d s call
   pub job : Job
   pub is : job_due step s.jobs ≡ Some job
 
 -- so it is of a step other than the last file of a merge and the opening of a gate
-pub due_at : {D : Type 0} (d : Ghosts D) (s t : StoreData D) (step : Due) → IsPlain step → s ≡ t → why_not_due step t ≡ None → (s.down ≡ false → IsStoreSound d s) → IsDueAt d s (call_of step) step
+pub due_at : {D : Type 0} (d : Ghosts D) (s t : StoreData D) (step : Due) → IsPlain step → s ≡ t → why_not_due step t ≡ None → (s.down ≡ false → IsStoreSound d s) → IsDueAt d s (Call (Step step)) step
 due_at d s t step plain same none invariant =
     let b = begins_due d s t step plain same none invariant in
     let j = due_job s step plain b.none in
     record { begins = b; job = j.0; is = j.1 }
 
 -- and of the opening of a gate
-pub open_at : {D : Type 0} (d : Ghosts D) (s t : StoreData D) → s ≡ t → why_not_install_open t ≡ None → (s.down ≡ false → IsStoreSound d s) → IsDueAt d s InstallOpen (Install Open)
+pub open_at : {D : Type 0} (d : Ghosts D) (s t : StoreData D) → s ≡ t → why_not_install_open t ≡ None → (s.down ≡ false → IsStoreSound d s) → IsDueAt d s (Call (Step (Install Open))) (Install Open)
 open_at d s t same none invariant =
-    let b = begins d s t InstallOpen same none invariant in
+    let b = begins d s t (Call (Step (Install Open))) same none invariant in
     let j = some_due (Install Open) s.jobs (may_open s b.none).0 in
     record { begins = b; job = j.0; is = j.1 }
 
-module _ {D : Type 0} {d : Ghosts D} {s : StoreData D} {call : StoreCall} {step : Due} (b : IsDueAt d s call step) where
+module _ {D : Type 0} {d : Ghosts D} {s : StoreData D} {call : StoreStep} {step : Due} (b : IsDueAt d s call step) where
   -- how its job stands among those that run
   pub due_here : IsDueIn step s.jobs b.job
   due_here = due_in_jobs step s.jobs b.job b.is
@@ -80,7 +81,7 @@ module _ {D : Type 0} {d : Ghosts D} {s : StoreData D} {call : StoreCall} {step 
   written_here : (new : D) (result : Result (Unit {0}) Refusal) → IsDueStep d s.disk new s.manifest (job_due step s.jobs) result → IsJobStep d s.disk new s.manifest b.job result
   written_here new result made = subst (λ (o : Option Job). IsDueStep d s.disk new s.manifest o result) b.is made
 
-module _ {D : Type 0} {d : Ghosts D} {s : StoreData D} {step : Due} (plain : IsPlain step) (b : IsDueAt d s (call_of step) step) (new : D) where
+module _ {D : Type 0} {d : Ghosts D} {s : StoreData D} {step : Due} (plain : IsPlain step) (b : IsDueAt d s (Call (Step step)) step) (new : D) where
   module _ (made : IsDueStep d s.disk new s.manifest (job_due step s.jobs) (Ok tt)) where
     abbrev e : IsJobStep d s.disk new s.manifest b.job (Ok tt)
     e = written_here b new (Ok tt) made
@@ -98,7 +99,7 @@ module _ {D : Type 0} {d : Ghosts D} {s : StoreData D} {step : Due} (plain : IsP
       up = λ honest. let now = b.begins.sound.up (e.honest honest) in (now.0, up_so honest now.0 now.1);
     }
 
-    pub due_done : IsStoreStep {A = Unit {0}} d s (call_of step) (Ok tt) stepped
+    pub due_done : IsStoreStep {A = Unit {0}} d s (Call (Step step)) (Ok tt) stepped
     due_done = done_step b.begins stepped e.honest (step_leaves d s step b.job b.is new e.writes) (step_slots d s step b.job b.is new e.writes (after_step b.job) e.makes)
         (step_others d s step b.job b.is stepped (e.file (safe_work b.begins.sound.safe (due_here b)))) tt (makes_of d s stepped step plain refl) e.count
         (λ honest rows up. subst (λ (r : Map). IsUp d stepped r) (sym (rows_of {A = Unit {0}} s tt step rows)) (up_so honest rows up))
@@ -107,24 +108,11 @@ module _ {D : Type 0} {d : Ghosts D} {s : StoreData D} {step : Due} (plain : IsP
     abbrev r : IsJobStep d s.disk new s.manifest b.job (Err refusal)
     r = written_here b new (Err refusal) made
 
-    pub due_refused : OnlyNow d → CountsNow d → OnTrue down (refusal ≡ DiskFault) → IsStoreStep {A = Unit {0}} d s (call_of step) (Err refusal) (record s { disk = new; down = down })
+    pub due_refused : OnlyNow d → CountsNow d → OnTrue down (refusal ≡ DiskFault) → IsStoreStep {A = Unit {0}} d s (Call (Step step)) (Err refusal) (record s { disk = new; down = down })
     due_refused only_now counts_now fault = step_refused d s step b.job b.is new r.writes only_now counts_now b.begins r.honest (r.file (safe_work b.begins.sound.safe (due_here b))) refusal r.refused down fault other
 
     pub due_refused_sound : down ≡ false → IsStoreSound d (record s { disk = new; down = down })
     due_refused_sound is = refused_sound d s step b.job b.is new r.writes b.begins.sound (step_due b.job) refusal r.refused b.begins.up down other is
-
--- a refusal, whatever the call would have answered
-refused_as : (A B : Type 0) (call : StoreCall) (o : Option Refusal) (e : Refusal) → IsRefused {A = A} call o (Err e) → IsRefused {A = B} call o (Err e)
-refused_as A B call None e h = h
-refused_as A B call (Some cause) e h = let same : cause ≡ e = cc h in subst (λ (r : Refusal). IsRefused {A = B} call (Some cause) (Err r)) same refl
-
-pub delta_refused : {D : Type 0} (A : Type 0) (d : Ghosts D) (old new : StoreData D) (e : Refusal) → IsStoreStep {A = Unit {0}} d old CheckpointDelta (Err e) new → IsStoreStep {A = A} d old CheckpointDelta (Err e) new
-delta_refused A d old new e h = record {
-  comes = record { refused = refused_as (Unit {0}) A CheckpointDelta (why_not_store old CheckpointDelta) e h.comes.refused; made = tt; left = h.comes.left };
-  honest = h.honest;
-  keeps = h.keeps;
-  others = h.others;
-}
 
 -- ---- the opening of a gate
 
@@ -137,7 +125,7 @@ next_by content may m x (TheMerge seen i at) safe has =
 next_by content may m x (TheCheckpoint c g at) safe has = safe.next_is
 next_by content may m x (OfMerge c g at) safe has = never_opens g.stage at
 
-module _ {D : Type 0} {d : Ghosts D} {s : StoreData D} (b : IsDueAt d s InstallOpen (Install Open)) where
+module _ {D : Type 0} {d : Ghosts D} {s : StoreData D} (b : IsDueAt d s (Call (Step (Install Open))) (Install Open)) where
   next_is : next_installed s.jobs ≡ Some b.job
   next_is = installed_is (due_here b)
 
@@ -184,7 +172,7 @@ module _ {D : Type 0} {d : Ghosts D} {s : StoreData D} (b : IsDueAt d s InstallO
         up = λ honest. let now = b.begins.sound.up (i.honest honest) in (now.0, open_up honest now.0 now.1);
       }
 
-      pub open_done : {A : Type 0} (a : A) → IsStoreStep {A = A} d s InstallOpen (Ok a) opened
+      pub open_done : {A : Type 0} (a : A) → IsStoreStep {A = A} d s (Call (Step (Install Open))) (Ok a) opened
       open_done a = done_step b.begins opened i.honest (step_leaves d s (Install Open) b.job b.is new i.writes) (step_slots d s (Install Open) b.job b.is new i.writes (after_step b.job) i.makes)
           (step_others d s (Install Open) b.job b.is opened (i.file (safe_work b.begins.sound.safe (due_here b)))) a
           (record {
@@ -194,7 +182,7 @@ module _ {D : Type 0} {d : Ghosts D} {s : StoreData D} (b : IsDueAt d s InstallO
           }) i.count open_up
 
     -- only a fault refuses it
-    pub open_refused : {A : Type 0} → CountsNow d → (refusal : Refusal) → IsDueStep d s.disk new s.manifest (job_due (Install Open) s.jobs) (Err refusal) → IsStoreStep {A = A} d s InstallOpen (Err refusal) (record s { disk = new; down = true })
+    pub open_refused : {A : Type 0} → CountsNow d → (refusal : Refusal) → IsDueStep d s.disk new s.manifest (job_due (Install Open) s.jobs) (Err refusal) → IsStoreStep {A = A} d s (Call (Step (Install Open))) (Err refusal) (record s { disk = new; down = true })
     open_refused counts_now refusal made =
         let r = written_here b new (Err refusal) made in
         let fault = fault_only d.fault_count (step_due b.job) s.disk new refusal (step_is (due_here b)) r.refused in
@@ -202,7 +190,7 @@ module _ {D : Type 0} {d : Ghosts D} {s : StoreData D} (b : IsDueAt d s InstallO
 
 -- ---- a checkpoint is read
 
-module _ {D : Type 0} {d : Ghosts D} {s : StoreData D} (b : Begins d s CheckpointRead) (new : D) (rest : AllStay (d.content s.disk) (d.content new) (d.may_leave s.disk) (d.may_leave new)) (any_moment : LeavesOnly d.moment d.left_since s.disk new (AllOf (d.may_leave s.disk))) (count : d.fault_count new ≡ d.fault_count s.disk)
+module _ {D : Type 0} {d : Ghosts D} {s : StoreData D} (b : Begins d s (Call CheckpointRead)) (new : D) (rest : AllStay (d.content s.disk) (d.content new) (d.may_leave s.disk) (d.may_leave new)) (any_moment : LeavesOnly d.moment d.left_since s.disk new (AllOf (d.may_leave s.disk))) (count : d.fault_count new ≡ d.fault_count s.disk)
     (taken : Option Pair) (taken_is : taken ≡ merge_pair s.jobs) (c : Checkpointing) (safe : IsSafeCheckpoint s.manifest c) (to : IsNewCheckpoint (IsHonest (d.moment new)) (d.content s.disk) s.manifest (files_taken taken) c) (stands : IsHonest (d.moment new) → IsReadCheckpoint (d.content s.disk) (d.may_leave s.disk) s.manifest s.places.at c)
     (places : PlaceTable) (same : places.at ≡ s.places.at) (room : length c.made.records ≤ places.room) where
   -- the merge that runs, if one does
@@ -250,12 +238,12 @@ module _ {D : Type 0} {d : Ghosts D} {s : StoreData D} (b : Begins d s Checkpoin
     after = ap (λ (at : PlaceMap). record s { disk = new; places = record { at = at; room = places.room }; jobs = now_run }) same;
   }
 
-  pub checkpoint_done : IsStoreStep {A = Unit {0}} d s CheckpointRead (Ok tt) (read (with_checkpoint c s.jobs))
-  checkpoint_done = subst (λ (k : Jobs). IsStoreStep {A = Unit {0}} d s CheckpointRead (Ok tt) (read k)) jobs_are (looked_done b new rest any_moment places now_run tt makes count read_up)
+  pub checkpoint_done : IsStoreStep {A = Unit {0}} d s (Call CheckpointRead) (Ok tt) (read (with_checkpoint c s.jobs))
+  checkpoint_done = subst (λ (k : Jobs). IsStoreStep {A = Unit {0}} d s (Call CheckpointRead) (Ok tt) (read k)) jobs_are (looked_done b new rest any_moment places now_run tt makes count read_up)
 
 -- ---- a merge is read
 
-module _ {D : Type 0} {d : Ghosts D} {s : StoreData D} {place : ℕ} (b : Begins d s (MergeRead place)) (new : D) (rest : AllStay (d.content s.disk) (d.content new) (d.may_leave s.disk) (d.may_leave new)) (any_moment : LeavesOnly d.moment d.left_since s.disk new (AllOf (d.may_leave s.disk))) (count : d.fault_count new ≡ d.fault_count s.disk)
+module _ {D : Type 0} {d : Ghosts D} {s : StoreData D} {place : ℕ} (b : Begins d s (Call (MergeRead place))) (new : D) (rest : AllStay (d.content s.disk) (d.content new) (d.may_leave s.disk) (d.may_leave new)) (any_moment : LeavesOnly d.moment d.left_since s.disk new (AllOf (d.may_leave s.disk))) (count : d.fault_count new ≡ d.fault_count s.disk)
     (taken : Option Pair) (taken_is : taken ≡ checkpoint_pair s.jobs) (g : Merging) (safe : IsSafeMerge s.manifest g) (to : IsNewMerge (IsHonest (d.moment new)) (d.content s.disk) s.manifest (files_taken taken) place g) (stands : IsHonest (d.moment new) → IsReadMerge (d.content s.disk) (d.may_leave s.disk) s.manifest g) where
   -- the checkpoint that runs, if one does
   checkpoint_here : (c : Option Checkpointing) × (s.jobs ≡ Beside c None)
@@ -302,5 +290,5 @@ module _ {D : Type 0} {d : Ghosts D} {s : StoreData D} {place : ℕ} (b : Begins
     after = refl;
   }
 
-  pub merge_done : IsStoreStep {A = Unit {0}} d s (MergeRead place) (Ok tt) (merging (with_merge g s.jobs))
-  merge_done = subst (λ (k : Jobs). IsStoreStep {A = Unit {0}} d s (MergeRead place) (Ok tt) (merging k)) both_are (looked_done b new rest any_moment s.places both_run tt merge_makes count merge_up)
+  pub merge_done : IsStoreStep {A = Unit {0}} d s (Call (MergeRead place)) (Ok tt) (merging (with_merge g s.jobs))
+  merge_done = subst (λ (k : Jobs). IsStoreStep {A = Unit {0}} d s (Call (MergeRead place)) (Ok tt) (merging k)) both_are (looked_done b new rest any_moment s.places both_run tt merge_makes count merge_up)

@@ -60,11 +60,6 @@ pub after_pairs : (lo : ℕ) (ps : List Pair) (hi : ℕ) → lo ≤ MAX_STAMP �
 after_pairs lo [] hi le h = subst (λ (m : ℕ). m ≤ MAX_STAMP) h le
 after_pairs lo (p ∷ ps) hi le h = after_pairs p.hi.0 ps hi h.0.top h.1
 
-pub gives_stamp : (image : Image) (rows : Map) (mark : ℕ) → Gives rows mark image → mark ≤ MAX_STAMP
-gives_stamp image rows mark h =
-    let is = (gives_installed FIRST_FORMAT image rows mark h).1.own.is in
-    after_segments image h.manifest.segments h.manifest.checkpoint_mark h.groups mark (after_pairs 0 h.manifest.pairs h.manifest.checkpoint_mark (omega arith) is.rules.rise) h.have
-
 -- what an image gives is the one answer of opening it
 same_outcome : (content : Image) (out : OpeningOutcome) → IsAnswer content out → (rows : Map) (mark : ℕ) → Gives rows mark content → ◌≡◌ {A = OpeningOutcome} (Ok (rows, mark)) out
 same_outcome content out answer rows mark gives = answer.1 (Ok (rows, mark)) ((exact FIRST_FORMAT content rows mark).1 gives)

@@ -1,6 +1,6 @@
 -- The calls of a store: when each is refused, what it makes of the store, and what becomes of its
 -- rows.
-use Rattle.std.specs.Prelude.{◌≡◌, ◌≢◌, ◌⊎◌, ℕ, ◌+◌, List, [], true, false, Option, Some, None, Result, Ok, Err, OnOk, IfErr}
+use Rattle.std.specs.Prelude.{◌≡◌, ◌≢◌, ◌⊎◌, ℕ, ◌+◌, List, [], true, false, Option, Some, None, Result, Ok, Err, OnOk, IfErr, ⊤}
 use Rattle.mvo_types.specs.declared.refusal.Refusal.{Refusal}
 use Rattle.mvo_types.specs.declared.refusal.Refusal.TheVariants.{DiskFault, OutOfMemory}
 use Rattle.mvo_types.specs.Keys.{Map}
@@ -12,13 +12,19 @@ use Rattle.mvo_pair.specs.Files.{delta_bytes}
 use Rattle.mvo_manifest.specs.Data.{ManifestData}
 use Rattle.mvo_load.specs.Read.{IsMisread}
 use Rattle.mvo_store.specs.declared.jobs.due.Due.{Due}
-use Rattle.mvo_store.specs.declared.jobs.due.Due.TheVariants.{Data, Delta, Install}
-use Rattle.mvo_store.specs.declared.jobs.due.Due.TheVariants.{MergeData as DataOfMerge}
-use Rattle.mvo_store.specs.declared.jobs.due.Due.TheVariants.{MergeDelta as DeltaOfMerge}
+use Rattle.mvo_store.specs.declared.jobs.due.Due.TheVariants.{Data, Delta, MergeData, MergeDelta, Install}
 use Rattle.mvo_store.specs.declared.install.install_step.InstallStep.TheVariants.{Close, Body, Open}
+use Rattle.mvo_store.specs.declared.call.StoreCall.{StoreCall}
+use Rattle.mvo_store.specs.declared.call.StoreCall.TheVariants.{AppendBody, AppendOpen, RotateWrite}
+use Rattle.mvo_store.specs.declared.call.StoreCall.TheVariants.{CheckpointRead, MergeRead, Step, Reclaim}
 use Rattle.mvo_store.specs.declared.jobs.jobs.Jobs.TheVariants.{Beside}
 use Rattle.mvo_store.specs.declared.merge.merging.Merging.{Merging}
 use Rattle.mvo_store.specs.declared.jobs.progress.Progress.{Progress}
+use Rattle.mvo_store.specs.declared.jobs.progress.Progress.TheVariants.{More, Ready as AllWritten}
+use Rattle.mvo_store.specs.declared.done.Done.{Done}
+use Rattle.mvo_store.specs.declared.done.Done.TheVariants.{Written, Durable, Ready}
+use Rattle.mvo_store.specs.declared.done.Done.TheVariants.{Progress as Progressed, Shut}
+use Rattle.mvo_store.specs.declared.done.Done.TheVariants.{Installed, Reclaimed}
 use Rattle.mvo_store.specs.StoreData.{StoreData}
 use Rattle.mvo_store.specs.Standing.{IsKeeping, after_taken}
 use Rattle.mvo_store.specs.Causes.{why_not_take, why_not_append_body, why_not_append_open}
@@ -30,69 +36,44 @@ use Rattle.mvo_store.specs.Steps.{IsRotationOf, IsCheckpointOf, IsMergeOf, HasIn
 use Rattle.mvo_store.specs.Files.{IsLeastFree}
 use Rattle.mvo_store.specs.Merging.{merged_at, pair_with}
 use Rattle.mvo_store.specs.Writing.{IsFileDue, AreLateEntries}
-use Rattle.mvo_store.specs.Reclaiming.{IsUnused, IsLeastDead}
+use Rattle.mvo_store.specs.Reclaiming.{IsUnused, IsLeastDead, HasReclaimed}
 
-pub data StoreCall : Type 0 where
-  Take : GroupData → StoreCall
-  AppendBody : StoreCall
-  AppendOpen : StoreCall
-  RotateWrite : StoreCall
-  CheckpointRead : StoreCall
-  CheckpointData : StoreCall
-  CheckpointDelta : StoreCall
-  MergeRead : (place : ℕ) → StoreCall
-  MergeData : StoreCall
-  MergeDelta : StoreCall
-  InstallClose : StoreCall
-  InstallBody : StoreCall
-  InstallOpen : StoreCall
-  Reclaim : StoreCall
-
--- the call that makes this step of a job
-abbrev pub call_of : Due → StoreCall
-call_of Data = CheckpointData
-call_of Delta = CheckpointDelta
-call_of DataOfMerge = MergeData
-call_of DeltaOfMerge = MergeDelta
-call_of (Install Close) = InstallClose
-call_of (Install Body) = InstallBody
-call_of (Install Open) = InstallOpen
+-- what is asked of a store: to take a group, or a call
+pub data StoreStep : Type 0 where
+  Take : GroupData → StoreStep
+  Call : StoreCall → StoreStep
 
 -- ---- when it is refused
 
 -- the first refusal of the call's list whose test is true
-abbrev pub why_not_store : {D : Type 0} → StoreData D → StoreCall → Option Refusal
+abbrev pub why_not_store : {D : Type 0} → StoreData D → StoreStep → Option Refusal
 why_not_store s (Take g) = why_not_take s
-why_not_store s AppendBody = why_not_append_body s
-why_not_store s AppendOpen = why_not_append_open s
-why_not_store s RotateWrite = why_not_rotate s
-why_not_store s CheckpointRead = why_not_checkpoint s
-why_not_store s CheckpointData = why_not_due Data s
-why_not_store s CheckpointDelta = why_not_due Delta s
-why_not_store s (MergeRead place) = why_not_merge place s
-why_not_store s MergeData = why_not_due DataOfMerge s
-why_not_store s MergeDelta = why_not_merge_delta s
-why_not_store s InstallClose = why_not_due (Install Close) s
-why_not_store s InstallBody = why_not_due (Install Body) s
-why_not_store s InstallOpen = why_not_install_open s
-why_not_store s Reclaim = why_not_reclaim s
+why_not_store s (Call AppendBody) = why_not_append_body s
+why_not_store s (Call AppendOpen) = why_not_append_open s
+why_not_store s (Call RotateWrite) = why_not_rotate s
+why_not_store s (Call CheckpointRead) = why_not_checkpoint s
+why_not_store s (Call (MergeRead place)) = why_not_merge place s
+why_not_store s (Call (Step MergeDelta)) = why_not_merge_delta s
+why_not_store s (Call (Step (Install Open))) = why_not_install_open s
+why_not_store s (Call (Step step)) = why_not_due step s
+why_not_store s (Call Reclaim) = why_not_reclaim s
 
 -- What may refuse it where no cause stands: want of memory and a fault of the disk. Opening or
 -- closing a gate and emptying a file take no memory, and taking a group asks for neither. What is
 -- read may break a rule.
-abbrev pub MayMeet : StoreCall → Refusal → Type 0
+abbrev pub MayMeet : StoreStep → Refusal → Type 0
 MayMeet (Take g) e = ⊥
-MayMeet AppendOpen e = e ≡ DiskFault
-MayMeet InstallClose e = e ≡ DiskFault
-MayMeet InstallOpen e = e ≡ DiskFault
-MayMeet Reclaim e = e ≡ DiskFault
-MayMeet CheckpointRead e = (e ≡ OutOfMemory) ⊎ ((e ≡ DiskFault) ⊎ IsMisread e)
-MayMeet (MergeRead place) e = (e ≡ OutOfMemory) ⊎ ((e ≡ DiskFault) ⊎ IsMisread e)
-MayMeet MergeDelta e = (e ≡ OutOfMemory) ⊎ ((e ≡ DiskFault) ⊎ IsMisread e)
+MayMeet (Call AppendOpen) e = e ≡ DiskFault
+MayMeet (Call (Step (Install Close))) e = e ≡ DiskFault
+MayMeet (Call (Step (Install Open))) e = e ≡ DiskFault
+MayMeet (Call Reclaim) e = e ≡ DiskFault
+MayMeet (Call CheckpointRead) e = (e ≡ OutOfMemory) ⊎ ((e ≡ DiskFault) ⊎ IsMisread e)
+MayMeet (Call (MergeRead place)) e = (e ≡ OutOfMemory) ⊎ ((e ≡ DiskFault) ⊎ IsMisread e)
+MayMeet (Call (Step MergeDelta)) e = (e ≡ OutOfMemory) ⊎ ((e ≡ DiskFault) ⊎ IsMisread e)
 MayMeet call e = (e ≡ OutOfMemory) ⊎ (e ≡ DiskFault)
 
 -- the first cause that stands is the refusal
-abbrev pub IsRefused : {A : Type 0} → StoreCall → Option Refusal → Result A Refusal → Type 0
+abbrev pub IsRefused : {A : Type 0} → StoreStep → Option Refusal → Result A Refusal → Type 0
 IsRefused call (Some cause) result = result ≡ Err cause
 IsRefused call None (Ok a) = Unit {0}
 IsRefused call None (Err e) = MayMeet call e
@@ -176,24 +157,21 @@ pub record IsMergeEnded {D : Type 0} (d : Ghosts D) (old new : StoreData D) : Ty
   }
 
 -- what an accepted call makes of the store
-abbrev pub Makes : {D : Type 0} → Ghosts D → StoreCall → StoreData D → StoreData D → Type 0
+abbrev pub Makes : {D : Type 0} → Ghosts D → StoreStep → StoreData D → StoreData D → Type 0
 Makes d (Take g) old new = new ≡ record old { pending = Some g }
-Makes d AppendBody old new = IsBodyWritten old new
-Makes d AppendOpen old new = IsDurable old new
-Makes d RotateWrite old new = HasBegunRotation old new
-Makes d CheckpointRead old new = IsReadToCheckpoint d old new
-Makes d CheckpointData old new = HasStepped Data old new
-Makes d CheckpointDelta old new = HasStepped Delta old new
-Makes d (MergeRead place) old new = IsReadToMerge d place old new
-Makes d MergeData old new = HasStepped DataOfMerge old new
-Makes d MergeDelta old new = IsMergeEnded d old new
-Makes d InstallClose old new = HasStepped (Install Close) old new
-Makes d InstallBody old new = HasStepped (Install Body) old new
-Makes d InstallOpen old new = HasInstalledNext (IsHonest (d.moment new.disk)) old new
-Makes d Reclaim old new = new ≡ record old { disk = new.disk }
+Makes d (Call AppendBody) old new = IsBodyWritten old new
+Makes d (Call AppendOpen) old new = IsDurable old new
+Makes d (Call RotateWrite) old new = HasBegunRotation old new
+Makes d (Call CheckpointRead) old new = IsReadToCheckpoint d old new
+Makes d (Call (MergeRead place)) old new = IsReadToMerge d place old new
+Makes d (Call (Step MergeDelta)) old new = IsMergeEnded d old new
+Makes d (Call (Step (Install Open))) old new =
+    HasInstalledNext (IsHonest (d.moment new.disk)) old new
+Makes d (Call (Step step)) old new = HasStepped step old new
+Makes d (Call Reclaim) old new = new ≡ record old { disk = new.disk }
 
 -- so it does, and no call of the device failed
-pub record IsMade {D : Type 0} (d : Ghosts D) (call : StoreCall) (old new : StoreData D) : Type 0
+pub record IsMade {D : Type 0} (d : Ghosts D) (call : StoreStep) (old new : StoreData D) : Type 0
   where
     pub makes : Makes d call old new
     pub no_fault : HasNoFault d old new
@@ -212,6 +190,24 @@ AnswersProgress old progress = progress ≡ progress_of old.jobs
 abbrev pub AnswersGeneration : {D : Type 0} → StoreData D → ℕ → Type 0
 AnswersGeneration new generation = generation ≡ new.manifest.generation
 
+-- what an accepted call answers
+abbrev pub AnswersCall : {D : Type 0} → Ghosts D → StoreData D → StoreCall → Done → StoreData D
+    → Type 0
+AnswersCall d old AppendBody Written new = ⊤
+AnswersCall d old AppendOpen (Durable mark) new = AnswersMark new mark
+AnswersCall d old RotateWrite Ready new = ⊤
+AnswersCall d old CheckpointRead (Progressed More) new = ⊤
+AnswersCall d old (MergeRead place) (Progressed More) new = ⊤
+AnswersCall d old (Step Data) (Progressed More) new = ⊤
+AnswersCall d old (Step Delta) (Progressed progress) new = AnswersProgress old progress
+AnswersCall d old (Step MergeData) (Progressed More) new = ⊤
+AnswersCall d old (Step MergeDelta) (Progressed AllWritten) new = ⊤
+AnswersCall d old (Step (Install Close)) Shut new = ⊤
+AnswersCall d old (Step (Install Body)) Written new = ⊤
+AnswersCall d old (Step (Install Open)) (Installed g) new = AnswersGeneration new g.0
+AnswersCall d old Reclaim (Reclaimed answer) new = HasReclaimed d old answer new
+AnswersCall d old call done new = ⊥
+
 -- ---- what a refusal leaves
 
 -- the store met a fault: it is down, and nothing else of it has changed
@@ -225,10 +221,10 @@ pub record HasLooked {D : Type 0} (d : Ghosts D) (old new : StoreData D) : Type 
   pub no_fault : HasNoFault d old new
 
 -- a call that reads files first has looked at the disk before memory is refused
-abbrev pub LeftByMemory : {D : Type 0} → Ghosts D → StoreCall → StoreData D → StoreData D → Type 0
-LeftByMemory d CheckpointRead old new = HasLooked d old new
-LeftByMemory d (MergeRead place) old new = HasLooked d old new
-LeftByMemory d MergeDelta old new = HasLooked d old new
+abbrev pub LeftByMemory : {D : Type 0} → Ghosts D → StoreStep → StoreData D → StoreData D → Type 0
+LeftByMemory d (Call CheckpointRead) old new = HasLooked d old new
+LeftByMemory d (Call (MergeRead place)) old new = HasLooked d old new
+LeftByMemory d (Call (Step MergeDelta)) old new = HasLooked d old new
 LeftByMemory d call old new = new ≡ old
 
 -- A file came back otherwise than it was written: the store is down, and nothing else of it has
@@ -239,7 +235,7 @@ pub record HasMisread {D : Type 0} (d : Ghosts D) (old new : StoreData D) : Type
   pub lied : IsHonest (d.moment new.disk) → ⊥
 
 -- nothing changes, but after a fault and what was misread
-pub record LeftByRefusal {D : Type 0} (d : Ghosts D) (call : StoreCall) (e : Refusal)
+pub record LeftByRefusal {D : Type 0} (d : Ghosts D) (call : StoreStep) (e : Refusal)
     (old new : StoreData D) : Type 0 where
   pub fault : e ≡ DiskFault → IsFault d old new
   pub memory : e ≡ OutOfMemory → LeftByMemory d call old new
@@ -250,15 +246,15 @@ pub record LeftByRefusal {D : Type 0} (d : Ghosts D) (call : StoreCall) (e : Ref
 
 -- It is refused by the first cause that stands, and else by what it may meet; accepted, it makes
 -- of the store what it is for, and refused it leaves it.
-pub record ComesTo {D A : Type 0} (d : Ghosts D) (old : StoreData D) (call : StoreCall)
+pub record ComesTo {D A : Type 0} (d : Ghosts D) (old : StoreData D) (call : StoreStep)
     (result : Result A Refusal) (new : StoreData D) : Type 0 where
   pub refused : IsRefused call (why_not_store old call) result
   pub made : OnOk result (IsMade d call old new)
   pub left : IfErr result (λ e. LeftByRefusal d call e old new)
 
 -- the rows behind it: a group that became durable is among them
-abbrev pub rows_behind : {D A : Type 0} → StoreData D → StoreCall → Result A Refusal → Map → Map
-rows_behind s AppendOpen (Ok a) rows = after_taken rows s.pending
+abbrev pub rows_behind : {D A : Type 0} → StoreData D → StoreStep → Result A Refusal → Map → Map
+rows_behind s (Call AppendOpen) (Ok a) rows = after_taken rows s.pending
 rows_behind s call result rows = rows
 
 -- ---- the files
@@ -279,28 +275,20 @@ abbrev pub IsFileOf : {D : Type 0} → Due → StoreData D → ℕ → Type 0
 IsFileOf step s n = IsFileOfJob s.manifest (job_due step s.jobs) n
 
 -- The one file that a call may write, accepted or refused. None where it takes a group or reads.
-abbrev pub MayWrite : {D : Type 0} → Ghosts D → Type 0 → StoreData D → StoreCall → ℕ → Type 0
-MayWrite d honest s (Take g) n = ⊥
-MayWrite d honest s AppendBody n = n ≡ s.segment.file
-MayWrite d honest s AppendOpen n = n ≡ s.segment.file
-MayWrite d honest s RotateWrite n = IsLeastFree s.manifest [] n
-MayWrite d honest s CheckpointRead n = ⊥
-MayWrite d honest s (MergeRead place) n = ⊥
-MayWrite d honest s Reclaim n = IsReclaimable d honest s n
-MayWrite d honest s CheckpointData n = IsFileOf Data s n
-MayWrite d honest s CheckpointDelta n = IsFileOf Delta s n
-MayWrite d honest s MergeData n = IsFileOf DataOfMerge s n
-MayWrite d honest s MergeDelta n = IsFileOf DeltaOfMerge s n
-MayWrite d honest s InstallClose n = IsFileOf (Install Close) s n
-MayWrite d honest s InstallBody n = IsFileOf (Install Body) s n
-MayWrite d honest s InstallOpen n = IsFileOf (Install Open) s n
+abbrev pub MayWrite : {D : Type 0} → Ghosts D → Type 0 → StoreData D → StoreStep → ℕ → Type 0
+MayWrite d honest s (Call AppendBody) n = n ≡ s.segment.file
+MayWrite d honest s (Call AppendOpen) n = n ≡ s.segment.file
+MayWrite d honest s (Call RotateWrite) n = IsLeastFree s.manifest [] n
+MayWrite d honest s (Call (Step step)) n = IsFileOf step s n
+MayWrite d honest s (Call Reclaim) n = IsReclaimable d honest s n
+MayWrite d honest s call n = ⊥
 
 -- so far as the disk has answered as written behind it
-abbrev pub MayTouch : {D : Type 0} → Ghosts D → StoreCall → StoreData D → StoreData D → ℕ → Type 0
+abbrev pub MayTouch : {D : Type 0} → Ghosts D → StoreStep → StoreData D → StoreData D → ℕ → Type 0
 MayTouch d call old new n = MayWrite d (IsHonest (d.moment new.disk)) old call n
 
 -- All others keep their content and exactly their images.
-pub record KeepsOthers {D : Type 0} (d : Ghosts D) (call : StoreCall) (old new : StoreData D)
+pub record KeepsOthers {D : Type 0} (d : Ghosts D) (call : StoreStep) (old new : StoreData D)
     : Type 0 where
   pub content : (n : ℕ) → (MayTouch d call old new n → ⊥) →
       d.content new.disk n ≡ d.content old.disk n
@@ -313,7 +301,7 @@ pub record KeepsOthers {D : Type 0} (d : Ghosts D) (call : StoreCall) (old new :
 
 -- So it is; a wrong answer of the disk isn't forgotten; where it has answered as written up to the
 -- end of the call, a stop at any moment leaves the rows; and the other files stay.
-pub record IsStoreStep {D A : Type 0} (d : Ghosts D) (old : StoreData D) (call : StoreCall)
+pub record IsStoreStep {D A : Type 0} (d : Ghosts D) (old : StoreData D) (call : StoreStep)
     (result : Result A Refusal) (new : StoreData D) : Type 0 where
   pub comes : ComesTo d old call result new
   pub honest : IsHonest (d.moment new.disk) → IsHonest (d.moment old.disk)

@@ -1,65 +1,51 @@
--- One turn of a flush: which steps of a log it takes, and what it comes to.
-use Rattle.std.specs.Prelude.{◌≡◌, ◌≢◌, ◌⊎◌, Bool, true, false, List, [], ◌∷◌, Result, Ok, Err}
+-- One turn of a flush: which calls of a log it makes, and what it comes to.
+use Rattle.std.specs.Prelude.{◌≡◌, ◌≢◌, ◌⊎◌, Bool, true, false, Result, Ok, Err}
 use Rattle.mvo_types.specs.declared.refusal.Refusal.{Refusal}
 use Rattle.mvo_types.specs.declared.refusal.Refusal.TheVariants.{Busy, NothingToDo, SegmentFull}
-use Rattle.mvo_store.specs.declared.append.log_step.LogStep.{LogStep}
-use Rattle.mvo_store.specs.declared.append.log_step.LogStep.TheVariants.{Take, AppendBody, AppendOpen}
-use Rattle.mvo_store.specs.declared.append.log_step.LogStep.TheVariants.{RotateWrite}
-use Rattle.mvo_store.specs.declared.append.log_step.LogStep.TheVariants.{InstallClose, InstallBody, InstallOpen}
+use Rattle.mvo_store.specs.declared.call.StoreCall.{StoreCall}
+use Rattle.mvo_store.specs.declared.call.StoreCall.TheVariants.{AppendBody, AppendOpen}
+use Rattle.mvo_store.specs.declared.done.Done.{Done}
+use Rattle.mvo_store.specs.Wholes.{IsThen, AreToRefusal, rotation}
 
--- Each refusal stops a turn, but these: a group is pending already; its body is written already. A
--- segment that is full is no end of it either: `IsAppend` says what comes then.
-abbrev pub turn_goes_on : LogStep → Result (Unit {0}) Refusal → Bool
-turn_goes_on s (Ok a) = true
-turn_goes_on Take (Err Busy) = true
-turn_goes_on AppendBody (Err Busy) = true
-turn_goes_on s (Err e) = false
+-- Accepted, or Busy: so a group is pending, by this taking or before; or a body is written.
+abbrev pub lets_go_on : {A : Type 0} → Result A Refusal → Bool
+lets_go_on (Ok a) = true
+lets_go_on (Err Busy) = true
+lets_go_on (Err e) = false
 
--- the steps of a rotation, in their order
-abbrev pub log_rotation : List LogStep
-log_rotation = RotateWrite ∷ InstallClose ∷ InstallBody ∷ InstallOpen ∷ []
-
--- the steps that append a group, in their order
-abbrev pub group_append : List LogStep
-group_append = AppendBody ∷ AppendOpen ∷ []
-
--- ---- by what the steps of a log come to
-module _ {L : Type 0} (ComesTo : L → LogStep → Result (Unit {0}) Refusal → L → Type 0) where
-  -- One step after another, up to the first that stops them. The result is that of the last one.
-  abbrev pub AreUntilStop : List LogStep → L → Result (Unit {0}) Refusal → L → Type 0
-  AreUntilStop [] l r l' = ⊥
-  AreUntilStop (s ∷ []) l r l' = ComesTo l s r l'
-  AreUntilStop (s ∷ next ∷ rest) l r l' =
-      (ComesTo l s r l' × (turn_goes_on s r ≡ false))
-      ⊎ ((q : Result (Unit {0}) Refusal) × (m : L) × ComesTo l s q m × (turn_goes_on s q ≡ true)
-      × AreUntilStop (next ∷ rest) m r l')
+-- ---- by what the calls of a log come to
+module _ {L : Type 0} (ComesTo : L → StoreCall → Result Done Refusal → L → Type 0) where
+  -- the body of the pending group is written, and its gate is opened
+  pub data IsAppendHere (l : L) (r : Result Done Refusal) (l' : L) : Type 0 where
+    HereAtBody : lets_go_on r ≡ false → ComesTo l AppendBody r l' → IsAppendHere l r l'
+    HereAtOpen : (q : Result Done Refusal) (m : L) → lets_go_on q ≡ true
+        → ComesTo l AppendBody q m → ComesTo m AppendOpen r l' → IsAppendHere l r l'
 
   -- a rotation of the log, and where it isn't refused an append
-  pub data IsRotatedAppend (l : L) (r : Result (Unit {0}) Refusal) (l' : L) : Type 0 where
-    AtRotation : (e : Refusal) → r ≡ Err e → AreUntilStop log_rotation l r l'
-        → IsRotatedAppend l r l'
-    AtAppend : (m : L) → AreUntilStop log_rotation l (Ok tt) m → AreUntilStop group_append m r l'
-        → IsRotatedAppend l r l'
+  abbrev pub IsRotatedAppend : L → Result Done Refusal → L → Type 0
+  IsRotatedAppend = IsThen (AreToRefusal ComesTo rotation) IsAppendHere
 
   -- An append of the pending group. Where the segment is full for it, and only there, the log is
   -- rotated first.
-  pub data IsAppend (l : L) (r : Result (Unit {0}) Refusal) (l' : L) : Type 0 where
-    AtBody : r ≢ Err SegmentFull → turn_goes_on AppendBody r ≡ false
+  pub data IsAppend (l : L) (r : Result Done Refusal) (l' : L) : Type 0 where
+    AtBody : r ≢ Err SegmentFull → lets_go_on r ≡ false
         → ComesTo l AppendBody r l' → IsAppend l r l'
-    AtOpen : (q : Result (Unit {0}) Refusal) (m : L) → turn_goes_on AppendBody q ≡ true
+    AtOpen : (q : Result Done Refusal) (m : L) → lets_go_on q ≡ true
         → ComesTo l AppendBody q m → ComesTo m AppendOpen r l' → IsAppend l r l'
     AtFull : (m : L) → ComesTo l AppendBody (Err SegmentFull) m
         → IsRotatedAppend m r l' → IsAppend l r l'
 
+module _ {L : Type 0} (Takes : L → Result (Unit {0}) Refusal → L → Type 0)
+    (ComesTo : L → StoreCall → Result Done Refusal → L → Type 0) where
   -- the next group is taken, where none is pending, and then the pending one is appended
-  abbrev pub TakesAndAppends : L → Result (Unit {0}) Refusal → L → Type 0
+  abbrev pub TakesAndAppends : L → Result Done Refusal → L → Type 0
   TakesAndAppends l r l' = (q : Result (Unit {0}) Refusal) × (m : L)
-      × ComesTo l Take q m × (turn_goes_on Take q ≡ true) × IsAppend m r l'
+      × Takes l q m × (lets_go_on q ≡ true) × IsAppend ComesTo m r l'
 
-  -- Either there is no group to take; or one is made durable; or a step is refused.
+  -- Either there is no group to take; or one is made durable; or a call is refused.
   abbrev pub IsTurn : L → Result Bool Refusal → L → Type 0
-  IsTurn l (Ok false) l' = ComesTo l Take (Err NothingToDo) l'
-  IsTurn l (Ok true) l' = TakesAndAppends l (Ok tt) l'
+  IsTurn l (Ok false) l' = Takes l (Err NothingToDo) l'
+  IsTurn l (Ok true) l' = (done : Done) × TakesAndAppends l (Ok done) l'
   IsTurn l (Err e) l' =
-      (ComesTo l Take (Err e) l' × (turn_goes_on Take (Err e) ≡ false) × (e ≢ NothingToDo))
+      (Takes l (Err e) l' × (lets_go_on {A = Unit {0}} (Err e) ≡ false) × (e ≢ NothingToDo))
       ⊎ TakesAndAppends l (Err e) l'

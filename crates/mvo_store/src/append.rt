@@ -3,5 +3,4 @@
 pub mod durable;
 pub mod flushing;
 pub mod log;
-pub mod log_step;
 pub mod steps;

@@ -6,3 +6,5 @@ pub mod jobs;
 pub mod progress;
 pub mod run_due;
 pub mod step_files;
+pub mod store_caller;
+pub mod whole;

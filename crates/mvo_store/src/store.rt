@@ -70,9 +70,9 @@ impl<D: Disk> Model for Store<D> {
 }
 
 impl<D: Disk> Store<D> {
-    ghost use Rattle.std.specs.Prelude.{◌≡◌, None, IfErr};
+    ghost use Rattle.std.specs.Prelude.{◌≡◌, None, Ok, IfErr};
     ghost use Rattle.mvo_store.specs.Causes.{has_group, why_not_take};
-    ghost use Rattle.mvo_store.specs.Calls.StoreCall.{Take};
+    ghost use Rattle.mvo_store.specs.Calls.StoreStep.{Take};
     ghost use Rattle.mvo_store.specs.Calls.{IsStoreStep, without_group};
 
     /// The disk, as it stands.
@@ -128,6 +128,17 @@ impl<D: Disk> Store<D> {
         None
     }
 
+    /// Takes a group to append, where `can_take` answers no refusal. Its prev is the store's mark.
+    pub fn accept_group(&mut self, group: Group)
+        requires free { why_not_take self.old ≡ None }
+        requires follows { group.prev ≡ self.old.mark }
+        ensures { IsStoreStep {A = Unit {0}} D.Disk self.old (Take group) (Ok tt) self.new }
+    {
+        // A look at a field: from then on the proof knows that the group keeps its rules.
+        let _ = group.mark();
+        self.pending = Some(group);
+    }
+
     /// Takes a group to append. Its prev is the store's mark.
     ///
     /// Refused, the group comes back: Down, then Busy where a group is pending.
@@ -140,9 +151,7 @@ impl<D: Disk> Store<D> {
         if let Some(refusal) = self.can_take() {
             return Err((refusal, group));
         }
-        // A look at a field: from then on the proof knows that the group keeps its rules.
-        let _ = group.mark();
-        self.pending = Some(group);
+        self.accept_group(group);
         Ok(())
     }
 }

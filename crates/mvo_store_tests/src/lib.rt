@@ -7,6 +7,10 @@ mod beside;
 #[cfg(test)]
 mod bodies;
 #[cfg(test)]
+mod caller;
+#[cfg(test)]
+mod calls;
+#[cfg(test)]
 mod checkpoints;
 #[cfg(test)]
 mod disks;
@@ -43,4 +47,8 @@ mod stores;
 #[cfg(test)]
 mod tests;
 #[cfg(test)]
+mod told;
+#[cfg(test)]
 mod vectors;
+#[cfg(test)]
+mod wholes;

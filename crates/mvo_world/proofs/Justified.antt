@@ -16,7 +16,7 @@ use Rattle.mvo_theory.specs.Marks.{low_water}
 use Rattle.mvo_types.specs.Causes.{when}
 use Rattle.mvo_theory.specs.Causes.{why_not_close, awaited, end_of}
 use Rattle.mvo_theory.specs.Calls.{Call, Result, IsRefusal, MayCome, steps_of, answer_in, steps_unless}
-use Rattle.mvo_theory.specs.Calls.Call.{Begin as BeginCall, Precommit as PrecommitCall, Validate as ValidateCall, Settle as SettleCall, Rollback as RollbackCall, Finish as FinishCall, Do}
+use Rattle.mvo_theory.specs.Calls.Call.{Begin as BeginCall, Precommit as PrecommitCall, Validate as ValidateCall, Settle as SettleCall, Rollback as RollbackCall, Finish as FinishCall, Do as DoCall}
 use Rattle.mvo_theory.specs.Calls.Result.{Accepted, Refused as RefusedCall}
 use Rattle.mvo_theory.proofs.Snapshots.{answers_traced}
 use Rattle.mvo_theory.specs.Counts.{checks_in}
@@ -37,13 +37,12 @@ use Rattle.mvo_types.specs.declared.limits.TheConstants.{RING_GROUPS}
 use Rattle.mvo_world.specs.Justified.{IsJust, IsNextStamp, IsJustOperation, IsJustCheck, IsJustSettlement, untaken, IsJustClosing, IsJustifiedBy}
 use Rattle.mvo_world.specs.Replies.{IsAsked, IsOpAnswered, IsDrawn, IsReplyTo}
 use Rattle.mvo_world.specs.declared.event.Event.{Event}
-use Rattle.mvo_world.specs.declared.event.Event.TheVariants.{Begin, Read, Scan, Insert, Update, Delete, Precommit, Validate, Settle, Rollback, Finish, CloseGroup}
+use Rattle.mvo_world.specs.declared.event.Event.TheVariants.{Begin, Do, Precommit, Validate, Settle, Rollback, Finish, CloseGroup}
 use Rattle.mvo_world.specs.declared.reply.Reply.{Reply}
 use Rattle.mvo_world.specs.declared.reply.Reply.TheVariants.{Began, Answered, Prepared, Validated, Settled, RolledBack, Finished, Closed, Refused}
 use Rattle.mvo_model.specs.Trace.Step.{Answers, Terminates}
 use Rattle.mvo_theory.specs.Words.{is_done}
 use Rattle.mvo_core.specs.declared.answers.Finishing.TheVariants.{More, Done}
-use Rattle.mvo_types.specs.declared.op.Op.TheVariants as op
 use Rattle.mvo_core.specs.declared.answers.Finishing as finishing
 
 module _ {D : Type 0} (d : Ghosts D) (p : Past) (w : WorldData D) (h : IsAfter d p w) where
@@ -58,7 +57,7 @@ module _ {D : Type 0} (d : Ghosts D) (p : Past) (w : WorldData D) (h : IsAfter d
 
   done : (t : ℕ) (o : Op) (a : Answer) (w' : WorldData D) → IsOpAnswered w t o a w' → IsJustOperation p t o (Answered a)
   done t o a w' q = (
-    just (Do t o) Accepted w' q.0,
+    just (DoCall t o) Accepted w' q.0,
     q.1 p.rows p.steps h.state h.core ∙ answers_traced p.rows p.steps h.state t o (q.0.leads p.rows p.steps h.state h.core).may.0 h.core.versions.kept,
   )
 
@@ -115,16 +114,8 @@ module _ {D : Type 0} (d : Ghosts D) (p : Past) (w : WorldData D) (h : IsAfter d
   pub justified_reply : (e : Event) (r : Reply) (w' : WorldData D) → IsReplyTo d w e r w' → IsJustifiedBy p e r
   justified_reply Begin (Began t) w' q = (just BeginCall Accepted w' q.0, drawn t.0 q.1)
   justified_reply Begin (Refused r) w' q = just BeginCall (RefusedCall r) w' q
-  justified_reply (Read t k) (Answered a) w' q = done t.0 (op.Read k) a w' q
-  justified_reply (Read t k) (Refused r) w' q = just (Do t.0 (op.Read k)) (RefusedCall r) w' q
-  justified_reply (Scan t table lo hi) (Answered a) w' q = done t.0 (op.Scan table lo hi) a w' q
-  justified_reply (Scan t table lo hi) (Refused r) w' q = just (Do t.0 (op.Scan table lo hi)) (RefusedCall r) w' q
-  justified_reply (Insert t row) (Answered a) w' q = done t.0 (op.Insert row) a w' q
-  justified_reply (Insert t row) (Refused r) w' q = just (Do t.0 (op.Insert row)) (RefusedCall r) w' q
-  justified_reply (Update t row) (Answered a) w' q = done t.0 (op.Update row) a w' q
-  justified_reply (Update t row) (Refused r) w' q = just (Do t.0 (op.Update row)) (RefusedCall r) w' q
-  justified_reply (Delete t k) (Answered a) w' q = done t.0 (op.Delete k) a w' q
-  justified_reply (Delete t k) (Refused r) w' q = just (Do t.0 (op.Delete k)) (RefusedCall r) w' q
+  justified_reply (Do t op) (Answered a) w' q = done t.0 op a w' q
+  justified_reply (Do t op) (Refused r) w' q = just (DoCall t.0 op) (RefusedCall r) w' q
   justified_reply (Precommit t) (Prepared e) w' q = (just (PrecommitCall t.0) Accepted w' q.0, drawn e.0 q.1)
   justified_reply (Precommit t) (Refused r) w' q = just (PrecommitCall t.0) (RefusedCall r) w' q
   justified_reply (Validate t) (Validated v) w' q = (just (ValidateCall t.0) Accepted w' q.0, check t.0 v w' q.0 q.1)
@@ -139,7 +130,7 @@ module _ {D : Type 0} (d : Ghosts D) (p : Past) (w : WorldData D) (h : IsAfter d
   justified_reply e r w' q = search
 
 -- the answer to an operation is that of the serial step on the snapshot
-pub answered : (s : State) {t : ℕ} {o : Op} (a : Answer) → answer_data a ≡ answer_in s t o → Answers t o (answer_data a) ∷ [] ≡ steps_of s (Do t o) Accepted
+pub answered : (s : State) {t : ℕ} {o : Op} (a : Answer) → answer_data a ≡ answer_in s t o → Answers t o (answer_data a) ∷ [] ≡ steps_of s (DoCall t o) Accepted
 answered s {t} {o} a e = ap (λ (x : AnswerData). Answers t o x ∷ []) e
 
 -- one that waits is no step

@@ -1,6 +1,6 @@
 -- What each event makes of a world that stands after a past.
 use Rattle.std.proofs.Common.{◌≡◌, ℕ, ◌+◌, ◌≤◌, length, Bool, true, false, List, [], ◌∷◌, ◌++◌, Option, None, Some, Result, Ok, Err, map, refl, sym, ap, ◌∙◌, subst, arith, append_assoc, append-nil}
-use Rattle.std.specs.Prelude.{is_some, nat_le}
+use Rattle.std.specs.Prelude.{IfOk, is_some, nat_le}
 use Rattle.std.specs.Option.{option_to_list}
 use Rattle.std.specs.List.{AllByRecursion}
 use Rattle.std.proofs.lemmas.Bool.{leb-true}
@@ -11,7 +11,7 @@ use Rattle.mvo_types.specs.declared.ids.Stamp.{Stamp}
 use Rattle.mvo_types.specs.declared.ids.TxId.{TxId}
 use Rattle.mvo_types.specs.declared.answer.Answer.{Answer}
 use Rattle.mvo_types.specs.declared.op.Op.{Op}
-use Rattle.mvo_types.specs.declared.op.Op.TheVariants as op
+use Rattle.mvo_types.specs.declared.op.Op.TheVariants.{Insert, Update}
 use Rattle.mvo_types.specs.Keys.{Map}
 use Rattle.mvo_model.specs.Trace.{Step}
 use Rattle.mvo_disk.specs.declared.disk.Disk.{Ghosts}
@@ -22,7 +22,7 @@ use Rattle.mvo_theory.specs.State.{State, Marks, opened}
 use Rattle.mvo_theory.specs.Marks.{IsClosedAt, StaysBelow}
 use Rattle.mvo_theory.specs.Changes.{after_close}
 use Rattle.mvo_theory.specs.Calls.{Call, Result as CallResult, after_call, steps_of}
-use Rattle.mvo_theory.specs.Calls.Call.{Do, Trim}
+use Rattle.mvo_theory.specs.Calls.Call.{Do as DoCall, Trim}
 use Rattle.mvo_theory.specs.Calls.Result.{Accepted}
 use Rattle.mvo_theory.proofs.Each.{each_weaker, each_append}
 use Rattle.mvo_theory.specs.Counted.{HasCounts}
@@ -44,9 +44,13 @@ use Rattle.mvo_store.specs.Seen.{disk_of, mark_of, pending_of}
 use Rattle.mvo_store.specs.StoreData.{StoreData, opening}
 use Rattle.mvo_store.specs.Standing.{MayBeLeft, KeepsRows, after_taken, IsKeeping, KeepsAllRows}
 use Rattle.mvo_store.specs.Causes.{why_not_take}
-use Rattle.mvo_store.specs.Calls.{StoreCall, ComesTo, IsStoreStep}
-use Rattle.mvo_store.specs.Calls.StoreCall.{Take, AppendOpen as AppendOpenCall}
-use Rattle.mvo_store.proofs.Taken.{KeepsTaken, IsQuiet, left_taken, quiet_taken, quiet_rows, refused_rows, accepted_by, refused_by}
+use Rattle.mvo_store.specs.Calls.{AnswersCall, IsStoreStep}
+use Rattle.mvo_store.specs.Calls.StoreStep.{Take, Call as CallOf}
+use Rattle.mvo_store.specs.declared.call.StoreCall.{StoreCall}
+use Rattle.mvo_store.specs.declared.call.StoreCall.TheVariants.{AppendOpen}
+use Rattle.mvo_store.specs.declared.done.Done.{Done}
+use Rattle.mvo_store.specs.declared.done.Done.TheVariants as answer
+use Rattle.mvo_store.proofs.Taken.{KeepsTaken, IsQuiet, left_taken, quiet_taken, quiet_rows, refused_rows}
 use Rattle.mvo_store.proofs.Keeping.{OnlyNow, refused_keeps}
 use Rattle.mvo_world.specs.WorldData.{WorldData, waiting, Follow, IsLinked, IsSoundWorld, IsJustOpened}
 use Rattle.mvo_theory.specs.rests.Course.{trims_after}
@@ -56,12 +60,12 @@ use Rattle.mvo_world.specs.Past.{Past, course_of, happened, trimmed_by, acknowle
 use Rattle.mvo_core.specs.Groups.{HaveRecordsOf}
 use Rattle.mvo_world.specs.Standing.{IsAfter, HasHonestDisk, RecoversPrefix}
 use Rattle.mvo_world.specs.Ring.{oldest, IsClosingInto}
-use Rattle.mvo_world.specs.Replies.{IsReplyTo, IsAsked, IsStored, HasRow, operation_event, or_nothing, reply_to}
+use Rattle.mvo_world.specs.Replies.{IsReplyTo, IsAsked, HasRow, or_nothing, reply_of}
 use Rattle.mvo_world.specs.Justified.{IsJustifiedBy}
 use Rattle.mvo_world.specs.Steps.{IsStepBy, IsWorldStep}
 use Rattle.mvo_types.specs.declared.limits.TheConstants.{RING_GROUPS}
 use Rattle.mvo_world.specs.declared.event.Event.{Event}
-use Rattle.mvo_world.specs.declared.event.Event.TheVariants.{Insert, Update, Collect, CloseGroup, TakeGroup, AppendOpen, Poll}
+use Rattle.mvo_world.specs.declared.event.Event.TheVariants.{Do, Collect, CloseGroup, TakeGroup, Store, Poll}
 use Rattle.mvo_world.specs.declared.reply.Reply.{Reply}
 use Rattle.mvo_world.specs.declared.reply.Reply.TheVariants.{Answered, Collected, Closed, Taken, Durable, Polled, Refused}
 use Rattle.mvo_world.proofs.Chain.{groups_stay, group_of_next}
@@ -118,8 +122,9 @@ IsSilent e r = (happened e r ≡ []) × (acknowledged_by e r ≡ []) × (groups_
 
 -- so it is with an event whose copy was refused
 pub silent_copy : (e : Event) → HasRow e → IsSilent e (Refused OutOfMemory)
-silent_copy (Insert t row) h = (refl, refl, refl)
-silent_copy (Update t row) h = (refl, refl, refl)
+silent_copy (Do t (Insert row)) h = (refl, refl, refl)
+silent_copy (Do t (Update row)) h = (refl, refl, refl)
+silent_copy (Do t op) h = absurd h
 silent_copy e h = absurd h
 
 silent_past : (p : Past) (e : Event) (r : Reply) → IsSilent e r → p ≡ with_event p e r
@@ -181,25 +186,25 @@ module _ {D : Type 0} (d : Ghosts D) where
   store_moved w store e r silent reply taken was keeps =
       moved (IsReplyTo d) IsJustifiedBy w (record w { store = store }) e r silent reply (λ p h. justified_reply d p w h e r (record w { store = store }) reply) (λ p h. h.core) refl (ap (λ (q : Option GroupData). option_to_list q ++ w.ring) taken.pending) taken.mark was keeps
 
-  stored : {A : Type 0} (w : WorldData D) (store : StoreData D) (call : StoreCall) (a : A) → ComesTo d w.store call (Ok a) store → IsStored d w call (Ok tt) (record w { store = store })
-  stored w store call a h = record { comes = accepted_by d w.store call a store h; rest = refl }
+  -- so of an accepted call, but for the one that opens a gate
+  done : (w : WorldData D) {store : StoreData D} (call : StoreCall) (answer : Done) → IsStoreStep d w.store (CallOf call) (Ok answer) store → IsQuiet (CallOf call) → IsSilent (Store call) (reply_of (Ok answer)) → AnswersCall d w.store call answer store → IsWorldStep d w (Store call) (reply_of (Ok answer)) (record w { store = store })
+  done w {store} call answer h quiet silent answers =
+      store_moved w store (Store call) (reply_of (Ok answer)) silent (Ok answer, refl, record { comes = h.comes; answers = answers; rest = refl })
+      (quiet_taken d w.store (CallOf call) (Ok answer) store quiet h.comes) h.honest (quiet_rows d w.store (CallOf call) (Ok answer) store quiet h)
 
-  pub done : {A : Type 0} (w : WorldData D) {store : StoreData D} {call : StoreCall} {a : A} {e : Event} {r : Reply} → IsStoreStep d w.store call (Ok a) store → IsQuiet call → IsSilent e r
-      → (IsStored d w call (Ok tt) (record w { store = store }) → IsReplyTo d w e r (record w { store = store })) → IsWorldStep d w e r (record w { store = store })
-  done w {store} {call} {a} {e} {r} h quiet silent reply =
-      store_moved w store e r silent (reply (stored w store call a h.comes)) (quiet_taken d w.store call (Ok a) store quiet h.comes) h.honest (quiet_rows d w.store call (Ok a) store quiet h)
+  silent : (call : StoreCall) (answer : Done) → IsQuiet (CallOf call) → IsSilent (Store call) (reply_of (Ok answer))
+  silent AppendOpen answer quiet = absurd quiet
+  silent call answer quiet = (refl, refl, refl)
 
-  -- and one that is refused
-  pub refused : {A : Type 0} (w : WorldData D) {store : StoreData D} {call : StoreCall} {why : Refusal} {e : Event} → IsStoreStep {A = A} d w.store call (Err why) store → IsSilent e (Refused why)
-      → (IsStored d w call (Err why) (record w { store = store }) → IsReplyTo d w e (Refused why) (record w { store = store })) → IsWorldStep d w e (Refused why) (record w { store = store })
-  refused {A} w {store} {call} {why} {e} h silent reply =
-      store_moved w store e (Refused why) silent (reply (record { comes = refused_by A d w.store call why store h.comes; rest = refl })) (left_taken d call why w.store store h.comes.left) h.honest (refused_rows A d w.store call why store h)
-
-  -- whatever it comes to
-  pub called : (w : WorldData D) {store : StoreData D} {call : StoreCall} {e : Event} (result : Result (Unit {0}) Refusal) (r : Reply) → IsStoreStep d w.store call result store → IsQuiet call → IsSilent e r → ((why : Refusal) → IsSilent e (Refused why)) → (IsStored d w call (Ok tt) (record w { store = store }) → IsReplyTo d w e r (record w { store = store }))
-      → ((why : Refusal) → IsStored d w call (Err why) (record w { store = store }) → IsReplyTo d w e (Refused why) (record w { store = store })) → IsWorldStep d w e (reply_to result r) (record w { store = store })
-  called w (Ok a) r h quiet silent none made left = done w h quiet silent made
-  called w (Err why) r h quiet silent none made left = refused w h (none why) (left why)
+  -- and of one that is refused
+  refused : (w : WorldData D) {store : StoreData D} (call : StoreCall) (why : Refusal) → IsStoreStep {A = Done} d w.store (CallOf call) (Err why) store → IsWorldStep d w (Store call) (Refused why) (record w { store = store })
+  refused w {store} call why h =
+      store_moved w store (Store call) (Refused why) (silent_refused call) (Err why, refl, record { comes = h.comes; answers = tt; rest = refl })
+      (left_taken d (CallOf call) why w.store store h.comes.left) h.honest (refused_rows Done d w.store (CallOf call) why store h)
+    where
+      silent_refused : (call : StoreCall) → IsSilent (Store call) (Refused why)
+      silent_refused AppendOpen = (refl, refl, refl)
+      silent_refused call = (refl, refl, refl)
 
   -- ---- a group is taken
   pub taken : (w : WorldData D) {ring : List GroupData} {store : StoreData D} (g : GroupData) → why_not_take w.store ≡ None → w.ring ≡ g ∷ ring → IsStoreStep {A = Unit {0}} d w.store (Take g) (Ok tt) store → IsWorldStep d w TakeGroup Taken (record w { ring = ring; store = store })
@@ -219,14 +224,17 @@ module _ {D : Type 0} (d : Ghosts D) where
       (subst (λ m. AllByRecursion (λ n. n ≤ m) p.acknowledged) (sym mark) a.covers) (p.taken + 1) ((omega (arith, ends, untaken)), (omega (arith, ends, room)))))
 
   -- ---- a group becomes durable
-  pub durable : {A : Type 0} (w : WorldData D) {store : StoreData D} {a : A} (mark : Stamp) → IsStoreStep d w.store AppendOpenCall (Ok a) store → mark.0 ≡ mark_of store → IsWorldStep d w AppendOpen (Durable mark) (record w { store = store })
-  durable w {store} {a} mark h is =
-      stepped (IsReplyTo d) IsJustifiedBy w w' AppendOpen (Durable mark) (λ rows. after_taken rows (pending_of w.store)) (stored w store AppendOpenCall a h.comes, is) (λ p b. tt) h.honest h.keeps after
+  durable : (w : WorldData D) {store : StoreData D} (n : ℕ) → IsStoreStep d w.store (CallOf AppendOpen) (Ok (answer.Durable n)) store → n ≡ mark_of store → IsWorldStep d w (Store AppendOpen) (Durable (record { 0 = n })) (record w { store = store })
+  durable w {store} n h is =
+      stepped (IsReplyTo d) IsJustifiedBy w w' (Store AppendOpen) (Durable mark) (λ rows. after_taken rows (pending_of w.store)) (Ok (answer.Durable n), refl, record { comes = h.comes; answers = is; rest = refl }) (λ p b. tt) h.honest h.keeps after
     where
+      mark : Stamp
+      mark = record { 0 = n }
+
       w' : WorldData D
       w' = record w { store = store }
 
-      after : (p : Past) (b : IsAfter d p w) → (IsHonest (d.moment (disk_of store)) → KeepsRows d store (after_taken (after_groups p.rows b.sent) (pending_of w.store))) → IsAfter d (with_event p AppendOpen (Durable mark)) w'
+      after : (p : Past) (b : IsAfter d p w) → (IsHonest (d.moment (disk_of store)) → KeepsRows d store (after_taken (after_groups p.rows b.sent) (pending_of w.store))) → IsAfter d (with_event p (Store AppendOpen) (Durable mark)) w'
       after p b keeps =
           let made = h.comes.made.makes in
           let g = made.group in
@@ -239,7 +247,7 @@ module _ {D : Type 0} (d : Ghosts D) where
           let list : b.sent ++ waiting w ≡ (b.sent ++ g ∷ []) ++ waiting w' = ap (λ gs. b.sent ++ gs) before ∙ sym (append_assoc b.sent (g ∷ []) w.ring) ∙ ap (λ gs. (b.sent ++ g ∷ []) ++ gs) (sym later) in
           let groups = subst (HaveRecordsOf b.state first) list b.groups in
           let up : mark_after first b.sent ≤ g.mark = marks_rise b.state (mark_after first b.sent) (g ∷ []) (groups_back b.state first b.sent (g ∷ []) (groups_front b.state first (b.sent ++ g ∷ []) (waiting w') groups)) in
-          subst (λ (q : Past). IsAfter d q w') (past_is p AppendOpen (Durable mark) p.steps p.trims (p.acknowledged ++ mark.0 ∷ []) p.closed p.taken (append-nil p.steps) (append-nil p.trims) refl (append-nil p.closed) (none_more p.taken)) (record {
+          subst (λ (q : Past). IsAfter d q w') (past_is p (Store AppendOpen) (Durable mark) p.steps p.trims (p.acknowledged ++ mark.0 ∷ []) p.closed p.taken (append-nil p.steps) (append-nil p.trims) refl (append-nil p.closed) (none_more p.taken)) (record {
             sent = b.sent ++ g ∷ [];
             state = b.state;
             core = b.core;
@@ -256,6 +264,13 @@ module _ {D : Type 0} (d : Ghosts D) where
             untaken = b.untaken;
             room = b.room;
           })
+
+  -- a call of the store, whatever it comes to
+  pub called : (w : WorldData D) {store : StoreData D} (call : StoreCall) (result : Result Done Refusal) → IsStoreStep d w.store (CallOf call) result store → IfOk result (λ a. AnswersCall d w.store call a store) → IsWorldStep d w (Store call) (reply_of result) (record w { store = store })
+  called w call (Err why) h answers = refused w call why h
+  called w AppendOpen (Ok (answer.Durable n)) h answers = durable w n h answers
+  called w AppendOpen (Ok a) h answers = absurd answers
+  called w call (Ok a) h answers = done w call a h tt (silent call a tt) answers
 
   module _ (only_now : OnlyNow d) where
     -- nothing happens
@@ -281,13 +296,11 @@ module _ {D : Type 0} (d : Ghosts D) where
         w' = record w { core = core }
 
     -- an operation is answered
-    pub answered_step : (w : WorldData D) {core : CoreData} (t : TxId) (o : Op) (a : Answer) → IsStep {A = Answer} w.core (Do t.0 o) (Ok a) core → IsAnswered w.core t.0 o a → IsWorldStep d w (operation_event t o) (Answered a) (record w { core = core })
-    answered_step w t (op.Read k) a step answer = told w step (λ asked. (asked, answer)) (λ opening xs s h. answered s a (answer opening xs s h)) (refl, refl)
+    pub answered_step : (w : WorldData D) {core : CoreData} (t : TxId) (o : Op) (a : Answer) → IsStep {A = Answer} w.core (DoCall t.0 o) (Ok a) core → IsAnswered w.core t.0 o a → IsWorldStep d w (Do t o) (Answered a) (record w { core = core })
     answered_step w t o a step answer = told w step (λ asked. (asked, answer)) (λ opening xs s h. answered s a (answer opening xs s h)) (refl, refl)
 
     -- or refused
-    pub unanswered_step : (w : WorldData D) {core : CoreData} (t : TxId) (o : Op) {r : Refusal} → IsStep {A = Answer} w.core (Do t.0 o) (Err r) core → IsWorldStep d w (operation_event t o) (Refused r) (record w { core = core })
-    unanswered_step w t (op.Read k) step = told w step (λ asked. asked) (λ opening xs s h. refl) (refl, refl)
+    pub unanswered_step : (w : WorldData D) {core : CoreData} (t : TxId) (o : Op) {r : Refusal} → IsStep {A = Answer} w.core (DoCall t.0 o) (Err r) core → IsWorldStep d w (Do t o) (Refused r) (record w { core = core })
     unanswered_step w t o step = told w step (λ asked. asked) (λ opening xs s h. refl) (refl, refl)
 
     -- a collection, over which the state stays

@@ -2,7 +2,6 @@
 use Rattle.std.specs.Prelude.{◌≡◌, ◌⊎◌, ◌+◌, ◌-◌, ◌<◌, ◌≤◌, ℕ, length, ⊤}
 use Rattle.mvo_types.specs.declared.op.Op.{Op}
 use Rattle.mvo_types.specs.declared.refusal.Refusal.TheVariants.{RingFull, OutOfMemory}
-use Rattle.mvo_types.specs.declared.op.Op.TheVariants as op
 use Rattle.mvo_types.specs.AnswerData.{answer_data}
 use Rattle.mvo_model.specs.Serial.{answer_to}
 use Rattle.mvo_model.specs.Trace.{history_of, phase_of}
@@ -10,7 +9,7 @@ use Rattle.mvo_model.specs.Trace.Phase.{Preparing}
 use Rattle.mvo_theory.specs.Entries.{entries}
 use Rattle.mvo_theory.specs.Snapshots.{snapshot_of}
 use Rattle.mvo_theory.specs.Calls as theory
-use Rattle.mvo_theory.specs.Calls.Call.{Begin as BeginCall, Precommit as PrecommitCall, Validate as ValidateCall, Settle as SettleCall, Rollback as RollbackCall, Finish as FinishCall, Do}
+use Rattle.mvo_theory.specs.Calls.Call.{Begin as BeginCall, Precommit as PrecommitCall, Validate as ValidateCall, Settle as SettleCall, Rollback as RollbackCall, Finish as FinishCall, Do as DoCall}
 use Rattle.mvo_theory.specs.Calls.Result.{Accepted, Refused as RefusedCall}
 use Rattle.mvo_theory.specs.Counts.{draws, checks_in}
 use Rattle.mvo_theory.specs.Justified.{IsJustified}
@@ -24,7 +23,7 @@ use Rattle.mvo_world.specs.Past.{Past, course_of}
 use Rattle.mvo_world.specs.Replies.{HasRow}
 use Rattle.mvo_types.specs.declared.limits.TheConstants.{RING_GROUPS}
 use Rattle.mvo_world.specs.declared.event.Event.{Event}
-use Rattle.mvo_world.specs.declared.event.Event.TheVariants.{Begin, Read, Scan, Insert, Update, Delete, Precommit, Validate, Settle, Rollback, Finish, CloseGroup}
+use Rattle.mvo_world.specs.declared.event.Event.TheVariants.{Begin, Do, Precommit, Validate, Settle, Rollback, Finish, CloseGroup}
 use Rattle.mvo_world.specs.declared.reply.Reply.{Reply}
 use Rattle.mvo_world.specs.declared.reply.Reply.TheVariants.{Began, Answered, Prepared, Validated, Settled, RolledBack, Finished, Closed, Refused}
 
@@ -40,8 +39,8 @@ IsNextStamp p n = n ≡ p.mark + draws p.steps + 1
 -- an operation, with the answer of the serial step on what the transaction sees
 abbrev pub IsJustOperation : Past → ℕ → Op → Reply → Type 0
 IsJustOperation p t op (Answered a) =
-    IsJust p (Do t op) Accepted × (answer_data a ≡ answer_to op (snapshot_of p.rows p.steps t))
-IsJustOperation p t op (Refused r) = IsJust p (Do t op) (RefusedCall r)
+    IsJust p (DoCall t op) Accepted × (answer_data a ≡ answer_to op (snapshot_of p.rows p.steps t))
+IsJustOperation p t op (Refused r) = IsJust p (DoCall t op) (RefusedCall r)
 IsJustOperation p t op r = ⊥
 
 -- Valid comes with the check of the last entry, or behind it
@@ -72,11 +71,7 @@ abbrev pub IsJustifiedBy : Past → Event → Reply → Type 0
 IsJustifiedBy p Begin (Began t) = IsJust p BeginCall Accepted × IsNextStamp p t.0
 IsJustifiedBy p Begin (Refused r) = IsJust p BeginCall (RefusedCall r)
 IsJustifiedBy p Begin r = ⊥
-IsJustifiedBy p (Read t k) r = IsJustOperation p t.0 (op.Read k) r
-IsJustifiedBy p (Scan t table lo hi) r = IsJustOperation p t.0 (op.Scan table lo hi) r
-IsJustifiedBy p (Insert t row) r = IsJustOperation p t.0 (op.Insert row) r
-IsJustifiedBy p (Update t row) r = IsJustOperation p t.0 (op.Update row) r
-IsJustifiedBy p (Delete t k) r = IsJustOperation p t.0 (op.Delete k) r
+IsJustifiedBy p (Do t op) r = IsJustOperation p t.0 op r
 IsJustifiedBy p (Precommit t) (Prepared e) =
     IsJust p (PrecommitCall t.0) Accepted × IsNextStamp p e.0
 IsJustifiedBy p (Precommit t) (Refused r) = IsJust p (PrecommitCall t.0) (RefusedCall r)

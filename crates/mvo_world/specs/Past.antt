@@ -3,14 +3,14 @@ use Rattle.std.specs.Prelude.{ℕ, ◌+◌, true, List, [], ◌∷◌, ◌++◌,
 use Rattle.mvo_model.specs.Trace.{Step, IsSerial}
 use Rattle.mvo_model.specs.Trace.Step.{Begins, Answers, Prepares, Checks, Commits, Aborts, Terminates}
 use Rattle.mvo_types.specs.Keys.{Map}
-use Rattle.mvo_types.specs.declared.op.Op.TheVariants as op
 use Rattle.mvo_types.specs.AnswerData.{answer_data}
 use Rattle.mvo_theory.specs.Steps.{steps_of_refusal}
 use Rattle.mvo_theory.specs.rests.Course.{Course}
 use Rattle.mvo_core.specs.declared.answers.Settlement.TheVariants.{Committed}
 use Rattle.mvo_core.specs.declared.answers.Finishing.TheVariants.{Done}
+use Rattle.mvo_store.specs.declared.call.StoreCall.TheVariants.{AppendOpen}
 use Rattle.mvo_world.specs.declared.event.Event.{Event}
-use Rattle.mvo_world.specs.declared.event.Event.TheVariants.{Begin, Read, Scan, Insert, Update, Delete, Precommit, Validate, Settle, Rollback, Finish, Trim, CloseGroup, TakeGroup, AppendOpen, Poll}
+use Rattle.mvo_world.specs.declared.event.Event.TheVariants.{Begin, Do, Precommit, Validate, Settle, Rollback, Finish, Trim, CloseGroup, TakeGroup, Store, Poll}
 use Rattle.mvo_world.specs.declared.reply.Reply.{Reply}
 use Rattle.mvo_world.specs.declared.reply.Reply.TheVariants.{Began, Answered, Prepared, Validated, Settled, RolledBack, Finished, Trimmed, Closed, Taken, Durable, Polled, Refused}
 
@@ -53,17 +53,8 @@ IsSerialPast p = IsSerial p.rows p.steps
 -- What it is in the trace. A refusal that is a failure aborts its transaction.
 abbrev pub happened : Event → Reply → List Step
 happened Begin (Began t) = Begins t.0 ∷ []
-happened (Read t k) (Answered a) = Answers t.0 (op.Read k) (answer_data a) ∷ []
-happened (Read t k) (Refused r) = steps_of_refusal t.0 r
-happened (Scan t table lo hi) (Answered a) =
-    Answers t.0 (op.Scan table lo hi) (answer_data a) ∷ []
-happened (Scan t table lo hi) (Refused r) = steps_of_refusal t.0 r
-happened (Insert t row) (Answered a) = Answers t.0 (op.Insert row) (answer_data a) ∷ []
-happened (Insert t row) (Refused r) = steps_of_refusal t.0 r
-happened (Update t row) (Answered a) = Answers t.0 (op.Update row) (answer_data a) ∷ []
-happened (Update t row) (Refused r) = steps_of_refusal t.0 r
-happened (Delete t k) (Answered a) = Answers t.0 (op.Delete k) (answer_data a) ∷ []
-happened (Delete t k) (Refused r) = steps_of_refusal t.0 r
+happened (Do t op) (Answered a) = Answers t.0 op (answer_data a) ∷ []
+happened (Do t op) (Refused r) = steps_of_refusal t.0 r
 happened (Precommit t) (Prepared e) = Prepares t.0 e.0 ∷ []
 happened (Precommit t) (Refused r) = steps_of_refusal t.0 r
 happened (Validate t) (Validated v) = Checks t.0 ∷ []
@@ -81,7 +72,7 @@ trimmed_by e r = []
 
 -- an answered durable mark, or a timestamp whose poll answered yes
 abbrev pub acknowledged_by : Event → Reply → List ℕ
-acknowledged_by AppendOpen (Durable mark) = mark.0 ∷ []
+acknowledged_by (Store AppendOpen) (Durable mark) = mark.0 ∷ []
 acknowledged_by (Poll stamp) (Polled true) = stamp.0 ∷ []
 acknowledged_by e r = []
 

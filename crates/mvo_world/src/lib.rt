@@ -8,6 +8,6 @@ mod ring;
 mod world;
 
 pub use event::Event;
-pub use reply::Reply;
+pub use reply::{Reply, reply_of};
 pub use ring::Ring;
 pub use world::World;

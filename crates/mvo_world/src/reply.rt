@@ -1,8 +1,8 @@
 ghost use Rattle.std.specs.Prelude.{◌≡◌};
-ghost use Rattle.mvo_world.specs.Replies.{reply_to};
+ghost use Rattle.mvo_world.specs.Replies.{reply_of, reply_to_taking};
 
 use mvo_core::{Closed, Collection, Finishing, Settlement, Validation};
-use mvo_store::{Generation, Progress, Reclaimed};
+use mvo_store::{Done, Generation, Progress, Reclaimed};
 use mvo_types::{Answer, Refusal, Stamp, TxId};
 
 /// What is answered to a step.
@@ -50,12 +50,28 @@ pub enum Reply {
     Refused(Refusal),
 }
 
-/// The reply to a call that answers nothing: this one, or that it is refused.
-pub(crate) fn reply_to(came: Result<(), Refusal>, done: Reply) -> Reply
-    ensures { result ≡ reply_to came done }
+/// The reply to a call of the store.
+pub fn reply_of(came: Result<Done, Refusal>) -> Reply
+    ensures { result ≡ reply_of came }
 {
     match came {
-        Ok(()) => done,
+        Ok(Done::Written) => Reply::Written,
+        Ok(Done::Durable(durable)) => Reply::Durable(durable.mark()),
+        Ok(Done::Ready) => Reply::Ready,
+        Ok(Done::Progress(progress)) => Reply::Progress(progress),
+        Ok(Done::Shut) => Reply::Shut,
+        Ok(Done::Installed(generation)) => Reply::Installed(generation),
+        Ok(Done::Reclaimed(reclaimed)) => Reply::Reclaimed(reclaimed),
+        Err(refusal) => Reply::Refused(refusal),
+    }
+}
+
+/// The reply to a taking of the oldest closed group.
+pub(crate) fn reply_to_taking(came: Result<(), Refusal>) -> Reply
+    ensures { result ≡ reply_to_taking came }
+{
+    match came {
+        Ok(()) => Reply::Taken,
         Err(refusal) => Reply::Refused(refusal),
     }
 }

@@ -6,13 +6,12 @@ mod transactions;
 
 use crate::event::Event;
 use crate::push::push_reserved;
-use crate::reply::{Reply, reply_to};
+use crate::reply::{Reply, reply_of, reply_to_taking};
 use crate::ring::Ring;
 use mvo_core::Core;
 use mvo_disk::Disk;
-use mvo_store::Progress::{More, Ready};
 use mvo_store::Store;
-use mvo_types::{Op, Refusal, Stamp};
+use mvo_types::{Refusal, Stamp};
 use std::alloc::Global;
 use std::marker::Model;
 use std::thread::Threads;
@@ -184,11 +183,7 @@ impl<D: Disk> World<D> {
     {
         match event {
             Event::Begin => self.begin(),
-            Event::Read(tx, key) => self.operate(tx, Op::Read(key)),
-            Event::Scan(tx, table, lo, hi) => self.operate(tx, Op::Scan(table, lo, hi)),
-            Event::Insert(tx, row) => self.operate(tx, Op::Insert(row)),
-            Event::Update(tx, row) => self.operate(tx, Op::Update(row)),
-            Event::Delete(tx, key) => self.operate(tx, Op::Delete(key)),
+            Event::Do(tx, op) => self.operate(tx, op),
             Event::Precommit(tx) => self.precommit(tx),
             Event::Validate(tx) => self.validate(tx),
             Event::Settle(tx) => self.settle(tx),
@@ -197,24 +192,9 @@ impl<D: Disk> World<D> {
             Event::Collect => self.collect(),
             Event::Trim(upto) => self.trim(upto),
             Event::CloseGroup => self.close_group(),
-            Event::TakeGroup => self.take_group(),
-            Event::AppendBody => reply_to(self.store.append_body(), Reply::Written),
-            Event::AppendOpen => self.append_open(),
+            Event::TakeGroup => reply_to_taking(self.take_group()),
+            Event::Store(call) => reply_of(self.call_store(call)),
             Event::Poll(stamp) => self.poll(stamp),
-            Event::RotateWrite => reply_to(self.store.rotate_write(), Reply::Ready),
-            Event::CheckpointRead => reply_to(self.store.checkpoint_read(), Reply::Progress(More)),
-            Event::CheckpointData => reply_to(self.store.checkpoint_data(), Reply::Progress(More)),
-            Event::CheckpointDelta => self.checkpoint_delta(),
-            Event::MergeRead(place) => reply_to(
-                self.store.merge_read(place),
-                Reply::Progress(More),
-            ),
-            Event::MergeData => reply_to(self.store.merge_data(), Reply::Progress(More)),
-            Event::MergeDelta => reply_to(self.store.merge_delta(), Reply::Progress(Ready)),
-            Event::InstallClose => reply_to(self.store.install_close(), Reply::Shut),
-            Event::InstallBody => reply_to(self.store.install_body(), Reply::Written),
-            Event::InstallOpen => self.install_open(),
-            Event::Reclaim => self.reclaim(),
         }
     }
 

@@ -14,6 +14,7 @@ mod random;
 mod runs;
 mod step;
 mod steps;
+mod store_calls;
 mod told;
 mod vectors;
 
@@ -21,7 +22,7 @@ use crate::equal::{holds, same};
 use calls::{close, formatted, left, mark, run, run_over, step, stop, try_open};
 use images::bytes_of;
 use mvo_disk::{Disk, FileImage, MemDisk};
-use mvo_types::{Answer, RING_GROUPS, RowKey, Stamp, TxId};
+use mvo_types::{Answer, Op, RING_GROUPS, RowKey, Stamp, TxId};
 use mvo_world::{Event, Reply, World};
 use std::alloc::Global;
 use std::process::Abort;
@@ -67,7 +68,8 @@ fn len_of(reply: Reply) -> Result<Option<usize>, Fail> {
 
 fn read_key(world: &mut World<MemDisk>, mark: Stamp) -> Reply {
     let _ = step(world, Event::Begin);
-    step(world, Event::Read(TxId(mark.0.saturating_add(1)), KEY))
+    let tx = TxId(mark.0.saturating_add(1));
+    step(world, Event::Do(tx, Op::Read(KEY)))
 }
 
 fn found_in(world: &mut World<MemDisk>) -> Result<(u64, Option<usize>), Fail> {

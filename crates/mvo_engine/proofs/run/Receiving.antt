@@ -1,6 +1,5 @@
 -- Receipts with rising ends, and what they count.
 use Rattle.std.proofs.Common.{◌≡◌, ℕ, ◌+◌, ◌≤◌, ◌<◌, List, [], ◌∷◌, ◌++◌, arith}
-use Rattle.std.specs.List.{AllByRecursion}
 use Rattle.std.proofs.lemmas.List.Sums.{sum_by-cons, sum_by-append}
 use Rattle.mvo_theory.proofs.Each.{each_append, each_weaker}
 use Rattle.mvo_core.specs.Receipts.{Receipt}
@@ -13,10 +12,6 @@ rises_append (x ∷ xs) r up below = (each_append (λ (later : Receipt). x.end <
 
 pub up_to_append : (rs : List Receipt) (r : Receipt) → AreBelow r.end rs → AreUpTo r.end (rs ++ r ∷ [])
 up_to_append rs r below = each_append (λ (x : Receipt). x.end ≤ r.end) rs (r ∷ []) (each_weaker (λ (x : Receipt). x.end < r.end) (λ (x : Receipt). x.end ≤ r.end) (λ x p. omega (arith, p)) rs below) (omega arith, tt)
-
--- above the last one it is above all
-pub below_above : (last t : ℕ) (rs : List Receipt) → AreUpTo last rs → last < t → AreBelow t rs
-below_above last t rs up above = each_weaker (λ (x : Receipt). x.end ≤ last) (λ (x : Receipt). x.end < t) (λ x p. omega (arith, p, above)) rs up
 
 pub below_later : (t e : ℕ) (rs : List Receipt) → AreBelow t rs → t < e → AreBelow e rs
 below_later t e rs below later = each_weaker (λ (x : Receipt). x.end < t) (λ (x : Receipt). x.end < e) (λ x p. omega (arith, p, later)) rs below

@@ -3,6 +3,7 @@ ghost use Rattle.std.specs.Prelude.{◌≡◌, IfOk};
 ghost use Rattle.mvo_types.specs.AnswerData.{answer_data};
 ghost use Rattle.mvo_theory.specs.Told.{history_told};
 
+use mvo_core::copy_of;
 use mvo_types::{Answer, Op, Row};
 use std::alloc::{AllocError, Global};
 
@@ -15,22 +16,9 @@ pub fn copies_of(
 {
     let mut copies = Vec::new(alloc);
     for told in operations {
-        copies.push((copy_of_op(&told.0)?, copy_of_answer(alloc, &told.1)?))?;
+        copies.push((copy_of(&told.0)?, copy_of_answer(alloc, &told.1)?))?;
     }
     Ok(copies)
-}
-
-/// A copy of the operation.
-fn copy_of_op(op: &Op) -> Result<Op, AllocError>
-    ensures { IfOk result (λ copy. copy ≡ op.now) }
-{
-    match op {
-        Op::Read(key) => Ok(Op::Read(*key)),
-        Op::Scan(table, lo, hi) => Ok(Op::Scan(*table, *lo, *hi)),
-        Op::Insert(row) => Ok(Op::Insert(row.copy()?)),
-        Op::Update(row) => Ok(Op::Update(row.copy()?)),
-        Op::Delete(key) => Ok(Op::Delete(*key)),
-    }
 }
 
 /// A copy of the answer.

@@ -1,14 +1,20 @@
 //! The jobs of the store, each from its first step to its installing.
+ghost use Rattle.std.specs.Prelude.{◌≡◌, IfOk};
+ghost use Rattle.mvo_engine.specs.Jobs.{IsInstallAnswer, told_of};
 
 use super::Engine;
+use super::call_by_call::CallByCall;
 use crate::gate::Gate;
 use crate::run::Run;
 use mvo_disk::Disk;
-use mvo_store::{Generation, Progress};
+use mvo_store::{Done, Generation, run_checkpoint, run_merge, run_rotation};
 use mvo_types::Refusal;
 use std::sync::Wait;
 
 impl<L: Run, D: Disk, G: Gate + Drop> Engine<L, D, G> {
+    ghost use Rattle.mvo_store.specs.Wholes.{AreToRefusal, IsCheckpoint, rotation, merge};
+    ghost use Rattle.mvo_engine.specs.Jobs.{IsCallAlone, told_of};
+
     /// All steps of a rotation of the log, from the fresh segment to its installing. The lock of
     /// the store is taken anew for each step, so that others flush in between. Answers the
     /// generation of the installed manifest.
@@ -17,9 +23,11 @@ impl<L: Run, D: Disk, G: Gate + Drop> Engine<L, D, G> {
     /// steps that are left may be made under the guard of the store. Refused: Down, Busy where a
     /// job runs, ClockSpent, NothingToDo where the last segment holds no group, SegmentsFull,
     /// OutOfMemory, DiskFault.
-    pub fn rotate<R: Wait>(&self, rt: &R) -> Result<Generation, Refusal> {
-        self.lock_store(rt).rotate_write()?;
-        self.install(rt)
+    pub fn rotate<R: Wait>(&self, rt: &R) -> Result<Generation, Refusal>
+        ensures { AreToRefusal (IsCallAlone D.Disk) rotation tt (told_of result) tt }
+    {
+        let mut caller = CallByCall { engine: self, rt };
+        generation_of(run_rotation(&mut caller))
     }
 
     /// All steps of a checkpoint of the oldest sealed segment, up to its installing, as `rotate`
@@ -28,11 +36,11 @@ impl<L: Run, D: Disk, G: Gate + Drop> Engine<L, D, G> {
     /// Refused as `rotate` is, but with Busy where a checkpoint or a rotation runs, or a merge of
     /// which all files are written, with NothingToDo where no segment is sealed, and with PairsFull
     /// in place of SegmentsFull. A merge in another thread goes on in between up to its last file.
-    pub fn checkpoint<R: Wait>(&self, rt: &R) -> Result<Generation, Refusal> {
-        self.lock_store(rt).checkpoint_read()?;
-        self.lock_store(rt).checkpoint_data()?;
-        self.write_deltas(rt)?;
-        self.install(rt)
+    pub fn checkpoint<R: Wait>(&self, rt: &R) -> Result<Generation, Refusal>
+        ensures { IsCheckpoint (IsCallAlone D.Disk) tt (told_of result) tt }
+    {
+        let mut caller = CallByCall { engine: self, rt };
+        generation_of(run_checkpoint(&mut caller))
     }
 
     /// All steps of a merge of the pair at a place, from 0 on, and the one behind it, up to its
@@ -42,30 +50,24 @@ impl<L: Run, D: Disk, G: Gate + Drop> Engine<L, D, G> {
     /// where the pair behind isn't there, and with PairTooLarge in place of SegmentsFull.
     /// Checkpoints in another thread are made in between. Where one runs when the last file is to
     /// be written, this is Busy too, and the merge stays where it is: once the checkpoint is
-    /// installed it goes on under the guard of the store, by `merge_delta` and the steps of its
-    /// install. That call's NothingToDo tells that no merge waits.
-    pub fn merge<R: Wait>(&self, rt: &R, place: usize) -> Result<Generation, Refusal> {
-        self.lock_store(rt).merge_read(place)?;
-        self.lock_store(rt).merge_data()?;
-        self.lock_store(rt).merge_delta()?;
-        self.install(rt)
+    /// installed it goes on under the guard of the store, by the call of its last file and the
+    /// steps of its install. That call's NothingToDo tells that no merge waits.
+    pub fn merge<R: Wait>(&self, rt: &R, place: usize) -> Result<Generation, Refusal>
+        ensures { AreToRefusal (IsCallAlone D.Disk) (merge place) tt (told_of result) tt }
+    {
+        let mut caller = CallByCall { engine: self, rt };
+        generation_of(run_merge(&mut caller, place))
     }
+}
 
-    // Writes delta files while more are left.
-    fn write_deltas<R: Wait>(&self, rt: &R) -> Result<(), Refusal> {
-        for _ in rt.forever() {
-            match self.lock_store(rt).checkpoint_delta()? {
-                Progress::More => {}
-                Progress::Ready => return Ok(()),
-            }
-        }
-        unreachable!()
-    }
-
-    // All steps of an install.
-    fn install<R: Wait>(&self, rt: &R) -> Result<Generation, Refusal> {
-        self.lock_store(rt).install_close()?;
-        self.lock_store(rt).install_body()?;
-        self.lock_store(rt).install_open()
+// What a whole job answers, which ends with an install.
+fn generation_of(came: Result<Done, Refusal>) -> Result<Generation, Refusal>
+    requires { IfOk came IsInstallAnswer }
+    ensures { told_of result ≡ came }
+{
+    match came {
+        Ok(Done::Installed(generation)) => Ok(generation),
+        Ok(_) => unreachable!(),
+        Err(refusal) => Err(refusal),
     }
 }

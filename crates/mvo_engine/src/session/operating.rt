@@ -3,6 +3,7 @@
 use super::Session;
 use crate::gate::Gate;
 use crate::run::Run;
+use mvo_core::copy_of;
 use mvo_disk::Disk;
 use mvo_types::{Answer, Op, Refusal, Row, RowKey, TxId};
 use std::sync::Wait;
@@ -35,92 +36,21 @@ impl<'e, L: Run, D: Disk, G: Gate + Drop> Session<'e, L, D, G> {
         }
     }
 
-    /// Reads the row at a key. Refused: NoSuchTransaction without a transaction,
-    /// DependencyAborted, BadTable, TooManyReads, OutOfMemory.
-    pub fn read<R: Wait>(&mut self, rt: &R, key: RowKey) -> Result<Answer, Refusal>
+    /// Asks for an operation. A failure ends the transaction. Refused: NoSuchTransaction without a
+    /// transaction, DependencyAborted, BadTable, DataTooLong for a row, TooManyReads, for one that
+    /// writes TooManyWrites and WriteConflict, and OutOfMemory.
+    pub fn operate<R: Wait>(&mut self, rt: &R, op: Op) -> Result<Answer, Refusal>
         ensures none { IsNoTx self.old.tx result }
-        ensures asked { HasAsked self.old (Op.Read key) result self.new }
-    {
-        let Some(tx) = self.tx else {
-            return Err(Refusal::NoSuchTransaction);
-        };
-        self.told.reserve()?;
-        let result = self.enter(rt).read(tx, key);
-        self.keep(rt, tx, Op::Read(key), result)
-    }
-
-    /// Puts a row where none is shown. Refused: NoSuchTransaction without a transaction,
-    /// DependencyAborted, BadTable, DataTooLong, TooManyReads, TooManyWrites, WriteConflict,
-    /// OutOfMemory.
-    pub fn insert<R: Wait>(&mut self, rt: &R, row: Row) -> Result<Answer, Refusal>
-        ensures none { IsNoTx self.old.tx result }
-        ensures asked { HasAsked self.old (Op.Insert row) result self.new }
-    {
-        let Some(tx) = self.tx else {
-            return Err(Refusal::NoSuchTransaction);
-        };
-        let copy = row.copy()?;
-        self.told.reserve()?;
-        let result = self.enter(rt).insert(tx, row);
-        self.keep(rt, tx, Op::Insert(copy), result)
-    }
-
-    /// Replaces the row that is shown at a key. Refused as `insert`.
-    pub fn update<R: Wait>(&mut self, rt: &R, row: Row) -> Result<Answer, Refusal>
-        ensures none { IsNoTx self.old.tx result }
-        ensures asked { HasAsked self.old (Op.Update row) result self.new }
-    {
-        let Some(tx) = self.tx else {
-            return Err(Refusal::NoSuchTransaction);
-        };
-        let copy = row.copy()?;
-        self.told.reserve()?;
-        let result = self.enter(rt).update(tx, row);
-        self.keep(rt, tx, Op::Update(copy), result)
-    }
-
-    /// Deletes the row that is shown at a key. Refused: NoSuchTransaction without a transaction,
-    /// DependencyAborted, BadTable, TooManyReads, TooManyWrites, WriteConflict, OutOfMemory.
-    pub fn delete<R: Wait>(&mut self, rt: &R, key: RowKey) -> Result<Answer, Refusal>
-        ensures none { IsNoTx self.old.tx result }
-        ensures asked { HasAsked self.old (Op.Delete key) result self.new }
-    {
-        let Some(tx) = self.tx else {
-            return Err(Refusal::NoSuchTransaction);
-        };
-        self.told.reserve()?;
-        let result = self.enter(rt).delete(tx, key);
-        self.keep(rt, tx, Op::Delete(key), result)
-    }
-
-    /// Reads the rows of a table with `lo <= sort <= hi`, by sort and then by key. Refused:
-    /// NoSuchTransaction without a transaction, DependencyAborted, BadTable, TooManyReads,
-    /// OutOfMemory.
-    pub fn scan<R: Wait>(&mut self, rt: &R, table: u8, lo: u64, hi: u64) -> Result<Answer, Refusal>
-        ensures none { IsNoTx self.old.tx result }
-        ensures asked { HasAsked self.old (Op.Scan table lo hi) result self.new }
-    {
-        let Some(tx) = self.tx else {
-            return Err(Refusal::NoSuchTransaction);
-        };
-        self.told.reserve()?;
-        let result = self.enter(rt).scan(tx, table, lo, hi);
-        self.keep(rt, tx, Op::Scan(table, lo, hi), result)
-    }
-
-    // Passes on what the transaction was answered to an operation, and keeps a copy. A failure ends
-    // the transaction; where memory is refused for the copy, it is rolled back.
-    fn keep<R: Wait>(
-        &mut self,
-        rt: &R,
-        tx: TxId,
-        op: Op,
-        answer: Result<Answer, Refusal>,
-    ) -> Result<Answer, Refusal>
         ensures asked { HasAsked self.old op result self.new }
     {
-        match answer {
-            Ok(answer) => self.keep_answer(rt, op, answer),
+        let Some(tx) = self.tx else {
+            return Err(Refusal::NoSuchTransaction);
+        };
+        let copy = copy_of(&op)?;
+        self.told.reserve()?;
+        let result = self.enter(rt).operate(tx, op);
+        match result {
+            Ok(answer) => self.keep_answer(rt, copy, answer),
             Err(refusal) => {
                 self.end_by(rt, tx, refusal);
                 Err(refusal)
@@ -128,6 +58,49 @@ impl<'e, L: Run, D: Disk, G: Gate + Drop> Session<'e, L, D, G> {
         }
     }
 
+    /// Reads the row at a key, as `operate` does.
+    pub fn read<R: Wait>(&mut self, rt: &R, key: RowKey) -> Result<Answer, Refusal>
+        ensures none { IsNoTx self.old.tx result }
+        ensures asked { HasAsked self.old (Op.Read key) result self.new }
+    {
+        self.operate(rt, Op::Read(key))
+    }
+
+    /// Reads the rows of a table with `lo <= sort <= hi`, by sort and then by key, as `operate`
+    /// does.
+    pub fn scan<R: Wait>(&mut self, rt: &R, table: u8, lo: u64, hi: u64) -> Result<Answer, Refusal>
+        ensures none { IsNoTx self.old.tx result }
+        ensures asked { HasAsked self.old (Op.Scan table lo hi) result self.new }
+    {
+        self.operate(rt, Op::Scan(table, lo, hi))
+    }
+
+    /// Puts a row where none is shown, as `operate` does.
+    pub fn insert<R: Wait>(&mut self, rt: &R, row: Row) -> Result<Answer, Refusal>
+        ensures none { IsNoTx self.old.tx result }
+        ensures asked { HasAsked self.old (Op.Insert row) result self.new }
+    {
+        self.operate(rt, Op::Insert(row))
+    }
+
+    /// Replaces the row that is shown at a key, as `operate` does.
+    pub fn update<R: Wait>(&mut self, rt: &R, row: Row) -> Result<Answer, Refusal>
+        ensures none { IsNoTx self.old.tx result }
+        ensures asked { HasAsked self.old (Op.Update row) result self.new }
+    {
+        self.operate(rt, Op::Update(row))
+    }
+
+    /// Deletes the row that is shown at a key, as `operate` does.
+    pub fn delete<R: Wait>(&mut self, rt: &R, key: RowKey) -> Result<Answer, Refusal>
+        ensures none { IsNoTx self.old.tx result }
+        ensures asked { HasAsked self.old (Op.Delete key) result self.new }
+    {
+        self.operate(rt, Op::Delete(key))
+    }
+
+    // Passes on what the transaction was answered to an operation, and keeps a copy. Where memory
+    // is refused for the copy, the transaction is rolled back.
     fn keep_answer<R: Wait>(&mut self, rt: &R, op: Op, answer: Answer) -> Result<Answer, Refusal>
         ensures asked { HasAsked self.old op result self.new }
     {

@@ -1,13 +1,14 @@
 //! A merge beside a checkpoint, in one thread and in two.
 ghost use Rattle.mvo_engine.specs.Opened.{IsNamedBy};
 
+use super::calls::{DATA, DELTA, MERGE_DATA, MERGE_DELTA, is_more, is_ready};
 use super::jobs::{has_nothing, installs, is_busy};
 use super::rows::{change, found, put};
 use super::trial::{Trial, all_right, tried};
 use super::{SEED, formatted};
 use mvo_disk::{Disk, MemDisk};
 use mvo_engine::{Engine, Fresh, Gate, OpenGate, Run};
-use mvo_store::{Generation, Progress};
+use mvo_store::{Generation, StoreCall};
 use mvo_types::Refusal;
 use std::alloc::Global;
 use std::marker::Brand;
@@ -28,7 +29,7 @@ impl Trial<MemDisk, OpenGate> for Waits {
     ) -> Result<Vec<bool>, Refusal> {
         let mut told = Vec::new(alloc);
         seal(rt, alloc, engine)?;
-        engine.lock_store(rt).checkpoint_read()?;
+        engine.lock_store(rt).call(StoreCall::CheckpointRead)?;
         stays(rt, engine, &mut told)?;
         checkpoint_ends(rt, engine, &mut told)?;
         goes_on(rt, engine, &mut told)?;
@@ -72,8 +73,8 @@ fn stays<L: Run, D: Disk, G: Gate + Drop, R: Wait>(
     told.push(is_busy(engine.merge(rt, 0)))?;
     told.push(is_busy(engine.merge(rt, 0)))?;
     told.push(is_busy(engine.rotate(rt)))?;
-    told.push(has_nothing(engine.lock_store(rt).merge_data()))?;
-    told.push(is_busy(engine.lock_store(rt).merge_delta()))?;
+    told.push(has_nothing(engine.lock_store(rt).call(MERGE_DATA)))?;
+    told.push(is_busy(engine.lock_store(rt).call(MERGE_DELTA)))?;
     Ok(())
 }
 
@@ -83,9 +84,9 @@ fn checkpoint_ends<L: Run, D: Disk, G: Gate + Drop, R: Wait>(
     engine: &Engine<L, D, G>,
     told: &mut Vec<bool>,
 ) -> Result<(), Refusal> {
-    engine.lock_store(rt).checkpoint_data()?;
-    told.push(engine.lock_store(rt).checkpoint_delta()? == Progress::More)?;
-    told.push(engine.lock_store(rt).checkpoint_delta()? == Progress::Ready)?;
+    engine.lock_store(rt).call(DATA)?;
+    told.push(is_more(engine.lock_store(rt).call(DELTA)))?;
+    told.push(is_ready(engine.lock_store(rt).call(DELTA)))?;
     told.push(installs(rt, engine)? == Generation(6))?;
     Ok(())
 }
@@ -96,10 +97,10 @@ fn goes_on<L: Run, D: Disk, G: Gate + Drop, R: Wait>(
     engine: &Engine<L, D, G>,
     told: &mut Vec<bool>,
 ) -> Result<(), Refusal> {
-    engine.lock_store(rt).merge_delta()?;
+    engine.lock_store(rt).call(MERGE_DELTA)?;
     told.push(is_busy(engine.checkpoint(rt)))?;
     told.push(installs(rt, engine)? == Generation(7))?;
-    told.push(has_nothing(engine.lock_store(rt).merge_delta()))?;
+    told.push(has_nothing(engine.lock_store(rt).call(MERGE_DELTA)))?;
     Ok(())
 }
 
@@ -146,7 +147,7 @@ fn merge_ends<L: Run, D: Disk, G: Gate + Drop, R: Wait>(
     merged: Result<Generation, Refusal>,
 ) -> Result<(), Refusal> {
     if let Err(Refusal::Busy) = merged {
-        engine.lock_store(rt).merge_delta()?;
+        engine.lock_store(rt).call(MERGE_DELTA)?;
         installs(rt, engine)?;
         return Ok(());
     }

@@ -6,6 +6,7 @@ use super::trial::{Trial, all_right, tried};
 use crate::equal::holds;
 use mvo_disk::{Disk, MemDisk};
 use mvo_engine::{Engine, Gate, OpenGate, Run};
+use mvo_store::StoreCall;
 use mvo_types::{Refusal, Stamp};
 use std::alloc::Global;
 use std::sync::Wait;
@@ -62,7 +63,7 @@ fn is_down_for_jobs<L: Run, D: Disk, G: Gate + Drop, R: Wait>(
     told.push(is_down(engine.merge(rt, 0)))?;
     told.push(is_down(engine.lock_store(rt).flush_one()))?;
     told.push(is_down(engine.lock_store(rt).take()))?;
-    told.push(is_down(engine.lock_store(rt).reclaim()))?;
+    told.push(is_down(engine.lock_store(rt).call(StoreCall::Reclaim)))?;
     Ok(())
 }
 

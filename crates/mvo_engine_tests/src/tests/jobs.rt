@@ -1,12 +1,14 @@
 //! Rotations, checkpoints and merges of an engine, whole ones and step by step.
 
+use super::calls::{BODY, CLOSE, DATA, DELTA, MERGE_DATA, MERGE_DELTA, OPEN};
+use super::calls::{is_done, is_emptied, is_more, is_ready};
 use super::counting::CountingStore;
 use super::formatted;
 use super::rows::{change, found, put};
 use super::trial::{Trial, all_right, tried};
 use mvo_disk::{Disk, MemDisk};
 use mvo_engine::{Engine, Gate, OpenGate, Run};
-use mvo_store::{Generation, Progress, Reclaimed};
+use mvo_store::{Done, Generation, StoreCall};
 use mvo_types::{Refusal, Stamp};
 use std::alloc::Global;
 use std::sync::Wait;
@@ -104,14 +106,14 @@ fn beside_a_job<L: Run, D: Disk, G: Gate + Drop, R: Wait>(
     engine: &Engine<L, D, G>,
     told: &mut Vec<bool>,
 ) -> Result<(), Refusal> {
-    engine.lock_store(rt).checkpoint_read()?;
+    engine.lock_store(rt).call(StoreCall::CheckpointRead)?;
     told.push(is_busy(engine.rotate(rt)))?;
     told.push(is_busy(engine.checkpoint(rt)))?;
     told.push(has_nothing(engine.merge(rt, 0)))?;
-    told.push(has_nothing(engine.lock_store(rt).merge_data()))?;
-    engine.lock_store(rt).checkpoint_data()?;
-    told.push(engine.lock_store(rt).checkpoint_delta()? == Progress::More)?;
-    told.push(engine.lock_store(rt).checkpoint_delta()? == Progress::Ready)?;
+    told.push(has_nothing(engine.lock_store(rt).call(MERGE_DATA)))?;
+    engine.lock_store(rt).call(DATA)?;
+    told.push(is_more(engine.lock_store(rt).call(DELTA)))?;
+    told.push(is_ready(engine.lock_store(rt).call(DELTA)))?;
     told.push(installs(rt, engine)? == Generation(7))?;
     Ok(())
 }
@@ -122,10 +124,10 @@ fn by_steps<L: Run, D: Disk, G: Gate + Drop, R: Wait>(
     engine: &Engine<L, D, G>,
     told: &mut Vec<bool>,
 ) -> Result<(), Refusal> {
-    engine.lock_store(rt).merge_read(0)?;
-    engine.lock_store(rt).merge_data()?;
-    told.push(has_nothing(engine.lock_store(rt).install_close()))?;
-    engine.lock_store(rt).merge_delta()?;
+    engine.lock_store(rt).call(StoreCall::MergeRead(0))?;
+    engine.lock_store(rt).call(MERGE_DATA)?;
+    told.push(has_nothing(engine.lock_store(rt).call(CLOSE)))?;
+    engine.lock_store(rt).call(MERGE_DELTA)?;
     told.push(installs(rt, engine)? == Generation(8))?;
     told.push(engine.lock_store(rt).manifest().generation() == 8)?;
     told.push(engine.lock_store(rt).manifest().pairs().len() == 1)?;
@@ -138,9 +140,12 @@ pub fn installs<L: Run, D: Disk, G: Gate + Drop, R: Wait>(
     engine: &Engine<L, D, G>,
 ) -> Result<Generation, Refusal> {
     let mut store = engine.lock_store(rt);
-    store.install_close()?;
-    store.install_body()?;
-    store.install_open()
+    store.call(CLOSE)?;
+    store.call(BODY)?;
+    match store.call(OPEN)? {
+        Done::Installed(generation) => Ok(generation),
+        _ => Err(Refusal::NothingToDo),
+    }
 }
 
 // The files that no manifest names any more are emptied, one a call.
@@ -149,16 +154,16 @@ fn reclaims<L: Run, D: Disk, G: Gate + Drop, R: Wait>(
     engine: &Engine<L, D, G>,
     told: &mut Vec<bool>,
 ) -> Result<(), Refusal> {
-    told.push(engine.lock_store(rt).reclaim()? == Reclaimed::More)?;
-    let mut is_done = false;
+    told.push(is_emptied(engine.lock_store(rt).call(StoreCall::Reclaim)))?;
+    let mut has_ended = false;
     for _ in 0..20 {
-        if engine.lock_store(rt).reclaim()? == Reclaimed::Done {
-            is_done = true;
+        if is_done(engine.lock_store(rt).call(StoreCall::Reclaim)) {
+            has_ended = true;
             break;
         }
     }
-    told.push(is_done)?;
-    told.push(engine.lock_store(rt).reclaim()? == Reclaimed::Done)?;
+    told.push(has_ended)?;
+    told.push(is_done(engine.lock_store(rt).call(StoreCall::Reclaim)))?;
     Ok(())
 }
 

@@ -1,11 +1,13 @@
 //! What sessions are refused, and the guards.
 ghost use Rattle.mvo_engine.specs.Opened.{IsNamedBy};
 
+use super::jobs::has_nothing;
 use super::rows::{KEY, byte_in, put, row};
 use super::{SEED, formatted};
 use crate::equal::same;
 use mvo_disk::Disk;
 use mvo_engine::{Engine, Fresh, Gate, OpenGate, Run, Session};
+use mvo_store::StoreCall;
 use mvo_types::{Answer, Refusal, Stamp};
 use std::alloc::Global;
 use std::marker::Brand;
@@ -136,8 +138,8 @@ fn guards<L: Run, D: Disk, R: Wait>(
     told.push(clock == Stamp(7))?;
     let mut store = engine.lock_store(rt);
     told.push(matches!(store.take(), Err(Refusal::NothingToDo)))?;
-    told.push(matches!(store.append_body(), Err(Refusal::NothingToDo)))?;
-    told.push(store.append_open().is_err())?;
+    told.push(has_nothing(store.call(StoreCall::AppendBody)))?;
+    told.push(has_nothing(store.call(StoreCall::AppendOpen)))?;
     told.push(store.mark() == Stamp(0))?;
     told.push(session.poll_durable(Stamp(0)))?;
     store.confirm(&mut session);

@@ -5,11 +5,12 @@ use Rattle.std.specs.Str.Parse.{digits_value}
 use Rattle.std.proofs.lemmas.Bool.{cases_lt}
 use Rattle.std.proofs.lemmas.Fmt.{decimal_is_IsNumeral, decimal_digit, first_decimal}
 use Rattle.std.proofs.lemmas.Str.{IsUtf8-from_ascii}
-use Rattle.mvo_script.specs.line.Words.{IsHex, IsNumber}
-use Rattle.mvo_script.specs.line.Forms.{HasForm, IsData, IsInRange}
+use Rattle.mvo_store.specs.declared.call.StoreCall.TheVariants.{MergeRead}
+use Rattle.mvo_script.specs.line.Words.{IsNumber}
+use Rattle.mvo_script.specs.line.Forms.{HasForm, IsInRange}
 use Rattle.mvo_script.specs.line.Readable.{BeginNoLine, BeginNoRow, IsOfTransaction, IsNoLine}
 use Rattle.mvo_script.specs.line.Split.{split_words}
-use Rattle.mvo_script.specs.line.Written.{data_word, line_words, text_of}
+use Rattle.mvo_script.specs.line.Written.{line_words, text_of}
 use Rattle.mvo_script.specs.declared.line.line.Line.{Line}
 use Rattle.mvo_script.specs.declared.line.line.Line.TheVariants as line
 use Rattle.mvo_script.proofs.line.Parts.{some_words, text_ascii, text_splits}
@@ -85,8 +86,8 @@ no_trim P first word rest words is split fails a left kept form range e =
     let found = trim_only a left word words (sym (kind_told a left) ∙ ap kind_by whole) range whole in
     no_number 64 word (lit≤ tt) fails found.0 found.1 found.2
 
-merge_read_only : (a : Line) (left : List (List ℕ)) (word : List ℕ) (words : List (List ℕ)) → kind a ≡ 24 → IsInRange a → line_words a ++ left ≡ codes "merge-read" ∷ word ∷ words → (n : ℕ) × (n < 2 ^ 64) × (decimal n ≡ word)
-merge_read_only (line.MergeRead place) left word words is range e = (place, range, cc)
+merge_read_only : (a : Line) (left : List (List ℕ)) (word : List ℕ) (words : List (List ℕ)) → kind a ≡ 25 → IsInRange a → line_words a ++ left ≡ codes "merge-read" ∷ word ∷ words → (n : ℕ) × (n < 2 ^ 64) × (decimal n ≡ word)
+merge_read_only (line.Store (MergeRead place)) left word words is range e = (place, range, cc)
 merge_read_only _ left word words is range e = absurd (omega arith)
 
 pub no_merge_read : (P : Line → Type 0) (first word : List ℕ) (rest words : List (List ℕ)) → first ≡ codes "merge-read" → rest ≡ word ∷ words → (IsNumber 64 word → ⊥) → BeginNoLine P (first ∷ rest)
@@ -95,7 +96,7 @@ no_merge_read P first word rest words is split fails a left kept form range e =
     let found = merge_read_only a left word words (sym (kind_told a left) ∙ ap kind_by whole) range whole in
     no_number 64 word (lit≤ tt) fails found.0 found.1 found.2
 
-merge_only : (a : Line) (left : List (List ℕ)) (word : List ℕ) (words : List (List ℕ)) → kind a ≡ 32 → IsInRange a → line_words a ++ left ≡ codes "merge" ∷ word ∷ words → (n : ℕ) × (n < 2 ^ 64) × (decimal n ≡ word)
+merge_only : (a : Line) (left : List (List ℕ)) (word : List ℕ) (words : List (List ℕ)) → kind a ≡ 20 → IsInRange a → line_words a ++ left ≡ codes "merge" ∷ word ∷ words → (n : ℕ) × (n < 2 ^ 64) × (decimal n ≡ word)
 merge_only (line.Merge place) left word words is range e = (place, range, cc)
 merge_only _ left word words is range e = absurd (omega arith)
 

@@ -11,10 +11,15 @@ use Rattle.std.proofs.lemmas.Str.{IsAscii-append}
 use Rattle.std.proofs.lemmas.Str.Ascii.{IsAscii-nil, IsAscii-cons}
 use Rattle.std.proofs.lemmas.Str.Parse.{tells_digits}
 use Rattle.mvo_types.specs.declared.row.RowKey.{RowKey}
+use Rattle.mvo_store.specs.declared.install.install_step.InstallStep.TheVariants.{Close, Body, Open}
+use Rattle.mvo_store.specs.declared.jobs.due.Due.TheVariants.{Data, Delta, MergeData, MergeDelta, Install}
+use Rattle.mvo_store.specs.declared.call.StoreCall.{StoreCall}
+use Rattle.mvo_store.specs.declared.call.StoreCall.TheVariants.{AppendBody, AppendOpen, RotateWrite}
+use Rattle.mvo_store.specs.declared.call.StoreCall.TheVariants.{CheckpointRead, MergeRead, Step, Reclaim}
 use Rattle.mvo_script.specs.line.Words.{is_name_byte, is_hex_byte, IsName}
 use Rattle.mvo_script.specs.line.Forms.{HasForm, IsData, IsInRange, IsKeyInRange}
 use Rattle.mvo_script.specs.line.Split.{split_words}
-use Rattle.mvo_script.specs.line.Written.{data_word, key_words, line_words, text_of}
+use Rattle.mvo_script.specs.line.Written.{call_words, data_word, key_words, line_words, text_of}
 use Rattle.mvo_script.specs.declared.line.line.Line.{Line}
 use Rattle.mvo_script.specs.declared.line.line.Line.TheVariants as line
 
@@ -130,6 +135,21 @@ joined_ascii (w ∷ v ∷ ws) all =
 key_parts : (key : RowKey) → IsKeyInRange key → AreParts (key_words key)
 key_parts key range = (table_part key.table range.0, (number_part key.key range.1, tt))
 
+call_parts : (call : StoreCall) → IsInRange (line.Store call) → AreParts (call_words call)
+call_parts AppendBody range = (refl, tt)
+call_parts AppendOpen range = (refl, tt)
+call_parts RotateWrite range = (refl, tt)
+call_parts CheckpointRead range = (refl, tt)
+call_parts (MergeRead place) range = (refl, (number_part place range, tt))
+call_parts (Step Data) range = (refl, tt)
+call_parts (Step Delta) range = (refl, tt)
+call_parts (Step MergeData) range = (refl, tt)
+call_parts (Step MergeDelta) range = (refl, tt)
+call_parts (Step (Install Close)) range = (refl, tt)
+call_parts (Step (Install Body)) range = (refl, tt)
+call_parts (Step (Install Open)) range = (refl, tt)
+call_parts Reclaim range = (refl, tt)
+
 line_parts : (a : Line) → HasForm a → IsInRange a → AreParts (line_words a)
 line_parts (line.Begin name) form range = (refl, (name_part name.now form, tt))
 line_parts (line.Read name key) form range =
@@ -189,26 +209,20 @@ line_parts line.Collect form range = (refl, tt)
 line_parts (line.Trim stamp) form range = (refl, (number_part stamp.0 range, tt))
 line_parts line.Group form range = (refl, tt)
 line_parts line.Take form range = (refl, tt)
-line_parts line.Body form range = (refl, tt)
-line_parts line.Open form range = (refl, tt)
 line_parts line.Flush form range = (refl, tt)
-line_parts line.RotateWrite form range = (refl, tt)
-line_parts line.CheckpointRead form range = (refl, tt)
-line_parts line.CheckpointData form range = (refl, tt)
-line_parts line.CheckpointDelta form range = (refl, tt)
-line_parts (line.MergeRead place) form range = (refl, (number_part place range, tt))
-line_parts line.MergeData form range = (refl, tt)
-line_parts line.MergeDelta form range = (refl, tt)
-line_parts line.InstallClose form range = (refl, tt)
-line_parts line.InstallBody form range = (refl, tt)
-line_parts line.InstallOpen form range = (refl, tt)
 line_parts line.Rotate form range = (refl, tt)
 line_parts line.Checkpoint form range = (refl, tt)
 line_parts (line.Merge place) form range = (refl, (number_part place range, tt))
-line_parts line.Reclaim form range = (refl, tt)
+line_parts (line.Store call) form range = call_parts call range
+
+some_call_words : (call : StoreCall) → call_words call ≡ [] → ⊥
+some_call_words AppendBody none = cc
+some_call_words (Step (Install Close)) none = cc
+some_call_words (Step Data) none = cc
+some_call_words _ none = cc
 
 pub some_words : (a : Line) → line_words a ≡ [] → ⊥
-some_words line.Collect none = cc
+some_words (line.Store call) none = some_call_words call none
 some_words _ none = cc
 
 pub text_splits : (a : Line) → HasForm a → IsInRange a → split_words (text_of a) ≡ line_words a

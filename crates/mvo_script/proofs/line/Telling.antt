@@ -4,11 +4,18 @@ use Rattle.std.specs.Prelude.{◌==◌}
 use Rattle.std.proofs.lemmas.Fmt.{decimal_injective}
 use Rattle.std.proofs.lemmas.List.{length-append}
 use Rattle.mvo_types.specs.declared.row.RowKey.{RowKey}
+use Rattle.mvo_store.specs.declared.install.install_step.InstallStep.{InstallStep}
+use Rattle.mvo_store.specs.declared.install.install_step.InstallStep.TheVariants.{Close, Body, Open}
+use Rattle.mvo_store.specs.declared.jobs.due.Due.{Due}
+use Rattle.mvo_store.specs.declared.jobs.due.Due.TheVariants.{Data, Delta, MergeData, MergeDelta, Install}
+use Rattle.mvo_store.specs.declared.call.StoreCall.{StoreCall}
+use Rattle.mvo_store.specs.declared.call.StoreCall.TheVariants.{AppendBody, AppendOpen, RotateWrite}
+use Rattle.mvo_store.specs.declared.call.StoreCall.TheVariants.{CheckpointRead, MergeRead, Step, Reclaim}
 use Rattle.mvo_script.specs.line.Words.{IsHex}
 use Rattle.mvo_script.specs.line.Forms.{HasForm, IsData, IsInRange, IsKeyInRange}
 use Rattle.mvo_script.specs.line.Same.{IsSameKey, IsSameLine, TextTellsLine}
 use Rattle.mvo_script.specs.line.Split.{split_words}
-use Rattle.mvo_script.specs.line.Written.{data_word, line_words}
+use Rattle.mvo_script.specs.line.Written.{call_words, data_word, line_words}
 use Rattle.mvo_script.specs.declared.line.line.Line.{Line}
 use Rattle.mvo_script.specs.declared.line.line.Line.TheVariants as line
 use Rattle.mvo_script.proofs.line.Parts.{text_splits}
@@ -25,10 +32,10 @@ place_in w [] = 0
 place_in w (v ∷ vs) = cond (is_word w v) 0 (suc (place_in w vs))
 
 abbrev first_words : List (List ℕ)
-first_words = codes "begin" ∷ codes "read" ∷ codes "scan" ∷ codes "insert" ∷ codes "update" ∷ codes "delete" ∷ codes "precommit" ∷ codes "validate" ∷ codes "settle" ∷ codes "rollback" ∷ codes "finish" ∷ codes "commit" ∷ codes "poll" ∷ codes "collect" ∷ codes "trim" ∷ codes "group" ∷ codes "take" ∷ codes "body" ∷ codes "open" ∷ codes "flush" ∷ codes "rotate-write" ∷ codes "checkpoint-read" ∷ codes "checkpoint-data" ∷ codes "checkpoint-delta" ∷ codes "merge-read" ∷ codes "merge-data" ∷ codes "merge-delta" ∷ codes "install-close" ∷ codes "install-body" ∷ codes "install-open" ∷ codes "rotate" ∷ codes "checkpoint" ∷ codes "merge" ∷ codes "reclaim" ∷ []
+first_words = codes "begin" ∷ codes "read" ∷ codes "scan" ∷ codes "insert" ∷ codes "update" ∷ codes "delete" ∷ codes "precommit" ∷ codes "validate" ∷ codes "settle" ∷ codes "rollback" ∷ codes "finish" ∷ codes "commit" ∷ codes "poll" ∷ codes "collect" ∷ codes "trim" ∷ codes "group" ∷ codes "take" ∷ codes "flush" ∷ codes "rotate" ∷ codes "checkpoint" ∷ codes "merge" ∷ codes "body" ∷ codes "open" ∷ codes "rotate-write" ∷ codes "checkpoint-read" ∷ codes "merge-read" ∷ codes "reclaim" ∷ codes "checkpoint-data" ∷ codes "checkpoint-delta" ∷ codes "merge-data" ∷ codes "merge-delta" ∷ codes "install-close" ∷ codes "install-body" ∷ codes "install-open" ∷ []
 
 abbrev counts : List ℕ
-counts = 2 ∷ 4 ∷ 5 ∷ 6 ∷ 6 ∷ 4 ∷ 2 ∷ 2 ∷ 2 ∷ 2 ∷ 2 ∷ 2 ∷ 2 ∷ 1 ∷ 2 ∷ 1 ∷ 1 ∷ 1 ∷ 1 ∷ 1 ∷ 1 ∷ 1 ∷ 1 ∷ 1 ∷ 2 ∷ 1 ∷ 1 ∷ 1 ∷ 1 ∷ 1 ∷ 1 ∷ 1 ∷ 2 ∷ 1 ∷ []
+counts = 2 ∷ 4 ∷ 5 ∷ 6 ∷ 6 ∷ 4 ∷ 2 ∷ 2 ∷ 2 ∷ 2 ∷ 2 ∷ 2 ∷ 2 ∷ 1 ∷ 2 ∷ 1 ∷ 1 ∷ 1 ∷ 1 ∷ 1 ∷ 2 ∷ 1 ∷ 1 ∷ 1 ∷ 1 ∷ 2 ∷ 1 ∷ 1 ∷ 1 ∷ 1 ∷ 1 ∷ 1 ∷ 1 ∷ 1 ∷ []
 
 abbrev pub kind_by : List (List ℕ) → ℕ
 kind_by [] = 99
@@ -37,6 +44,27 @@ kind_by (w ∷ ws) = place_in w first_words
 abbrev count_by : List (List ℕ) → ℕ
 count_by [] = 0
 count_by (w ∷ ws) = get_or counts (place_in w first_words) 0
+
+abbrev install_kind : InstallStep → ℕ
+install_kind Close = 0
+install_kind Body = 1
+install_kind Open = 2
+
+abbrev step_kind : Due → ℕ
+step_kind Data = 0
+step_kind Delta = 1
+step_kind MergeData = 2
+step_kind MergeDelta = 3
+step_kind (Install step) = 4 + install_kind step
+
+abbrev pub call_kind : StoreCall → ℕ
+call_kind AppendBody = 0
+call_kind AppendOpen = 1
+call_kind RotateWrite = 2
+call_kind CheckpointRead = 3
+call_kind (MergeRead _) = 4
+call_kind Reclaim = 5
+call_kind (Step step) = 6 + step_kind step
 
 abbrev pub kind : Line → ℕ
 kind (line.Begin _) = 0
@@ -56,23 +84,11 @@ kind line.Collect = 13
 kind (line.Trim _) = 14
 kind line.Group = 15
 kind line.Take = 16
-kind line.Body = 17
-kind line.Open = 18
-kind line.Flush = 19
-kind line.RotateWrite = 20
-kind line.CheckpointRead = 21
-kind line.CheckpointData = 22
-kind line.CheckpointDelta = 23
-kind (line.MergeRead _) = 24
-kind line.MergeData = 25
-kind line.MergeDelta = 26
-kind line.InstallClose = 27
-kind line.InstallBody = 28
-kind line.InstallOpen = 29
-kind line.Rotate = 30
-kind line.Checkpoint = 31
-kind (line.Merge _) = 32
-kind line.Reclaim = 33
+kind line.Flush = 17
+kind line.Rotate = 18
+kind line.Checkpoint = 19
+kind (line.Merge _) = 20
+kind (line.Store call) = 21 + call_kind call
 
 pub kind_told : (a : Line) (left : List (List ℕ)) → kind_by (line_words a ++ left) ≡ kind a
 kind_told (line.Begin _) left = refl
@@ -92,23 +108,23 @@ kind_told line.Collect left = refl
 kind_told (line.Trim _) left = refl
 kind_told line.Group left = refl
 kind_told line.Take left = refl
-kind_told line.Body left = refl
-kind_told line.Open left = refl
 kind_told line.Flush left = refl
-kind_told line.RotateWrite left = refl
-kind_told line.CheckpointRead left = refl
-kind_told line.CheckpointData left = refl
-kind_told line.CheckpointDelta left = refl
-kind_told (line.MergeRead _) left = refl
-kind_told line.MergeData left = refl
-kind_told line.MergeDelta left = refl
-kind_told line.InstallClose left = refl
-kind_told line.InstallBody left = refl
-kind_told line.InstallOpen left = refl
 kind_told line.Rotate left = refl
 kind_told line.Checkpoint left = refl
 kind_told (line.Merge _) left = refl
-kind_told line.Reclaim left = refl
+kind_told (line.Store AppendBody) left = refl
+kind_told (line.Store AppendOpen) left = refl
+kind_told (line.Store RotateWrite) left = refl
+kind_told (line.Store CheckpointRead) left = refl
+kind_told (line.Store (Step Data)) left = refl
+kind_told (line.Store (Step Delta)) left = refl
+kind_told (line.Store (MergeRead _)) left = refl
+kind_told (line.Store (Step MergeData)) left = refl
+kind_told (line.Store (Step MergeDelta)) left = refl
+kind_told (line.Store (Step (Install Close))) left = refl
+kind_told (line.Store (Step (Install Body))) left = refl
+kind_told (line.Store (Step (Install Open))) left = refl
+kind_told (line.Store Reclaim) left = refl
 
 count_told : (a : Line) (left : List (List ℕ)) → count_by (line_words a ++ left) ≡ length (line_words a)
 count_told (line.Begin _) left = refl
@@ -128,23 +144,23 @@ count_told line.Collect left = refl
 count_told (line.Trim _) left = refl
 count_told line.Group left = refl
 count_told line.Take left = refl
-count_told line.Body left = refl
-count_told line.Open left = refl
 count_told line.Flush left = refl
-count_told line.RotateWrite left = refl
-count_told line.CheckpointRead left = refl
-count_told line.CheckpointData left = refl
-count_told line.CheckpointDelta left = refl
-count_told (line.MergeRead _) left = refl
-count_told line.MergeData left = refl
-count_told line.MergeDelta left = refl
-count_told line.InstallClose left = refl
-count_told line.InstallBody left = refl
-count_told line.InstallOpen left = refl
 count_told line.Rotate left = refl
 count_told line.Checkpoint left = refl
 count_told (line.Merge _) left = refl
-count_told line.Reclaim left = refl
+count_told (line.Store AppendBody) left = refl
+count_told (line.Store AppendOpen) left = refl
+count_told (line.Store RotateWrite) left = refl
+count_told (line.Store CheckpointRead) left = refl
+count_told (line.Store (Step Data)) left = refl
+count_told (line.Store (Step Delta)) left = refl
+count_told (line.Store (MergeRead _)) left = refl
+count_told (line.Store (Step MergeData)) left = refl
+count_told (line.Store (Step MergeDelta)) left = refl
+count_told (line.Store (Step (Install Close))) left = refl
+count_told (line.Store (Step (Install Body))) left = refl
+count_told (line.Store (Step (Install Open))) left = refl
+count_told (line.Store Reclaim) left = refl
 
 none_left : (left : List (List ℕ)) → length left ≡ 0 → left ≡ []
 none_left [] none = refl
@@ -181,6 +197,23 @@ data_told [] [] form other same = refl
 data_told [] (b ∷ bs) form other same = absurd (no_dash (b ∷ bs) other (sym same))
 data_told (b ∷ bs) [] form other same = absurd (no_dash (b ∷ bs) form same)
 data_told (b ∷ bs) (c ∷ cs) form other same = same
+
+-- the words of a call tell the call
+calls_tell : (a b : StoreCall) → IsInRange (line.Store a) → IsInRange (line.Store b) → call_kind a ≡ call_kind b → call_words a ≡ call_words b → a ≡ b
+calls_tell AppendBody AppendBody range least alike same = refl
+calls_tell AppendOpen AppendOpen range least alike same = refl
+calls_tell RotateWrite RotateWrite range least alike same = refl
+calls_tell CheckpointRead CheckpointRead range least alike same = refl
+calls_tell (Step Data) (Step Data) range least alike same = refl
+calls_tell (Step Delta) (Step Delta) range least alike same = refl
+calls_tell (MergeRead a) (MergeRead b) range least alike same = ap MergeRead (decimal_injective a b range least (cc))
+calls_tell (Step MergeData) (Step MergeData) range least alike same = refl
+calls_tell (Step MergeDelta) (Step MergeDelta) range least alike same = refl
+calls_tell (Step (Install Close)) (Step (Install Close)) range least alike same = refl
+calls_tell (Step (Install Body)) (Step (Install Body)) range least alike same = refl
+calls_tell (Step (Install Open)) (Step (Install Open)) range least alike same = refl
+calls_tell Reclaim Reclaim range least alike same = refl
+calls_tell _ _ range least alike same = absurd (omega arith)
 
 words_tell : (a b : Line) → HasForm a → HasForm b → IsInRange a → IsInRange b → kind a ≡ kind b → line_words a ≡ line_words b → IsSameLine a b
 words_tell (line.Begin a) (line.Begin b) form other range least alike same = cc
@@ -223,23 +256,11 @@ words_tell line.Collect line.Collect form other range least alike same = tt
 words_tell (line.Trim a) (line.Trim b) form other range least alike same = decimal_injective a.0 b.0 range least (cc)
 words_tell line.Group line.Group form other range least alike same = tt
 words_tell line.Take line.Take form other range least alike same = tt
-words_tell line.Body line.Body form other range least alike same = tt
-words_tell line.Open line.Open form other range least alike same = tt
 words_tell line.Flush line.Flush form other range least alike same = tt
-words_tell line.RotateWrite line.RotateWrite form other range least alike same = tt
-words_tell line.CheckpointRead line.CheckpointRead form other range least alike same = tt
-words_tell line.CheckpointData line.CheckpointData form other range least alike same = tt
-words_tell line.CheckpointDelta line.CheckpointDelta form other range least alike same = tt
-words_tell (line.MergeRead a) (line.MergeRead b) form other range least alike same = decimal_injective a b range least (cc)
-words_tell line.MergeData line.MergeData form other range least alike same = tt
-words_tell line.MergeDelta line.MergeDelta form other range least alike same = tt
-words_tell line.InstallClose line.InstallClose form other range least alike same = tt
-words_tell line.InstallBody line.InstallBody form other range least alike same = tt
-words_tell line.InstallOpen line.InstallOpen form other range least alike same = tt
 words_tell line.Rotate line.Rotate form other range least alike same = tt
 words_tell line.Checkpoint line.Checkpoint form other range least alike same = tt
 words_tell (line.Merge a) (line.Merge b) form other range least alike same = decimal_injective a b range least (cc)
-words_tell line.Reclaim line.Reclaim form other range least alike same = tt
+words_tell (line.Store a) (line.Store b) form other range least alike same = calls_tell a b range least (omega arith) same
 words_tell _ _ form other range least alike same = absurd (omega arith)
 
 pub text_tells : TextTellsLine

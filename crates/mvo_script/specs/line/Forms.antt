@@ -1,6 +1,7 @@
 -- The forms of a script's lines.
 use Rattle.std.specs.Prelude.{◌≡◌, ◌⊎◌, ℕ, ◌<◌, ◌^◌, List, []}
 use Rattle.mvo_types.specs.declared.row.RowKey.{RowKey}
+use Rattle.mvo_store.specs.declared.call.StoreCall.TheVariants.{MergeRead}
 use Rattle.mvo_script.specs.line.Words.{IsName, IsHex}
 use Rattle.mvo_script.specs.declared.line.line.Line.{Line}
 use Rattle.mvo_script.specs.declared.line.line.Line.TheVariants as line
@@ -46,6 +47,6 @@ IsInRange (line.Insert name row) = IsRowInRange row
 IsInRange (line.Update name row) = IsRowInRange row
 IsInRange (line.Delete name key) = IsKeyInRange key
 IsInRange (line.Trim stamp) = stamp.0 < 2 ^ 64
-IsInRange (line.MergeRead place) = place < 2 ^ 64
 IsInRange (line.Merge place) = place < 2 ^ 64
+IsInRange (line.Store (MergeRead place)) = place < 2 ^ 64
 IsInRange _ = Unit {0}

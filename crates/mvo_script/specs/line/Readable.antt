@@ -1,8 +1,9 @@
 -- Which words begin no line.
-use Rattle.std.specs.Prelude.{◌≢◌, ◌≡◌, ◌⊎◌, ℕ, ◌<◌, ◌^◌, List, ◌++◌, length}
+use Rattle.std.specs.Prelude.{◌≢◌, ◌≡◌, ℕ, ◌<◌, List, [], ◌∷◌, ◌++◌, length}
 use Rattle.mvo_types.specs.declared.row.RowKey.{RowKey}
+use Rattle.mvo_store.specs.declared.call.StoreCall.{StoreCall}
 use Rattle.mvo_script.specs.line.Forms.{HasForm, IsData, IsInRange, IsKeyInRange, IsRowInRange, IsSpanInRange}
-use Rattle.mvo_script.specs.line.Written.{key_words, range_words, row_words, line_words, text_of}
+use Rattle.mvo_script.specs.line.Written.{call_words, key_words, range_words, row_words, line_words, text_of}
 use Rattle.mvo_script.specs.declared.line.line.TheConstants.{MAX_LINE_LEN}
 use Rattle.mvo_script.specs.declared.line.line.Line.{Line}
 use Rattle.mvo_script.specs.declared.line.line.Line.TheVariants as line
@@ -38,19 +39,14 @@ IsOfTransaction (line.Commit _) = Unit {0}
 IsOfTransaction (line.Poll _) = Unit {0}
 IsOfTransaction _ = ⊥
 
--- it is one of a trim or a merge
-abbrev pub IsOfTrimOrMerge : Line → Type 0
-IsOfTrimOrMerge (line.Trim _) = Unit {0}
-IsOfTrimOrMerge (line.MergeRead _) = Unit {0}
-IsOfTrimOrMerge line.MergeData = Unit {0}
-IsOfTrimOrMerge line.MergeDelta = Unit {0}
-IsOfTrimOrMerge (line.Merge _) = Unit {0}
-IsOfTrimOrMerge _ = ⊥
-
 -- such a line is in front of none of them
 abbrev pub BeginNoLine : (Line → Type 0) → List (List ℕ) → Type 0
 BeginNoLine P words = (a : Line) (left : List (List ℕ)) → P a → HasForm a → IsInRange a →
     line_words a ++ left ≢ words
+
+-- it is the word of no call of the store
+abbrev pub IsNoCall : List ℕ → Type 0
+IsNoCall word = (call : StoreCall) → call_words call ≢ word ∷ []
 
 -- no line of so few bytes has this text
 abbrev pub IsNoLine : List ℕ → Type 0

@@ -36,23 +36,11 @@ IsSameLine line.Collect line.Collect = Unit {0}
 IsSameLine (line.Trim a) (line.Trim b) = a.0 ≡ b.0
 IsSameLine line.Group line.Group = Unit {0}
 IsSameLine line.Take line.Take = Unit {0}
-IsSameLine line.Body line.Body = Unit {0}
-IsSameLine line.Open line.Open = Unit {0}
 IsSameLine line.Flush line.Flush = Unit {0}
-IsSameLine line.RotateWrite line.RotateWrite = Unit {0}
-IsSameLine line.CheckpointRead line.CheckpointRead = Unit {0}
-IsSameLine line.CheckpointData line.CheckpointData = Unit {0}
-IsSameLine line.CheckpointDelta line.CheckpointDelta = Unit {0}
-IsSameLine (line.MergeRead a) (line.MergeRead b) = a ≡ b
-IsSameLine line.MergeData line.MergeData = Unit {0}
-IsSameLine line.MergeDelta line.MergeDelta = Unit {0}
-IsSameLine line.InstallClose line.InstallClose = Unit {0}
-IsSameLine line.InstallBody line.InstallBody = Unit {0}
-IsSameLine line.InstallOpen line.InstallOpen = Unit {0}
 IsSameLine line.Rotate line.Rotate = Unit {0}
 IsSameLine line.Checkpoint line.Checkpoint = Unit {0}
 IsSameLine (line.Merge a) (line.Merge b) = a ≡ b
-IsSameLine line.Reclaim line.Reclaim = Unit {0}
+IsSameLine (line.Store a) (line.Store b) = a ≡ b
 IsSameLine _ _ = ⊥
 
 -- a text is the text of one line at most

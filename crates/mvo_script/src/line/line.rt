@@ -1,12 +1,13 @@
-ghost use Rattle.std.specs.Prelude.{◌≡◌, ◌<◌, ◌⊎◌, ◌∷◌, ◌++◌, IfNone, IfSome, length};
+ghost use Rattle.std.specs.Prelude.{◌≡◌, ◌<◌, ◌∷◌, ◌++◌, IfNone, IfSome, length};
 ghost use Rattle.mvo_script.specs.line.Forms.{HasForm, IsData};
 ghost use Rattle.mvo_script.specs.line.Forms.{IsInRange, IsKeyInRange, IsRowInRange, IsSpanInRange};
 ghost use Rattle.mvo_script.specs.line.Readable.{BeginNoKey, BeginNoLine, BeginNoRange, BeginNoRow};
-ghost use Rattle.mvo_script.specs.line.Readable.{IsOfTransaction, IsNoLine, IsOfTrimOrMerge};
+ghost use Rattle.mvo_script.specs.line.Readable.{IsOfTransaction, IsNoLine};
 ghost use Rattle.mvo_script.specs.line.Written.{key_words, range_words, row_words, text_of, line_words};
 
 use crate::line::line_rest::LineRest;
-use crate::line::words::{digits_of, name_of, number_of, place_of, table_of};
+use crate::line::words::{call_of, digits_of, name_of, number_of, place_of, table_of};
+use mvo_store::StoreCall;
 use mvo_types::{RowKey, Stamp};
 use std::str;
 
@@ -50,40 +51,18 @@ pub enum Line<'a> {
     Group,
     /// `take`
     Take,
-    /// `body`
-    Body,
-    /// `open`
-    Open,
     /// `flush`
     Flush,
-    /// `rotate-write`
-    RotateWrite,
-    /// `checkpoint-read`
-    CheckpointRead,
-    /// `checkpoint-data`
-    CheckpointData,
-    /// `checkpoint-delta`
-    CheckpointDelta,
-    /// `merge-read I`
-    MergeRead(usize),
-    /// `merge-data`
-    MergeData,
-    /// `merge-delta`
-    MergeDelta,
-    /// `install-close`
-    InstallClose,
-    /// `install-body`
-    InstallBody,
-    /// `install-open`
-    InstallOpen,
     /// `rotate`
     Rotate,
     /// `checkpoint`
     Checkpoint,
     /// `merge I`
     Merge(usize),
-    /// `reclaim`
-    Reclaim,
+    /// `body`, `open`, `rotate-write`, `reclaim`, or a step of a job: `checkpoint-read`,
+    /// `checkpoint-data`, `checkpoint-delta`, `merge-read I`, `merge-data`, `merge-delta`,
+    /// `install-close`, `install-body`, `install-open`
+    Store(StoreCall),
 }
 
 /// The rows of a table with a sort from `lo` to `hi`, both with.
@@ -137,40 +116,18 @@ fn line_of<'a>(first: &str, rest: &mut LineRest<'a>) -> Option<Line<'a>>
 {
     match first {
         "collect" => Some(Line::Collect),
+        "trim" => Some(Line::Trim(Stamp(number_of(rest.next()?)?))),
         "group" => Some(Line::Group),
         "take" => Some(Line::Take),
-        "body" => Some(Line::Body),
-        "open" => Some(Line::Open),
         "flush" => Some(Line::Flush),
-        "rotate-write" => Some(Line::RotateWrite),
-        "checkpoint-read" => Some(Line::CheckpointRead),
-        "checkpoint-data" => Some(Line::CheckpointData),
-        "checkpoint-delta" => Some(Line::CheckpointDelta),
-        "install-close" => Some(Line::InstallClose),
-        "install-body" => Some(Line::InstallBody),
-        "install-open" => Some(Line::InstallOpen),
         "rotate" => Some(Line::Rotate),
         "checkpoint" => Some(Line::Checkpoint),
-        "reclaim" => Some(Line::Reclaim),
-        _ => numbered_line_of(first, rest),
-    }
-}
-
-/// The line of a trim, a merge or a transaction with this first word, from the words after it.
-fn numbered_line_of<'a>(first: &str, rest: &mut LineRest<'a>) -> Option<Line<'a>>
-    ensures form { IfSome result HasForm }
-    ensures range { IfSome result IsInRange }
-    ensures text { IfSome result (λ line. line_words line ++ rest.new ≡ first.now ∷ rest.old) }
-    ensures none { IfNone result
-        (BeginNoLine (λ line. IsOfTrimOrMerge line ⊎ IsOfTransaction line) (first.now ∷ rest.old)) }
-{
-    match first {
-        "trim" => Some(Line::Trim(Stamp(number_of(rest.next()?)?))),
-        "merge-read" => Some(Line::MergeRead(place_of(rest.next()?)?)),
-        "merge-data" => Some(Line::MergeData),
-        "merge-delta" => Some(Line::MergeDelta),
         "merge" => Some(Line::Merge(place_of(rest.next()?)?)),
-        _ => named_line_of(first, rest),
+        "merge-read" => Some(Line::Store(StoreCall::MergeRead(place_of(rest.next()?)?))),
+        _ => match call_of(first) {
+            Some(call) => Some(Line::Store(call)),
+            None => named_line_of(first, rest),
+        },
     }
 }
 

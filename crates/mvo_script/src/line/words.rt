@@ -1,9 +1,12 @@
-ghost use Rattle.std.specs.Prelude.{◌≡◌, ◌==◌, ◌<◌, ◌&&◌, ◌||◌, ◌≢◌, codes, length, nat_lt, slice_index, decimal, IfSome, MatchOption};
+ghost use Rattle.std.specs.Prelude.{◌≡◌, ◌==◌, ◌<◌, ◌&&◌, ◌||◌, ◌≢◌, [], ◌∷◌, codes, length, nat_lt, slice_index, decimal, IfSome, MatchOption};
 ghost use Rattle.std.specs.List.{list_all};
 ghost use Rattle.std.specs.Option.{SomeIff, option_copied};
 ghost use Rattle.std.specs.Str.Parse.{digits_value};
 ghost use Rattle.mvo_script.specs.line.Words.{is_name_byte, is_hex_byte, IsName, IsNumber, IsDataOf, IsHex};
-ghost use Rattle.mvo_script.specs.line.Written.{data_word};
+ghost use Rattle.mvo_script.specs.line.Readable.{IsNoCall};
+ghost use Rattle.mvo_script.specs.line.Written.{call_words, data_word};
+
+use mvo_store::{Due, InstallStep, StoreCall};
 
 /// The most letters of a name.
 pub const MAX_NAME_LEN: usize = 16;
@@ -96,4 +99,25 @@ fn is_of_hex_bytes(word: &str) -> bool
     word.as_bytes()
         .iter()
         .all(|byte| matches!(*byte, b'0'..=b'9' | b'a'..=b'f'))
+}
+
+/// The call of the store that a word asks for. A merge's reading isn't one, which has a number.
+pub fn call_of(word: &str) -> Option<StoreCall>
+    ensures { MatchOption result (IsNoCall word.now) (λ call. call_words call ≡ word.now ∷ []) }
+{
+    match word {
+        "body" => Some(StoreCall::AppendBody),
+        "open" => Some(StoreCall::AppendOpen),
+        "rotate-write" => Some(StoreCall::RotateWrite),
+        "checkpoint-read" => Some(StoreCall::CheckpointRead),
+        "checkpoint-data" => Some(StoreCall::Step(Due::Data)),
+        "checkpoint-delta" => Some(StoreCall::Step(Due::Delta)),
+        "merge-data" => Some(StoreCall::Step(Due::MergeData)),
+        "merge-delta" => Some(StoreCall::Step(Due::MergeDelta)),
+        "install-close" => Some(StoreCall::Step(Due::Install(InstallStep::Close))),
+        "install-body" => Some(StoreCall::Step(Due::Install(InstallStep::Body))),
+        "install-open" => Some(StoreCall::Step(Due::Install(InstallStep::Open))),
+        "reclaim" => Some(StoreCall::Reclaim),
+        _ => None,
+    }
 }

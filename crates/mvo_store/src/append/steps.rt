@@ -1,6 +1,7 @@
 //! Appends a group to the last segment, in two steps.
 ghost use Rattle.std.specs.Prelude.{IfOk};
-ghost use Rattle.mvo_store.specs.Calls.StoreCall.{AppendBody, AppendOpen};
+ghost use Rattle.mvo_store.specs.Calls.StoreStep.{Call};
+ghost use Rattle.mvo_store.specs.declared.call.StoreCall.TheVariants.{AppendBody, AppendOpen};
 ghost use Rattle.mvo_store.specs.Calls.{IsStoreStep, AnswersMark};
 
 use crate::append::durable::Durable;
@@ -17,7 +18,7 @@ impl<D: Disk> Store<D> {
     /// written, then SegmentFull where the segment would pass `MAX_SEGMENT_LEN` bytes, then
     /// OutOfMemory, then DiskFault.
     pub fn append_body(&mut self) -> Result<(), Refusal>
-        ensures { IsStoreStep D.Disk self.old AppendBody result self.new }
+        ensures { IsStoreStep D.Disk self.old (Call AppendBody) result self.new }
     {
         if self.down {
             return Err(Refusal::Down);
@@ -46,7 +47,7 @@ impl<D: Disk> Store<D> {
     ///
     /// Refused: Down, then NothingToDo where no body is written, then DiskFault.
     pub fn append_open(&mut self) -> Result<Durable, Refusal>
-        ensures step { IsStoreStep D.Disk self.old AppendOpen result self.new }
+        ensures step { IsStoreStep D.Disk self.old (Call AppendOpen) result self.new }
         ensures mark { IfOk result (AnswersMark self.new) }
     {
         if self.down {

@@ -10,7 +10,9 @@ ghost use Rattle.mvo_pair.specs.Answers.{Tells};
 ghost use Rattle.mvo_pair.specs.Writing.{IsStop};
 ghost use Rattle.mvo_recovery.specs.image.Files.{SegmentIs};
 ghost use Rattle.mvo_load.specs.Read.{HasRead, IsMisread, MayBeGroups};
-ghost use Rattle.mvo_store.specs.Calls.StoreCall.{CheckpointRead, CheckpointData, CheckpointDelta};
+ghost use Rattle.mvo_store.specs.Calls.StoreStep.{Call};
+ghost use Rattle.mvo_store.specs.declared.call.StoreCall.TheVariants.{CheckpointRead, Step};
+ghost use Rattle.mvo_store.specs.declared.jobs.due.Due.TheVariants.{Data, Delta};
 ghost use Rattle.mvo_store.specs.Calls.{IsStoreStep, AnswersProgress};
 ghost use Rattle.mvo_store.specs.Files.{files_taken};
 ghost use Rattle.mvo_store.specs.Safe.{IsSafeCheckpoint};
@@ -133,7 +135,7 @@ impl<D: Disk> Store<D> {
     /// otherwise, so that it breaks a rule, this is Corrupt with a file or BadVersion, and the
     /// store is down.
     pub fn checkpoint_read(&mut self) -> Result<(), Refusal>
-        ensures { IsStoreStep D.Disk self.old CheckpointRead result self.new }
+        ensures { IsStoreStep D.Disk self.old (Call CheckpointRead) result self.new }
     {
         if let Some(refusal) = self.why_not_checkpoint() {
             return Err(refusal);
@@ -158,7 +160,7 @@ impl<D: Disk> Store<D> {
     ///
     /// Refused: Down, then NothingToDo where this isn't due, then OutOfMemory, then DiskFault.
     pub fn checkpoint_data(&mut self) -> Result<(), Refusal>
-        ensures { IsStoreStep D.Disk self.old CheckpointData result self.new }
+        ensures { IsStoreStep D.Disk self.old (Call (Step Data)) result self.new }
     {
         self.write_due(Due::Data)
     }
@@ -169,7 +171,7 @@ impl<D: Disk> Store<D> {
     ///
     /// Refused: Down, then NothingToDo where this isn't due, then OutOfMemory, then DiskFault.
     pub fn checkpoint_delta(&mut self) -> Result<Progress, Refusal>
-        ensures step { IsStoreStep D.Disk self.old CheckpointDelta result self.new }
+        ensures step { IsStoreStep D.Disk self.old (Call (Step Delta)) result self.new }
         ensures progress { IfOk result (AnswersProgress self.old) }
     {
         let progress = self.jobs.progress();

@@ -1,6 +1,9 @@
 //! Installs the manifest of a job, in three steps.
 ghost use Rattle.std.specs.Prelude.{◌≡◌, ◌&&◌, IfOk};
-ghost use Rattle.mvo_store.specs.Calls.StoreCall.{InstallClose, InstallBody, InstallOpen};
+ghost use Rattle.mvo_store.specs.declared.call.StoreCall.TheVariants.{Step};
+ghost use Rattle.mvo_store.specs.declared.jobs.due.Due.TheVariants.{Install as InstallDue};
+ghost use Rattle.mvo_store.specs.declared.install.install_step.InstallStep.TheVariants.{Close, Body, Open};
+ghost use Rattle.mvo_store.specs.Calls.StoreStep.{Call};
 ghost use Rattle.mvo_store.specs.Calls.{IsStoreStep, AnswersGeneration};
 ghost use Rattle.mvo_store.specs.Causes.{why_not_install_open};
 ghost use Rattle.mvo_store.specs.Jobs.{next_installed, after_install};
@@ -73,7 +76,7 @@ impl<D: Disk> Store<D> {
     ///
     /// Refused: Down, then NothingToDo where this isn't due, then DiskFault.
     pub fn install_close(&mut self) -> Result<(), Refusal>
-        ensures { IsStoreStep D.Disk self.old InstallClose result self.new }
+        ensures { IsStoreStep D.Disk self.old (Call (Step (InstallDue Close))) result self.new }
     {
         self.write_due(Due::Install(InstallStep::Close))
     }
@@ -82,7 +85,7 @@ impl<D: Disk> Store<D> {
     ///
     /// Refused: Down, then NothingToDo where this isn't due, then OutOfMemory, then DiskFault.
     pub fn install_body(&mut self) -> Result<(), Refusal>
-        ensures { IsStoreStep D.Disk self.old InstallBody result self.new }
+        ensures { IsStoreStep D.Disk self.old (Call (Step (InstallDue Body))) result self.new }
     {
         self.write_due(Due::Install(InstallStep::Body))
     }
@@ -107,7 +110,7 @@ impl<D: Disk> Store<D> {
     /// Refused: Down, then NothingToDo where this isn't due, then for a rotation Busy while a body
     /// is written whose gate isn't open, then DiskFault.
     pub fn install_open(&mut self) -> Result<Generation, Refusal>
-        ensures step { IsStoreStep D.Disk self.old InstallOpen result self.new }
+        ensures step { IsStoreStep D.Disk self.old (Call (Step (InstallDue Open))) result self.new }
         ensures generation { IfOk result (λ g. AnswersGeneration self.new g.0) }
     {
         if let Some(refusal) = self.why_not_open() {

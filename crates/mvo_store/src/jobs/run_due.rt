@@ -2,7 +2,9 @@
 ghost use Rattle.std.specs.Prelude.{◌≡◌, ◌≢◌};
 ghost use Rattle.mvo_store.specs.declared.jobs.due.Due.TheVariants.{MergeDelta, Install};
 ghost use Rattle.mvo_store.specs.declared.install.install_step.InstallStep.TheVariants.{Open};
-ghost use Rattle.mvo_store.specs.Calls.{IsStoreStep, call_of};
+ghost use Rattle.mvo_store.specs.Calls.StoreStep.{Call};
+ghost use Rattle.mvo_store.specs.Calls.{IsStoreStep};
+ghost use Rattle.mvo_store.specs.declared.call.StoreCall.TheVariants.{Step};
 ghost use Rattle.mvo_store.specs.Causes.{why_not_due};
 
 use crate::fault::is_fault;
@@ -36,7 +38,7 @@ impl<D: Disk> Store<D> {
     pub(crate) fn write_due(&mut self, step: Due) -> Result<(), Refusal>
         requires file { step ≢ MergeDelta }
         requires gate { step ≢ Install Open }
-        ensures { IsStoreStep D.Disk self.old (call_of step) result self.new }
+        ensures { IsStoreStep D.Disk self.old (Call (Step step)) result self.new }
     {
         if let Some(refusal) = self.why_not_due(step) {
             return Err(refusal);

@@ -3,7 +3,9 @@ ghost use Rattle.std.specs.Prelude.{◌≡◌, ◌⊎◌, ◌<◌, ◌+◌, ◌^
 ghost use Rattle.mvo_format.specs.declared.format.TheConstants.{FIRST_FORMAT};
 ghost use Rattle.mvo_disk.specs.Disk.{IsHonest};
 ghost use Rattle.mvo_load.specs.Read.{HasRead, IsMisread, MayBeLive};
-ghost use Rattle.mvo_store.specs.Calls.StoreCall.{MergeRead, MergeData, MergeDelta};
+ghost use Rattle.mvo_store.specs.Calls.StoreStep.{Call};
+ghost use Rattle.mvo_store.specs.declared.call.StoreCall.TheVariants.{MergeRead, Step};
+ghost use Rattle.mvo_store.specs.declared.jobs.due.Due.TheVariants.{MergeData, MergeDelta};
 ghost use Rattle.mvo_store.specs.Calls.{IsStoreStep};
 ghost use Rattle.mvo_store.specs.Causes.{why_not_merge, why_not_merge_delta};
 ghost use Rattle.mvo_store.specs.Merging.{HaveFiles};
@@ -149,7 +151,7 @@ impl<D: Disk> Store<D> {
     /// it comes back otherwise, so that it breaks a rule, the answer is Corrupt with a file or
     /// BadVersion, and the store is down.
     pub fn merge_read(&mut self, place: usize) -> Result<(), Refusal>
-        ensures { IsStoreStep D.Disk self.old (MergeRead place) result self.new }
+        ensures { IsStoreStep D.Disk self.old (Call (MergeRead place)) result self.new }
     {
         if let Some(refusal) = self.why_not_merge(place) {
             return Err(refusal);
@@ -172,7 +174,7 @@ impl<D: Disk> Store<D> {
     ///
     /// Refused: Down, then NothingToDo where this isn't due, then OutOfMemory, then DiskFault.
     pub fn merge_data(&mut self) -> Result<(), Refusal>
-        ensures { IsStoreStep D.Disk self.old MergeData result self.new }
+        ensures { IsStoreStep D.Disk self.old (Call (Step MergeData)) result self.new }
     {
         self.write_due(Due::MergeData)
     }
@@ -187,7 +189,7 @@ impl<D: Disk> Store<D> {
     /// only a disk tells that answers otherwise than was written, this is Corrupt with the delta
     /// file of the first of the two, and the store is down.
     pub fn merge_delta(&mut self) -> Result<(), Refusal>
-        ensures { IsStoreStep D.Disk self.old MergeDelta result self.new }
+        ensures { IsStoreStep D.Disk self.old (Call (Step MergeDelta)) result self.new }
     {
         if let Some(refusal) = self.why_not_merge_delta() {
             return Err(refusal);

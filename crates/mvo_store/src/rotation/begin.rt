@@ -2,7 +2,8 @@
 ghost use Rattle.std.specs.Prelude.{◌≡◌, IfOk};
 ghost use Rattle.mvo_manifest.specs.Rules.{IsManifest};
 ghost use Rattle.mvo_recovery.specs.Rotation.{rotated};
-ghost use Rattle.mvo_store.specs.Calls.StoreCall.{RotateWrite};
+ghost use Rattle.mvo_store.specs.Calls.StoreStep.{Call};
+ghost use Rattle.mvo_store.specs.declared.call.StoreCall.TheVariants.{RotateWrite};
 ghost use Rattle.mvo_store.specs.Calls.{IsStoreStep};
 ghost use Rattle.mvo_store.specs.Causes.{why_not_rotate};
 
@@ -65,7 +66,7 @@ impl<D: Disk> Store<D> {
     /// above, then NothingToDo where the last segment holds no group, then SegmentsFull where 64
     /// are named, then OutOfMemory, then DiskFault.
     pub fn rotate_write(&mut self) -> Result<(), Refusal>
-        ensures { IsStoreStep D.Disk self.old RotateWrite result self.new }
+        ensures { IsStoreStep D.Disk self.old (Call RotateWrite) result self.new }
     {
         if let Some(refusal) = self.why_not_rotate() {
             return Err(refusal);

@@ -1,12 +1,14 @@
-//! The step of each event of the log whose reply says more than that it is done, and the poll.
+//! The step of each event of the log, and the poll.
 
 use super::World;
 use crate::event::Event;
 use crate::reply::Reply;
 use mvo_disk::Disk;
+use mvo_store::{Done, StoreCall};
 use mvo_types::{Refusal, Stamp};
 
 impl<D: Disk> World<D> {
+    ghost use Rattle.mvo_world.specs.Replies.{reply_of, reply_to_taking};
     ghost use Rattle.mvo_world.specs.Steps.{IsWorldStep};
 
     pub(super) fn close_group(&mut self) -> Reply
@@ -18,55 +20,23 @@ impl<D: Disk> World<D> {
         }
     }
 
-    pub(super) fn take_group(&mut self) -> Reply
-        ensures { IsWorldStep D.Disk self.old Event.TakeGroup result self.new }
+    pub(super) fn take_group(&mut self) -> Result<(), Refusal>
+        ensures { IsWorldStep D.Disk self.old Event.TakeGroup (reply_to_taking result) self.new }
     {
         if let Some(refusal) = self.store.can_take() {
-            return Reply::Refused(refusal);
+            return Err(refusal);
         }
         let Some(group) = self.ring.take() else {
-            return Reply::Refused(Refusal::NothingToDo);
+            return Err(Refusal::NothingToDo);
         };
-        match self.store.take_group(group) {
-            Ok(()) => Reply::Taken,
-            Err((refusal, _)) => Reply::Refused(refusal),
-        }
+        self.store.accept_group(group);
+        Ok(())
     }
 
-    pub(super) fn append_open(&mut self) -> Reply
-        ensures { IsWorldStep D.Disk self.old Event.AppendOpen result self.new }
+    pub(super) fn call_store(&mut self, call: StoreCall) -> Result<Done, Refusal>
+        ensures { IsWorldStep D.Disk self.old (Event.Store call) (reply_of result) self.new }
     {
-        match self.store.append_open() {
-            Ok(durable) => Reply::Durable(durable.mark()),
-            Err(refusal) => Reply::Refused(refusal),
-        }
-    }
-
-    pub(super) fn checkpoint_delta(&mut self) -> Reply
-        ensures { IsWorldStep D.Disk self.old Event.CheckpointDelta result self.new }
-    {
-        match self.store.checkpoint_delta() {
-            Ok(progress) => Reply::Progress(progress),
-            Err(refusal) => Reply::Refused(refusal),
-        }
-    }
-
-    pub(super) fn install_open(&mut self) -> Reply
-        ensures { IsWorldStep D.Disk self.old Event.InstallOpen result self.new }
-    {
-        match self.store.install_open() {
-            Ok(generation) => Reply::Installed(generation),
-            Err(refusal) => Reply::Refused(refusal),
-        }
-    }
-
-    pub(super) fn reclaim(&mut self) -> Reply
-        ensures { IsWorldStep D.Disk self.old Event.Reclaim result self.new }
-    {
-        match self.store.reclaim() {
-            Ok(reclaimed) => Reply::Reclaimed(reclaimed),
-            Err(refusal) => Reply::Refused(refusal),
-        }
+        self.store.call(call)
     }
 
     pub(super) fn poll(&self, stamp: Stamp) -> Reply

@@ -8,7 +8,7 @@ use super::step::row_with;
 use super::{TWO_PAIRS, disk_after};
 use mvo_disk::{FileImage, MemDisk};
 use mvo_model::Serial;
-use mvo_types::{Answer, Row, RowKey, Rows, Stamp, TxId};
+use mvo_types::{Answer, Op, Row, RowKey, Rows, Stamp, TxId};
 use mvo_world::{Event, Reply, World};
 use std::alloc::{AllocError, Global};
 use std::process::Abort;
@@ -87,7 +87,7 @@ fn compare_key(
     serial: &Serial,
 ) -> Result<(), Fail> {
     let wanted = Answer::Found(serial.rows().get(key)?);
-    compare(rt, world, Event::Read(id, key), &wanted)
+    compare(rt, world, Event::Do(id, Op::Read(key)), &wanted)
 }
 
 fn compare_table(
@@ -98,7 +98,12 @@ fn compare_table(
     serial: &Serial,
 ) -> Result<(), Fail> {
     let wanted = Answer::Rows(serial.scan(table, 0, u64::MAX)?);
-    compare(rt, world, Event::Scan(id, table, 0, u64::MAX), &wanted)
+    compare(
+        rt,
+        world,
+        Event::Do(id, Op::Scan(table, 0, u64::MAX)),
+        &wanted,
+    )
 }
 
 /// Compares all rows of a world that was opened.

@@ -3,7 +3,12 @@
 use super::draws::Draws;
 use super::jobs::{Job, Jobs, Merge};
 use super::observed::{Observed, Open, Phase};
-use mvo_types::{Row, RowKey, Stamp, TxId};
+use super::store_calls::{
+    CHECKPOINT_DATA, CHECKPOINT_DELTA, INSTALL_BODY, INSTALL_CLOSE, INSTALL_OPEN, MERGE_DATA,
+    MERGE_DELTA,
+};
+use mvo_store::StoreCall;
+use mvo_types::{Op, Row, RowKey, Stamp, TxId};
 use mvo_world::Event;
 use std::alloc::AllocError;
 
@@ -46,9 +51,9 @@ fn wanted(open: &[Open], from: usize, preparing: bool) -> Option<&Open> {
 fn due_of_groups(observed: &Observed) -> Event {
     let known = &observed.known;
     if known.written {
-        Event::AppendOpen
+        Event::Store(StoreCall::AppendOpen)
     } else if known.taken.is_some() {
-        Event::AppendBody
+        Event::Store(StoreCall::AppendBody)
     } else if observed.waiting.is_empty() {
         Event::CloseGroup
     } else {
@@ -57,23 +62,23 @@ fn due_of_groups(observed: &Observed) -> Event {
 }
 
 /// The step that the merge waits for, unless a checkpoint keeps it out.
-fn due_of_merge(jobs: Jobs) -> Option<Event> {
+fn due_of_merge(jobs: Jobs) -> Option<StoreCall> {
     match jobs.merge {
-        Merge::Data => Some(Event::MergeData),
-        Merge::Delta if jobs.job == Job::None => Some(Event::MergeDelta),
+        Merge::Data => Some(MERGE_DATA),
+        Merge::Delta if jobs.job == Job::None => Some(MERGE_DELTA),
         _ => None,
     }
 }
 
 /// The step that the other job waits for, or a rotation.
-fn due_of_job(job: Job) -> Event {
+fn due_of_job(job: Job) -> StoreCall {
     match job {
-        Job::None => Event::RotateWrite,
-        Job::Data => Event::CheckpointData,
-        Job::Delta => Event::CheckpointDelta,
-        Job::Close => Event::InstallClose,
-        Job::Body => Event::InstallBody,
-        Job::Open => Event::InstallOpen,
+        Job::None => StoreCall::RotateWrite,
+        Job::Data => CHECKPOINT_DATA,
+        Job::Delta => CHECKPOINT_DELTA,
+        Job::Close => INSTALL_CLOSE,
+        Job::Body => INSTALL_BODY,
+        Job::Open => INSTALL_OPEN,
     }
 }
 
@@ -87,7 +92,7 @@ impl Draws {
             26 => Ok(self.event_of_memory(observed)),
             27 => self.any_step(observed, key),
             28 => Ok(Event::Poll(self.stamp(observed))),
-            29..=31 => Ok(self.event_of_jobs(observed.known.jobs)),
+            29..=31 => Ok(Event::Store(self.call_of_jobs(observed.known.jobs))),
             _ => self.due_step(observed, key),
         }
     }
@@ -107,43 +112,43 @@ impl Draws {
         match self.below(16) {
             0..=2 => Event::CloseGroup,
             3 => Event::TakeGroup,
-            4 => Event::AppendBody,
-            5 => Event::AppendOpen,
+            4 => Event::Store(StoreCall::AppendBody),
+            5 => Event::Store(StoreCall::AppendOpen),
             _ => due_of_groups(observed),
         }
     }
 
-    fn event_of_jobs(&mut self, jobs: Jobs) -> Event {
+    fn call_of_jobs(&mut self, jobs: Jobs) -> StoreCall {
         match self.below(32) {
-            0 => Event::RotateWrite,
-            1 => Event::InstallClose,
-            2 => Event::InstallBody,
-            3 => Event::InstallOpen,
-            4 => Event::Reclaim,
-            5 => Event::CheckpointRead,
-            6 => Event::CheckpointData,
-            7 => Event::CheckpointDelta,
+            0 => StoreCall::RotateWrite,
+            1 => INSTALL_CLOSE,
+            2 => INSTALL_BODY,
+            3 => INSTALL_OPEN,
+            4 => StoreCall::Reclaim,
+            5 => StoreCall::CheckpointRead,
+            6 => CHECKPOINT_DATA,
+            7 => CHECKPOINT_DELTA,
             8 => self.merge_read(),
-            9 => Event::MergeData,
-            10 => Event::MergeDelta,
-            11..=15 if !jobs.are_any() => Event::Reclaim,
-            16..=22 if jobs.job == Job::None => Event::CheckpointRead,
+            9 => MERGE_DATA,
+            10 => MERGE_DELTA,
+            11..=15 if !jobs.are_any() => StoreCall::Reclaim,
+            16..=22 if jobs.job == Job::None => StoreCall::CheckpointRead,
             23..=26 if jobs.merge == Merge::None => self.merge_read(),
             _ => self.due_of_jobs(jobs),
         }
     }
 
     /// The step that one of the jobs waits for, or a rotation.
-    fn due_of_jobs(&mut self, jobs: Jobs) -> Event {
+    fn due_of_jobs(&mut self, jobs: Jobs) -> StoreCall {
         match due_of_merge(jobs) {
-            Some(event) if !jobs.are_two() || self.below(2) == 0 => event,
+            Some(call) if !jobs.are_two() || self.below(2) == 0 => call,
             _ => due_of_job(jobs.job),
         }
     }
 
     /// A merge of the first pairs, which may not be there.
-    fn merge_read(&mut self) -> Event {
-        Event::MergeRead(self.below(2) as usize)
+    fn merge_read(&mut self) -> StoreCall {
+        StoreCall::MergeRead(self.below(2) as usize)
     }
 
     /// One of the timestamps of late, or one that isn't drawn yet.
@@ -208,16 +213,20 @@ impl Draws {
     }
 
     fn operation(&mut self, id: TxId, key: RowKey) -> Result<Event, AllocError> {
+        Ok(Event::Do(id, self.op(key)?))
+    }
+
+    fn op(&mut self, key: RowKey) -> Result<Op, AllocError> {
         match self.below(16) {
-            0..=3 => Ok(Event::Read(id, key)),
+            0..=3 => Ok(Op::Read(key)),
             4..=5 => {
                 let low = self.below(SORTS / 2);
                 let high = low.saturating_add(self.below(SORTS));
-                Ok(Event::Scan(id, key.table, low, high))
+                Ok(Op::Scan(key.table, low, high))
             }
-            6..=8 => Ok(Event::Insert(id, self.row_at(key)?)),
-            9..=12 => Ok(Event::Update(id, self.row_at(key)?)),
-            _ => Ok(Event::Delete(id, key)),
+            6..=8 => Ok(Op::Insert(self.row_at(key)?)),
+            9..=12 => Ok(Op::Update(self.row_at(key)?)),
+            _ => Ok(Op::Delete(key)),
         }
     }
 

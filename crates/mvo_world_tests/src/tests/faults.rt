@@ -10,6 +10,7 @@ use super::runs::{RUNS, Run, Start, all_keys, try_open};
 use super::told::is_of_store;
 use crate::equal::same;
 use mvo_disk::{Call, Disk, FileImage, MemDisk};
+use mvo_store::{Due, StoreCall};
 use mvo_types::{Refusal, RowKey};
 use mvo_world::{Event, Reply, World};
 use std::alloc::{AllocError, Global};
@@ -65,19 +66,21 @@ impl Met {
     /// Notes an event that met a fault.
     fn note(&mut self, event: &Event) {
         match event {
-            Event::AppendBody | Event::AppendOpen => count(&mut self.in_append),
-            Event::RotateWrite => count(&mut self.in_rotate),
-            Event::CheckpointRead | Event::CheckpointData | Event::CheckpointDelta => {
-                count(&mut self.in_checkpoint)
-            }
-            Event::MergeRead(_) | Event::MergeData | Event::MergeDelta => {
-                count(&mut self.in_merge)
-            }
-            Event::InstallClose | Event::InstallBody | Event::InstallOpen => {
-                count(&mut self.in_install)
-            }
-            Event::Reclaim => count(&mut self.in_reclaim),
+            Event::Store(call) => self.note_call(*call),
             _ => count(&mut self.strange),
+        }
+    }
+
+    fn note_call(&mut self, call: StoreCall) {
+        match call {
+            StoreCall::AppendBody | StoreCall::AppendOpen => count(&mut self.in_append),
+            StoreCall::RotateWrite => count(&mut self.in_rotate),
+            StoreCall::CheckpointRead => count(&mut self.in_checkpoint),
+            StoreCall::MergeRead(_) => count(&mut self.in_merge),
+            StoreCall::Step(Due::Data | Due::Delta) => count(&mut self.in_checkpoint),
+            StoreCall::Step(Due::MergeData | Due::MergeDelta) => count(&mut self.in_merge),
+            StoreCall::Step(Due::Install(_)) => count(&mut self.in_install),
+            StoreCall::Reclaim => count(&mut self.in_reclaim),
         }
     }
 }

@@ -1,7 +1,7 @@
 //! The jobs that run, as the replies to their steps tell.
 
 use super::observed::{Counts, count};
-use mvo_store::Progress;
+use mvo_store::{Due, Progress, StoreCall};
 use mvo_world::Event;
 
 /// The next step of what installs a manifest next: a rotation, a checkpoint, or a merge whose files
@@ -66,30 +66,25 @@ impl Jobs {
     /// A step of a checkpoint or of a merge is made.
     pub fn note_progress(&mut self, event: &Event, progress: Progress, counts: &mut Counts) {
         match (event, progress) {
-            (Event::CheckpointRead, Progress::More) => self.job = Job::Data,
-            (Event::CheckpointData, Progress::More) => {
-                count(&mut self.written_files);
-                self.job = Job::Delta;
-            }
-            (Event::CheckpointDelta, Progress::More) => count(&mut self.written_files),
-            (Event::CheckpointDelta, Progress::Ready) => {
-                count(&mut self.written_files);
-                count(&mut counts.checkpoints);
-                self.job = Job::Close;
-            }
-            _ => self.note_merge(event, progress, counts),
+            (Event::Store(StoreCall::CheckpointRead), Progress::More) => self.job = Job::Data,
+            (Event::Store(StoreCall::MergeRead(_)), Progress::More) => self.merge = Merge::Data,
+            (Event::Store(StoreCall::Step(step)), _) => self.note_file(*step, progress, counts),
+            _ => count(&mut counts.strange),
         }
     }
 
-    fn note_merge(&mut self, event: &Event, progress: Progress, counts: &mut Counts) {
-        match (event, progress) {
-            (Event::MergeRead(_), Progress::More) => self.merge = Merge::Data,
-            (Event::MergeData, Progress::More) => {
-                count(&mut self.written_files);
-                self.merge = Merge::Delta;
+    /// A file of one is written.
+    fn note_file(&mut self, step: Due, progress: Progress, counts: &mut Counts) {
+        count(&mut self.written_files);
+        match (step, progress) {
+            (Due::Data, Progress::More) => self.job = Job::Delta,
+            (Due::Delta, Progress::More) => {}
+            (Due::Delta, Progress::Ready) => {
+                count(&mut counts.checkpoints);
+                self.job = Job::Close;
             }
-            (Event::MergeDelta, Progress::Ready) => {
-                count(&mut self.written_files);
+            (Due::MergeData, Progress::More) => self.merge = Merge::Delta,
+            (Due::MergeDelta, Progress::Ready) => {
                 count(&mut counts.merges);
                 self.merge = Merge::None;
                 self.job = Job::Close;

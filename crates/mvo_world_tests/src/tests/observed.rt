@@ -1,9 +1,10 @@
 //! What happened in a run, as its events and their replies tell.
 
 use super::jobs::{Job, Jobs};
+use super::store_calls::INSTALL_BODY;
 use super::told::{op_of, tx_of};
 use mvo_core::{Finishing, Settlement, Validation};
-use mvo_store::Reclaimed;
+use mvo_store::{Reclaimed, StoreCall};
 use mvo_types::{Answer, Op, Refusal, Stamp, TxId};
 use mvo_world::{Event, Reply};
 use std::alloc::{AllocError, Global};
@@ -295,8 +296,8 @@ impl Observed {
 
     fn note_written(&mut self, event: &Event) {
         match event {
-            Event::AppendBody => self.known.written = true,
-            Event::InstallBody => self.known.jobs.job = Job::Open,
+            Event::Store(StoreCall::AppendBody) => self.known.written = true,
+            Event::Store(INSTALL_BODY) => self.known.jobs.job = Job::Open,
             _ => count(&mut self.counts.strange),
         }
     }

@@ -9,6 +9,7 @@ use super::observed::{Counts, Known, count};
 use super::runs::{RUNS, Run, Start, all_keys};
 use crate::equal::same;
 use mvo_disk::{Call, FileImage, MemDisk};
+use mvo_store::{Due, InstallStep, StoreCall};
 use mvo_types::{RowKey, Stamp};
 use mvo_world::Event;
 use std::alloc::{AllocError, Global};
@@ -105,19 +106,32 @@ impl Met {
     /// Notes a stop within an event.
     fn note_within(&mut self, event: &Event, is_synced: bool, is_open: bool) {
         match event {
-            Event::AppendBody if is_synced => count(&mut self.after_body),
-            Event::AppendBody => count(&mut self.in_body),
-            Event::AppendOpen if is_synced => count(&mut self.after_gate),
-            Event::AppendOpen if is_open => count(&mut self.gate_left_open),
-            Event::AppendOpen => count(&mut self.gate_left_closed),
-            Event::RotateWrite => count(&mut self.in_rotate),
-            Event::CheckpointData | Event::CheckpointDelta => count(&mut self.in_checkpoint),
-            Event::MergeData | Event::MergeDelta => count(&mut self.in_merge),
-            Event::InstallClose | Event::InstallBody => count(&mut self.in_install),
-            Event::InstallOpen if is_open => count(&mut self.slot_left_open),
-            Event::InstallOpen => count(&mut self.slot_left_closed),
-            Event::Reclaim => count(&mut self.in_reclaim),
+            Event::Store(StoreCall::Step(step)) => self.note_step(*step, is_open),
+            Event::Store(call) => self.note_call(*call, is_synced, is_open),
             _ => count(&mut self.strange),
+        }
+    }
+
+    fn note_call(&mut self, call: StoreCall, is_synced: bool, is_open: bool) {
+        match call {
+            StoreCall::AppendBody if is_synced => count(&mut self.after_body),
+            StoreCall::AppendBody => count(&mut self.in_body),
+            StoreCall::AppendOpen if is_synced => count(&mut self.after_gate),
+            StoreCall::AppendOpen if is_open => count(&mut self.gate_left_open),
+            StoreCall::AppendOpen => count(&mut self.gate_left_closed),
+            StoreCall::RotateWrite => count(&mut self.in_rotate),
+            StoreCall::Reclaim => count(&mut self.in_reclaim),
+            _ => count(&mut self.strange),
+        }
+    }
+
+    fn note_step(&mut self, step: Due, is_open: bool) {
+        match step {
+            Due::Data | Due::Delta => count(&mut self.in_checkpoint),
+            Due::MergeData | Due::MergeDelta => count(&mut self.in_merge),
+            Due::Install(InstallStep::Open) if is_open => count(&mut self.slot_left_open),
+            Due::Install(InstallStep::Open) => count(&mut self.slot_left_closed),
+            Due::Install(_) => count(&mut self.in_install),
         }
     }
 }
@@ -125,7 +139,7 @@ impl Met {
 /// The mark that is due after a stop within an event, by what it left of the gate.
 fn mark_within(known: &Known, event: &Event, is_open: bool) -> Stamp {
     match (event, known.taken) {
-        (Event::AppendOpen, Some(mark)) if is_open => mark,
+        (Event::Store(StoreCall::AppendOpen), Some(mark)) if is_open => mark,
         _ => known.durable,
     }
 }

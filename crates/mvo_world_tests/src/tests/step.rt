@@ -1,12 +1,13 @@
 //! A step of a test.
 
 use super::KEY;
-use mvo_types::{Row, Stamp, TxId};
+use mvo_store::StoreCall;
+use mvo_types::{Op, Row, Stamp, TxId};
 use mvo_world::Event;
 use std::alloc::{AllocError, Global};
 
 /// A step of a world. A number is the id of a transaction, but for a poll, which asks for a
-/// timestamp, a trim, which goes up to one, and a merge. All rows have one key.
+/// timestamp, and a trim, which goes up to one. All rows have one key.
 #[derive(Clone, Copy)]
 pub enum Step {
     Begin,
@@ -29,21 +30,8 @@ pub enum Step {
     Trim(u64),
     CloseGroup,
     TakeGroup,
-    AppendBody,
-    AppendOpen,
     Poll(u64),
-    RotateWrite,
-    CheckpointRead,
-    CheckpointData,
-    CheckpointDelta,
-    /// Of the pair at this place and the one behind it.
-    MergeRead(usize),
-    MergeData,
-    MergeDelta,
-    InstallClose,
-    InstallBody,
-    InstallOpen,
-    Reclaim,
+    Store(StoreCall),
 }
 
 /// The row with this sort and this byte.
@@ -52,13 +40,21 @@ pub fn row_with(alloc: Global, sort: u64, byte: u8) -> Result<Row, AllocError> {
     Row::new(KEY, sort, bytes)
 }
 
+fn insert(tx: u64, row: Row) -> Event {
+    Event::Do(TxId(tx), Op::Insert(row))
+}
+
+fn update(tx: u64, row: Row) -> Event {
+    Event::Do(TxId(tx), Op::Update(row))
+}
+
 impl Step {
     /// The event.
     pub fn event(self, alloc: Global) -> Result<Event, AllocError> {
         match self {
-            Step::Insert(tx) => Ok(Event::Insert(TxId(tx), row_with(alloc, 50, 0x61)?)),
-            Step::Update(tx) => Ok(Event::Update(TxId(tx), row_with(alloc, 60, 0x62)?)),
-            Step::Replace(tx) => Ok(Event::Update(TxId(tx), row_with(alloc, 50, 0x62)?)),
+            Step::Insert(tx) => Ok(insert(tx, row_with(alloc, 50, 0x61)?)),
+            Step::Update(tx) => Ok(update(tx, row_with(alloc, 60, 0x62)?)),
+            Step::Replace(tx) => Ok(update(tx, row_with(alloc, 50, 0x62)?)),
             step => Ok(step.without_row()),
         }
     }
@@ -66,9 +62,9 @@ impl Step {
     /// The event of a step without a row.
     fn without_row(self) -> Event {
         match self {
-            Step::Read(tx) => Event::Read(TxId(tx), KEY),
-            Step::Scan(tx) => Event::Scan(TxId(tx), 0, 0, 100),
-            Step::Delete(tx) => Event::Delete(TxId(tx), KEY),
+            Step::Read(tx) => Event::Do(TxId(tx), Op::Read(KEY)),
+            Step::Scan(tx) => Event::Do(TxId(tx), Op::Scan(0, 0, 100)),
+            Step::Delete(tx) => Event::Do(TxId(tx), Op::Delete(KEY)),
             Step::Precommit(tx) => Event::Precommit(TxId(tx)),
             Step::Validate(tx) => Event::Validate(TxId(tx)),
             Step::Settle(tx) => Event::Settle(TxId(tx)),
@@ -76,29 +72,10 @@ impl Step {
             Step::Finish(tx) => Event::Finish(TxId(tx)),
             Step::Trim(stamp) => Event::Trim(Stamp(stamp)),
             Step::Poll(stamp) => Event::Poll(Stamp(stamp)),
-            Step::MergeRead(place) => Event::MergeRead(place),
-            step => step.of_store(),
-        }
-    }
-
-    /// The event of a step without a number, which is a begin, a collection or a step of the store.
-    fn of_store(self) -> Event {
-        match self {
+            Step::Store(call) => Event::Store(call),
             Step::Collect => Event::Collect,
             Step::CloseGroup => Event::CloseGroup,
             Step::TakeGroup => Event::TakeGroup,
-            Step::AppendBody => Event::AppendBody,
-            Step::AppendOpen => Event::AppendOpen,
-            Step::RotateWrite => Event::RotateWrite,
-            Step::CheckpointRead => Event::CheckpointRead,
-            Step::CheckpointData => Event::CheckpointData,
-            Step::CheckpointDelta => Event::CheckpointDelta,
-            Step::MergeData => Event::MergeData,
-            Step::MergeDelta => Event::MergeDelta,
-            Step::InstallClose => Event::InstallClose,
-            Step::InstallBody => Event::InstallBody,
-            Step::InstallOpen => Event::InstallOpen,
-            Step::Reclaim => Event::Reclaim,
             _ => Event::Begin,
         }
     }

@@ -1,10 +1,15 @@
 //! The steps of the tests, each with what is answered to it.
 
 use super::step::Step::{
-    self, AppendBody, AppendOpen, Begin, CheckpointData, CheckpointDelta, CheckpointRead,
-    CloseGroup, Collect, Delete, Finish, Insert, InstallBody, InstallClose, InstallOpen, MergeData,
-    MergeDelta, MergeRead, Poll, Precommit, Read, Reclaim, Replace, Rollback, RotateWrite, Scan,
-    Settle, TakeGroup, Trim, Update, Validate,
+    self, Begin, CloseGroup, Collect, Delete, Finish, Insert, Poll, Precommit, Read, Replace,
+    Rollback, Scan, Settle, Store, TakeGroup, Trim, Update, Validate,
+};
+use super::store_calls::{
+    CHECKPOINT_DATA, CHECKPOINT_DELTA, INSTALL_BODY, INSTALL_CLOSE, INSTALL_OPEN, MERGE_DATA,
+    MERGE_DELTA,
+};
+use mvo_store::StoreCall::{
+    AppendBody, AppendOpen, CheckpointRead, MergeRead, Reclaim, RotateWrite,
 };
 
 /// A transaction that begins at 1 and puts the row at 2, up to the body of its group.
@@ -21,11 +26,11 @@ pub const ONE_PUT: [(Step, &str); 10] = [
         "Closed(Closed { prev: Stamp(0), mark: Stamp(2) })",
     ),
     (TakeGroup, "Taken"),
-    (AppendBody, "Written"),
+    (Store(AppendBody), "Written"),
 ];
 
 pub const OPENING_OF_THE_GATE: [(Step, &str); 2] = [
-    (AppendOpen, "Durable(Stamp(2))"),
+    (Store(AppendOpen), "Durable(Stamp(2))"),
     (Poll(2), "Polled(true)"),
 ];
 
@@ -40,59 +45,59 @@ pub const DURABLE_PUT: [(Step, &str); 10] = [
         "Closed(Closed { prev: Stamp(0), mark: Stamp(2) })",
     ),
     (TakeGroup, "Taken"),
-    (AppendBody, "Written"),
-    (AppendOpen, "Durable(Stamp(2))"),
+    (Store(AppendBody), "Written"),
+    (Store(AppendOpen), "Durable(Stamp(2))"),
     (Poll(2), "Polled(true)"),
 ];
 
 pub const ROTATION_OUT_OF_TURN: [(Step, &str); 11] = [
-    (RotateWrite, "Refused(NothingToDo)"),
-    (AppendOpen, "Durable(Stamp(2))"),
-    (RotateWrite, "Ready"),
-    (RotateWrite, "Refused(Busy)"),
-    (InstallBody, "Refused(NothingToDo)"),
-    (InstallClose, "Shut"),
-    (InstallBody, "Written"),
-    (InstallOpen, "Installed(Generation(1))"),
-    (RotateWrite, "Refused(NothingToDo)"),
-    (Reclaim, "Reclaimed(Done)"),
+    (Store(RotateWrite), "Refused(NothingToDo)"),
+    (Store(AppendOpen), "Durable(Stamp(2))"),
+    (Store(RotateWrite), "Ready"),
+    (Store(RotateWrite), "Refused(Busy)"),
+    (Store(INSTALL_BODY), "Refused(NothingToDo)"),
+    (Store(INSTALL_CLOSE), "Shut"),
+    (Store(INSTALL_BODY), "Written"),
+    (Store(INSTALL_OPEN), "Installed(Generation(1))"),
+    (Store(RotateWrite), "Refused(NothingToDo)"),
+    (Store(Reclaim), "Reclaimed(Done)"),
     (Poll(2), "Polled(true)"),
 ];
 
 /// A rotation.
 pub const ROTATION: [(Step, &str); 4] = [
-    (RotateWrite, "Ready"),
-    (InstallClose, "Shut"),
-    (InstallBody, "Written"),
-    (InstallOpen, "Installed(Generation(1))"),
+    (Store(RotateWrite), "Ready"),
+    (Store(INSTALL_CLOSE), "Shut"),
+    (Store(INSTALL_BODY), "Written"),
+    (Store(INSTALL_OPEN), "Installed(Generation(1))"),
 ];
 
 /// A checkpoint, with some steps out of turn.
 pub const CHECKPOINT: [(Step, &str); 14] = [
-    (CheckpointData, "Refused(NothingToDo)"),
-    (CheckpointRead, "Progress(More)"),
-    (CheckpointRead, "Refused(Busy)"),
-    (RotateWrite, "Refused(Busy)"),
-    (CheckpointDelta, "Refused(NothingToDo)"),
-    (CheckpointData, "Progress(More)"),
-    (CheckpointData, "Refused(NothingToDo)"),
-    (InstallClose, "Refused(NothingToDo)"),
-    (CheckpointDelta, "Progress(Ready)"),
-    (CheckpointDelta, "Refused(NothingToDo)"),
-    (InstallClose, "Shut"),
-    (InstallBody, "Written"),
-    (InstallOpen, "Installed(Generation(2))"),
-    (CheckpointRead, "Refused(NothingToDo)"),
+    (Store(CHECKPOINT_DATA), "Refused(NothingToDo)"),
+    (Store(CheckpointRead), "Progress(More)"),
+    (Store(CheckpointRead), "Refused(Busy)"),
+    (Store(RotateWrite), "Refused(Busy)"),
+    (Store(CHECKPOINT_DELTA), "Refused(NothingToDo)"),
+    (Store(CHECKPOINT_DATA), "Progress(More)"),
+    (Store(CHECKPOINT_DATA), "Refused(NothingToDo)"),
+    (Store(INSTALL_CLOSE), "Refused(NothingToDo)"),
+    (Store(CHECKPOINT_DELTA), "Progress(Ready)"),
+    (Store(CHECKPOINT_DELTA), "Refused(NothingToDo)"),
+    (Store(INSTALL_CLOSE), "Shut"),
+    (Store(INSTALL_BODY), "Written"),
+    (Store(INSTALL_OPEN), "Installed(Generation(2))"),
+    (Store(CheckpointRead), "Refused(NothingToDo)"),
 ];
 
 pub const READ_TOO_EARLY: [(Step, &str); 2] = [
-    (AppendOpen, "Durable(Stamp(2))"),
-    (CheckpointRead, "Refused(NothingToDo)"),
+    (Store(AppendOpen), "Durable(Stamp(2))"),
+    (Store(CheckpointRead), "Refused(NothingToDo)"),
 ];
 
 pub const RECLAIMS: [(Step, &str); 3] = [
-    (Reclaim, "Reclaimed(More)"),
-    (Reclaim, "Reclaimed(Done)"),
+    (Store(Reclaim), "Reclaimed(More)"),
+    (Store(Reclaim), "Reclaimed(Done)"),
     (Poll(2), "Polled(true)"),
 ];
 
@@ -110,8 +115,8 @@ pub const REPLACE: [(Step, &str); 11] = [
         "Closed(Closed { prev: Stamp(2), mark: Stamp(4) })",
     ),
     (TakeGroup, "Taken"),
-    (AppendBody, "Written"),
-    (AppendOpen, "Durable(Stamp(4))"),
+    (Store(AppendBody), "Written"),
+    (Store(AppendOpen), "Durable(Stamp(4))"),
 ];
 
 /// The tale is trimmed up to the replacement, and then the version that was replaced is garbage.
@@ -148,58 +153,58 @@ pub const DELETED_OF_ONE_THAT_FELL: [(Step, &str); 14] = [
 /// The segment with the row that was replaced becomes a second pair, and the row's record of the
 /// first is ended.
 pub const SECOND_PAIR: [(Step, &str); 13] = [
-    (MergeRead(0), "Refused(NothingToDo)"),
-    (RotateWrite, "Ready"),
-    (MergeRead(0), "Refused(Busy)"),
-    (InstallClose, "Shut"),
-    (InstallBody, "Written"),
-    (InstallOpen, "Installed(Generation(3))"),
-    (CheckpointRead, "Progress(More)"),
-    (CheckpointData, "Progress(More)"),
-    (CheckpointDelta, "Progress(More)"),
-    (CheckpointDelta, "Progress(Ready)"),
-    (InstallClose, "Shut"),
-    (InstallBody, "Written"),
-    (InstallOpen, "Installed(Generation(4))"),
+    (Store(MergeRead(0)), "Refused(NothingToDo)"),
+    (Store(RotateWrite), "Ready"),
+    (Store(MergeRead(0)), "Refused(Busy)"),
+    (Store(INSTALL_CLOSE), "Shut"),
+    (Store(INSTALL_BODY), "Written"),
+    (Store(INSTALL_OPEN), "Installed(Generation(3))"),
+    (Store(CheckpointRead), "Progress(More)"),
+    (Store(CHECKPOINT_DATA), "Progress(More)"),
+    (Store(CHECKPOINT_DELTA), "Progress(More)"),
+    (Store(CHECKPOINT_DELTA), "Progress(Ready)"),
+    (Store(INSTALL_CLOSE), "Shut"),
+    (Store(INSTALL_BODY), "Written"),
+    (Store(INSTALL_OPEN), "Installed(Generation(4))"),
 ];
 
 /// A merge of the two pairs, with some steps out of turn.
 pub const MERGE: [(Step, &str); 14] = [
-    (MergeRead(1), "Refused(NothingToDo)"),
-    (MergeData, "Refused(NothingToDo)"),
-    (MergeRead(0), "Progress(More)"),
-    (MergeRead(0), "Refused(Busy)"),
-    (CheckpointData, "Refused(NothingToDo)"),
-    (MergeDelta, "Refused(NothingToDo)"),
-    (MergeData, "Progress(More)"),
-    (InstallClose, "Refused(NothingToDo)"),
-    (MergeDelta, "Progress(Ready)"),
-    (MergeDelta, "Refused(NothingToDo)"),
-    (InstallClose, "Shut"),
-    (InstallBody, "Written"),
-    (InstallOpen, "Installed(Generation(5))"),
-    (MergeRead(0), "Refused(NothingToDo)"),
+    (Store(MergeRead(1)), "Refused(NothingToDo)"),
+    (Store(MERGE_DATA), "Refused(NothingToDo)"),
+    (Store(MergeRead(0)), "Progress(More)"),
+    (Store(MergeRead(0)), "Refused(Busy)"),
+    (Store(CHECKPOINT_DATA), "Refused(NothingToDo)"),
+    (Store(MERGE_DELTA), "Refused(NothingToDo)"),
+    (Store(MERGE_DATA), "Progress(More)"),
+    (Store(INSTALL_CLOSE), "Refused(NothingToDo)"),
+    (Store(MERGE_DELTA), "Progress(Ready)"),
+    (Store(MERGE_DELTA), "Refused(NothingToDo)"),
+    (Store(INSTALL_CLOSE), "Shut"),
+    (Store(INSTALL_BODY), "Written"),
+    (Store(INSTALL_OPEN), "Installed(Generation(5))"),
+    (Store(MergeRead(0)), "Refused(NothingToDo)"),
 ];
 
 pub const RECLAIMS_OF_PAIRS: [(Step, &str); 5] = [
-    (Reclaim, "Reclaimed(More)"),
-    (Reclaim, "Reclaimed(More)"),
-    (Reclaim, "Reclaimed(More)"),
-    (Reclaim, "Reclaimed(More)"),
-    (Reclaim, "Reclaimed(Done)"),
+    (Store(Reclaim), "Reclaimed(More)"),
+    (Store(Reclaim), "Reclaimed(More)"),
+    (Store(Reclaim), "Reclaimed(More)"),
+    (Store(Reclaim), "Reclaimed(More)"),
+    (Store(Reclaim), "Reclaimed(Done)"),
 ];
 
 pub const ROTATION_BUT_ITS_GATE: [(Step, &str); 4] = [
-    (AppendOpen, "Durable(Stamp(2))"),
-    (RotateWrite, "Ready"),
-    (InstallClose, "Shut"),
-    (InstallBody, "Written"),
+    (Store(AppendOpen), "Durable(Stamp(2))"),
+    (Store(RotateWrite), "Ready"),
+    (Store(INSTALL_CLOSE), "Shut"),
+    (Store(INSTALL_BODY), "Written"),
 ];
 
 pub const RECLAIMS_OF_A_ROTATION: [(Step, &str); 4] = [
-    (InstallOpen, "Refused(NothingToDo)"),
-    (Reclaim, "Reclaimed(More)"),
-    (Reclaim, "Reclaimed(Done)"),
+    (Store(INSTALL_OPEN), "Refused(NothingToDo)"),
+    (Store(Reclaim), "Reclaimed(More)"),
+    (Store(Reclaim), "Reclaimed(Done)"),
     (Poll(2), "Polled(true)"),
 ];
 
@@ -215,8 +220,8 @@ pub const COMMIT_OF_NOTHING: [(Step, &str); 12] = [
         "Closed(Closed { prev: Stamp(0), mark: Stamp(2) })",
     ),
     (TakeGroup, "Taken"),
-    (AppendBody, "Written"),
-    (AppendOpen, "Durable(Stamp(2))"),
+    (Store(AppendBody), "Written"),
+    (Store(AppendOpen), "Durable(Stamp(2))"),
     (Poll(2), "Polled(true)"),
     (Poll(3), "Polled(false)"),
 ];
@@ -260,8 +265,8 @@ pub const SETTLES: [(Step, &str); 6] = [
 pub const OUT_OF_TURN: [(Step, &str); 15] = [
     (CloseGroup, "Refused(NothingToDo)"),
     (TakeGroup, "Refused(NothingToDo)"),
-    (AppendBody, "Refused(NothingToDo)"),
-    (AppendOpen, "Refused(NothingToDo)"),
+    (Store(AppendBody), "Refused(NothingToDo)"),
+    (Store(AppendOpen), "Refused(NothingToDo)"),
     (Begin, "Began(TxId(1))"),
     (
         CloseGroup,
@@ -284,11 +289,11 @@ pub const OUT_OF_TURN: [(Step, &str); 15] = [
 /// Behind that, the store takes both groups, in their order. Another one is Preparing with 5, and
 /// the one with 3 is rolled back.
 pub const GROUPS_IN_TURN: [(Step, &str); 13] = [
-    (AppendBody, "Written"),
-    (AppendOpen, "Durable(Stamp(1))"),
+    (Store(AppendBody), "Written"),
+    (Store(AppendOpen), "Durable(Stamp(1))"),
     (TakeGroup, "Taken"),
-    (AppendBody, "Written"),
-    (AppendOpen, "Durable(Stamp(2))"),
+    (Store(AppendBody), "Written"),
+    (Store(AppendOpen), "Durable(Stamp(2))"),
     (TakeGroup, "Refused(NothingToDo)"),
     (Precommit(1), "Prepared(Stamp(5))"),
     (CloseGroup, "Refused(NothingToDo)"),

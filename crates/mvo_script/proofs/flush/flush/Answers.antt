@@ -2,9 +2,10 @@ use Rattle.std.proofs.Common.{◌≡◌, arith, suc, refl, sym, Bool, true, fals
 use Rattle.mvo_types.specs.declared.refusal.Refusal.{Refusal}
 use Rattle.mvo_types.specs.declared.refusal.Refusal.TheVariants.{NothingToDo}
 use Rattle.mvo_store.specs.Flushing.{IsTurn}
-use Rattle.mvo_world.specs.Logging.{IsLogStep}
+use Rattle.mvo_world.specs.Logging.{IsCallBy, IsTakingBy}
+use Rattle.mvo_world.specs.Replies.{IsReplyTo}
 use Rattle.mvo_script.specs.Flushing.IsFlush.{AtTurn, AtEnd}
-use Rattle.mvo_script.proofs.Turns.{close_goes}
+use Rattle.mvo_script.proofs.Turns.{close_goes, turn_count}
 use Rattle.mvo_script.proofs.flush.flush.Goals as goal
 use Rattle.mvo_script.proofs.flush.flush.Goals.{in-Closed-1, in-Refused+in-NothingToDo-1}
 
@@ -24,7 +25,7 @@ loop-world-init g c = record {
 pub loop-world-preserved : goal.loop-world-preserved
 loop-world-preserved g c =
     let is : c.turn.result ≡ Ok true = grind arith in
-    let turned = subst (λ (r : Result Bool Refusal). IsTurn (IsLogStep g.D.Disk) c.loop-world.world r c.turn.new.log) is c.turn.ensures in
+    let turned = subst (λ (r : Result Bool Refusal). IsTurn (IsTakingBy (IsReplyTo g.D.Disk)) (IsCallBy (IsReplyTo g.D.Disk)) c.loop-world.world r c.turn.new.log) is c.turn.ensures in
     record {
       reply = c.loop-world.invariant.reply;
       then_on = c.loop-world.invariant.then_on;
@@ -34,13 +35,19 @@ loop-world-preserved g c =
       turns = (c.loop-world.world, c.loop-world.invariant.turns, turned);
     }
 
+pub loop-world-smaller : goal.loop-world-smaller
+loop-world-smaller g c =
+    let is : c.turn.result ≡ Ok true = grind arith in
+    let turned = subst (λ (r : Result Bool Refusal). IsTurn (IsTakingBy (IsReplyTo g.D.Disk)) (IsCallBy (IsReplyTo g.D.Disk)) c.loop-world.world r c.turn.new.log) is c.turn.ensures in
+    turn_count g.D.Disk c.loop-world.world c.turn.new.log turned
+
 pub returns-in-Ok-false-clause-steps : goal.returns-in-Ok-false-clause-steps
 returns-in-Ok-false-clause-steps g c =
     let is : c.turn.result ≡ Ok false = grind arith in
-    let turned = subst (λ (r : Result Bool Refusal). IsTurn (IsLogStep g.D.Disk) c.loop-world.world r c.turn.new.log) is c.turn.ensures in
+    let turned = subst (λ (r : Result Bool Refusal). IsTurn (IsTakingBy (IsReplyTo g.D.Disk)) (IsCallBy (IsReplyTo g.D.Disk)) c.loop-world.world r c.turn.new.log) is c.turn.ensures in
     AtEnd c.loop-world.world c.mark.result refl (sym c.mark.ensures.value) c.loop-world.invariant turned
 
 pub returns-in-Err-clause-steps : goal.returns-in-Err-clause-steps
 returns-in-Err-clause-steps g c =
-    let turned = subst (λ (r : Result Bool Refusal). IsTurn (IsLogStep g.D.Disk) c.loop-world.world r c.turn.new.log) c.in-Err.is c.turn.ensures in
+    let turned = subst (λ (r : Result Bool Refusal). IsTurn (IsTakingBy (IsReplyTo g.D.Disk)) (IsCallBy (IsReplyTo g.D.Disk)) c.loop-world.world r c.turn.new.log) c.in-Err.is c.turn.ensures in
     AtTurn c.loop-world.world c.in-Err.refusal refl c.loop-world.invariant turned

@@ -2,10 +2,9 @@ use Rattle.std.proofs.Common.{◌≡◌, None, sym, ap, ◌∙◌, refl, arith}
 use Rattle.mvo_store.specs.Seen.{mark_of, pending_of}
 use Rattle.mvo_store.specs.StoreData.{StoreData}
 use Rattle.mvo_store.specs.Causes.{why_not_take}
-use Rattle.mvo_store.proofs.Taken.{is_taken}
 use Rattle.mvo_world.proofs.Moves.{nothing_taken}
 use Rattle.mvo_engine.proofs.Rings.{same_from}
-use Rattle.mvo_engine.proofs.StoreSound.{on_ok, taken_in, next_follows}
+use Rattle.mvo_engine.proofs.StoreSound.{taken_in, next_follows}
 use Rattle.mvo_engine.proofs.locked_store.LockedStore.take.Goals as goal
 
 pub invariant_of-self-2 : goal.invariant_of-self-2
@@ -13,11 +12,11 @@ invariant_of-self-2 g c =
     let i = c.self.invariant in
     let f = c.self.inside in
     let s = f.store in
-    let t = c.take_group.new.self in
+    let t = c.accept_group.new.self in
     let x = c.in-Ok.group in
     let why : why_not_take s ≡ None = sym c.can_take.ensures ∙ c.in_default.is in
     let none = nothing_taken s why in
-    let step = is_taken g.D.Disk s x c.take_group.result t why c.take_group.ensures.step in
+    let step = c.accept_group.ensures in
     let made = step.comes.made.makes in
     let mark = ap (λ (y : StoreData _). mark_of y) made in
     let p = i.2 in
@@ -28,19 +27,25 @@ invariant_of-self-2 g c =
       same_from f.ring c.pop.new.self c.in-Ok.ensures.ring ∙ i.3,
     )
 
+pub accept_group-requires-clause-follows : goal.accept_group-requires-clause-follows
+accept_group-requires-clause-follows g c =
+    let i = c.self.invariant in
+    let s = c.self.inside.store in
+    let why : why_not_take s ≡ None = sym c.can_take.ensures ∙ c.in_default.is in
+    next_follows g.D.Disk i.0 (nothing_taken s why) c.in-Ok.group c.in-Ok.ensures.ok.2
+
 pub returns-clause-taken : goal.returns-clause-taken
 returns-clause-taken g c =
     let i = c.self.invariant in
     let s = c.self.inside.store in
-    let t = c.take_group.new.self in
     let x = c.in-Ok.group in
     let why : why_not_take s ≡ None = sym c.can_take.ensures ∙ c.in_default.is in
     let none = nothing_taken s why in
     let got = c.in-Ok.ensures.ok in
-    on_ok c.match-take_group.result _ (rw (← c.self.view_is) (record {
+    rw (← c.self.view_is) (record {
       group = x;
       prev = next_follows g.D.Disk i.0 none x got.2;
       received = got.0;
-      step = is_taken g.D.Disk s x c.take_group.result t why c.take_group.ensures.step;
+      step = c.accept_group.ensures;
       published = refl;
-    }))
+    })

@@ -3,8 +3,8 @@ use Rattle.mvo_core.specs.declared.answers.Finishing.TheVariants.{More}
 use Rattle.mvo_world.specs.declared.event.Event.TheVariants.{Finish}
 use Rattle.mvo_world.specs.declared.reply.Reply.TheVariants.{Finished}
 use Rattle.mvo_world.specs.Replies.{IsReplyTo}
-use Rattle.mvo_script.specs.Answers.{AreMore}
+use Rattle.mvo_script.specs.Answers.{AreMoreSteps}
 use Rattle.mvo_script.proofs.driver.Driver.finish.Given as goal
 
 abbrev pub invariant-loop : goal.invariant-loop
-invariant-loop g l = (n : ℕ) × AreMore (IsReplyTo g.D.Disk) (Finished More) n (Finish l.tx) l.initial.self l.self
+invariant-loop g l = (n : ℕ) × AreMoreSteps (IsReplyTo g.D.Disk) (Finished More) n (Finish l.tx) l.initial.self l.self

@@ -1,31 +1,7 @@
-use Rattle.std.proofs.Common.{◌∙◌, rules, refl, sym}
-use Rattle.mvo_store.specs.View.{store_data}
-use Rattle.mvo_store.specs.Calls.StoreCall.{Take}
-use Rattle.mvo_store.proofs.Logged.{taken_up, taken_safe}
-use Rattle.mvo_store.proofs.Keeping.{still_leaves, free_to_take, Begins, begins, refused_step, done_step}
-use Rattle.mvo_store.proofs.store.Store.take_group.Given as given
+use Rattle.std.proofs.Common.{◌∙◌, sym}
+use Rattle.mvo_store.specs.Calls.StoreStep.{Take}
+use Rattle.mvo_store.proofs.Keeping.{refused_step}
 use Rattle.mvo_store.proofs.store.Store.take_group.Goals as goal
-use Rattle.mvo_store.proofs.store.Store.take_group.Goals.{After-mark}
-
-begun : (g : given.Over) (c : goal.After-mark g) → Begins g.D.Disk (store_data c.self.inside) (Take c.args.group)
-begun g c = begins g.D.Disk (store_data c.self.inside) _ (Take c.args.group) c.self.view_is (sym c.can_take.ensures ∙ c.in_default.is) c.self.invariant
-
-pub invariant_of-self : goal.invariant_of-self
-invariant_of-self g c =
-    let b = begun g (goal.at.invariant_of-self g c).After-mark in
-    let follows = rw (← c.self.view_is) at (c.requires.follows (sym c.can_take.ensures ∙ c.in_default.is)) in
-    let none = free_to_take (store_data c.self.inside) b.none in
-    λ _. record {
-      safe = taken_safe b.sound.safe c.args.group none;
-      up = λ honest. let now = b.sound.up honest in (now.0, taken_up g.D.Disk (store_data c.self.inside) now.0 now.1 c.args.group none follows c.mark.ensures.group);
-    }
 
 pub returns-in-Some-clause-step : goal.returns-in-Some-clause-step
-returns-in-Some-clause-step g c = rw (← c.self.view_is) (refused_step g.D.Disk g.met.D.Disk.only_now _ (Take c.args.group) _ (search rules))
-
-pub returns-clause-step : goal.returns-clause-step
-returns-clause-step g c =
-    let b = begun g (goal.at.returns-clause-step g c).After-mark in
-    let follows = rw (← c.self.view_is) at (c.requires.follows (sym c.can_take.ensures ∙ c.in_default.is)) in
-    rw (← c.self.view_is) (done_step b _ (λ h. h) (λ _. still_leaves g.D.Disk g.met.D.Disk.only_now _) (λ _ rows up slots. slots) (record { content = λ n _. refl; images = λ n k _ left. left; keeps = λ n k _ left. left }) _ refl refl
-    (λ _ rows up. taken_up g.D.Disk (store_data c.self.inside) rows up c.args.group (free_to_take (store_data c.self.inside) b.none) follows c.mark.ensures.group))
+returns-in-Some-clause-step g c = refused_step g.D.Disk g.met.D.Disk.only_now _ (Take c.args.group) _ (sym c.can_take.ensures ∙ c.in-Some.is)

@@ -3,7 +3,8 @@ use Rattle.mvo_store.specs.StoreData.{StoreData}
 use Rattle.mvo_store.specs.View.{store_data}
 use Rattle.mvo_store.specs.Causes.{why_not_due}
 use Rattle.mvo_store.specs.Jobs.{with_step}
-use Rattle.mvo_store.specs.Calls.{call_of}
+use Rattle.mvo_store.specs.Calls.StoreStep.{Call}
+use Rattle.mvo_store.specs.declared.call.StoreCall.TheVariants.{Step}
 use Rattle.mvo_store.proofs.Keeping.{refused_step}
 use Rattle.mvo_store.proofs.Dues.{why_of}
 use Rattle.mvo_store.proofs.Made.{IsDueAt, due_at, is_due_here, stands_here, due_sound, due_done, due_refused, due_refused_sound}
@@ -11,13 +12,13 @@ use Rattle.mvo_store.proofs.store.Store.write_due.Given as given
 use Rattle.mvo_store.proofs.store.Store.write_due.Goals as goal
 use Rattle.mvo_store.proofs.store.Store.write_due.Goals.{In_default}
 
-begun : (g : given.Over) (c : goal.In_default g) → IsDueAt g.D.Disk (store_data c.self.inside) (call_of c.args.step) c.args.step
+begun : (g : given.Over) (c : goal.In_default g) → IsDueAt g.D.Disk (store_data c.self.inside) (Call (Step c.args.step)) c.args.step
 begun g c = due_at g.D.Disk (store_data c.self.inside) _ c.args.step (c.requires.file, c.requires.gate) c.self.view_is (sym c.why_not_due.ensures ∙ c.in_default.is) c.self.invariant
 
 pub returns-in-Some : goal.returns-in-Some
 returns-in-Some g c =
     let is = subst (λ (s : StoreData _). why_not_due c.args.step s ≡ Some c.in-Some.refusal) (sym c.self.view_is) (sym c.why_not_due.ensures ∙ c.in-Some.is) in
-    rw (← c.self.view_is) (refused_step g.D.Disk g.met.D.Disk.only_now (store_data c.self.inside) (call_of c.args.step) c.in-Some.refusal (why_of (store_data c.self.inside) c.args.step (c.requires.file, c.requires.gate) ∙ is))
+    rw (← c.self.view_is) (refused_step g.D.Disk g.met.D.Disk.only_now (store_data c.self.inside) (Call (Step c.args.step)) c.in-Some.refusal (why_of (store_data c.self.inside) c.args.step (c.requires.file, c.requires.gate) ∙ is))
 
 pub write_step-requires-clause-room : goal.write_step-requires-clause-room
 write_step-requires-clause-room g c = (begun g (goal.at.write_step-requires-clause-room g c).In_default).begins.sound.safe.room

@@ -2,7 +2,6 @@ use Rattle.std.proofs.Common.{◌≡◌, List, None, refl, ap, ◌∙◌, sym}
 use Rattle.mvo_types.specs.declared.refusal.Refusal.TheVariants.{NothingToDo}
 use Rattle.mvo_group.specs.Data.{GroupData}
 use Rattle.mvo_store.specs.Causes.{why_not_take}
-use Rattle.mvo_store.proofs.Taken.{never_back}
 use Rattle.mvo_world.specs.Ring.{oldest}
 use Rattle.mvo_world.specs.View.{world_data}
 use Rattle.mvo_world.specs.Replies.{IsReplyTo, or_nothing}
@@ -28,8 +27,4 @@ returns-in_default-take g c =
 pub returns : goal.returns
 returns g c =
     let why : why_not_take c.self.inside.store ≡ None = sym c.can_take.ensures ∙ c.in_default.is in
-    let group = c.in-Some-take.group in
-    elim c.match-take_group.branch [
-      | goal.in-Ok w ↦ rw (w.result-is, ← c.self.view_is) (taken g.D.Disk (world_data c.self.inside) group why c.in-Some-take.ensures w.in-Ok.ensures.step)
-      | goal.in-Err w ↦ absurd (never_back (Unit {0}) c.self.inside.store group _ why w.in-Err.ensures.step.comes.refused)
-    ]
+    rw (← c.self.view_is) (taken g.D.Disk (world_data c.self.inside) c.in-Some-take.group why c.in-Some-take.ensures c.accept_group.ensures)

@@ -1,5 +1,0 @@
-use Rattle.mvo_engine.proofs.StoreSound.{stays_quiet}
-use Rattle.mvo_engine.proofs.locked_store.LockedStore.rotate_write.Goals as goal
-
-pub invariant_of-self : goal.invariant_of-self
-invariant_of-self g c = stays_quiet g.D.Disk c.self.invariant c.rotate_write.ensures tt
