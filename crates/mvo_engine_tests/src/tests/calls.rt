@@ -4,11 +4,17 @@ use mvo_store::{Done, Due, InstallStep, Progress, Reclaimed, StoreCall};
 use mvo_types::Refusal;
 
 pub const DATA: StoreCall = StoreCall::Step(Due::Data);
+
 pub const DELTA: StoreCall = StoreCall::Step(Due::Delta);
+
 pub const MERGE_DATA: StoreCall = StoreCall::Step(Due::MergeData);
+
 pub const MERGE_DELTA: StoreCall = StoreCall::Step(Due::MergeDelta);
+
 pub const CLOSE: StoreCall = StoreCall::Step(Due::Install(InstallStep::Close));
+
 pub const BODY: StoreCall = StoreCall::Step(Due::Install(InstallStep::Body));
+
 pub const OPEN: StoreCall = StoreCall::Step(Due::Install(InstallStep::Open));
 
 /// More delta files are left.

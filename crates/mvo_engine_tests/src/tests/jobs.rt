@@ -1,7 +1,8 @@
 //! Rotations, checkpoints and merges of an engine, whole ones and step by step.
 
-use super::calls::{BODY, CLOSE, DATA, DELTA, MERGE_DATA, MERGE_DELTA, OPEN};
-use super::calls::{is_done, is_emptied, is_more, is_ready};
+use super::calls::{
+    BODY, CLOSE, DATA, DELTA, MERGE_DATA, MERGE_DELTA, OPEN, is_done, is_emptied, is_more, is_ready,
+};
 use super::counting::CountingStore;
 use super::formatted;
 use super::rows::{change, found, put};
