@@ -1,5 +1,4 @@
-//! Tests of a store over many files, of the disks and files below it, and of what is found out of a
-//! disk.
+//! Tests of a store over many files.
 #![tactic(auto)]
 
 #[cfg(test)]
@@ -21,13 +20,9 @@ mod failing;
 #[cfg(test)]
 mod faults;
 #[cfg(test)]
-mod files;
-#[cfg(test)]
 mod images;
 #[cfg(test)]
 mod lies;
-#[cfg(test)]
-mod load;
 #[cfg(test)]
 mod lying_disk;
 #[cfg(test)]

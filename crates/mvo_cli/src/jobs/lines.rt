@@ -59,7 +59,7 @@ impl<'e, L: Run, D: Disk, G: Gate + Drop> Lines<'e, L, D, G> {
     }
 
     /// Rolls the present transaction back, if there is one: a session that is let go of inside a
-    /// transaction would hold up the marks of later groups.
+    /// transaction would keep its place, its rows from all others, and trims and collections back.
     pub fn end<R: Wait>(&mut self, rt: &R) {
         let _ = self.session.rollback_tx(rt);
         self.name = None;

@@ -1,5 +1,5 @@
 use Rattle.std.proofs.Common.{length}
-use Rattle.mvo_store_tests.proofs.files.merge.making.+have_own_keys.Given as goal
+use Rattle.mvo_files_tests.proofs.files.merge.making.+have_own_keys.Given as goal
 
 abbrev pub decreases-have_own_keys : goal.decreases-have_own_keys
 decreases-have_own_keys l = length l.records.now

@@ -2,8 +2,8 @@ use Rattle.std.proofs.Common.{◌-◌, List, length, take, drop}
 use Rattle.std.proofs.lemmas.Bool.{OnTrue_at, OnTrue_from}
 use Rattle.mvo_pair.specs.Data.{EntryData}
 use Rattle.mvo_merge.specs.Moved.{HaveOwnKeys}
-use Rattle.mvo_store_tests.proofs.files.merge.Own.{IsNewIn, own_none, own_more}
-use Rattle.mvo_store_tests.proofs.files.merge.making.+have_own_keys.Goals as goal
+use Rattle.mvo_files_tests.proofs.files.merge.Own.{IsNewIn, own_none, own_more}
+use Rattle.mvo_files_tests.proofs.files.merge.making.+have_own_keys.Goals as goal
 
 pub returns-in-empty : goal.returns-in-empty
 returns-in-empty t c = own_none c.args.records.now c.in-empty.len_below
