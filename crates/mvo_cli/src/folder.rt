@@ -42,13 +42,27 @@ pub fn open_disk<R: AllocGlobal + Eprint + Files<File = File> + Clone + Drop>(
     }
 }
 
-/// Makes a new store in a folder, which is made where it isn't there.
+/// Makes a folder where nothing is at the path. Its name is durable then, also where it was there
+/// already: who made it may not have synced what holds it.
+fn make_durably<R: Files<File = File>>(
+    rt: &R,
+    alloc: Global,
+    folder: &str,
+) -> Result<(), FolderRefusal> {
+    make_folder(rt, alloc, folder)?;
+    let parent = format!(in alloc; "{folder}/..")?;
+    File::open(rt, parent.as_str())?.sync_all()?;
+    Ok(())
+}
+
+/// Makes a new store in a folder, which is made where it isn't there. The folder's own name is
+/// durable before the store is.
 pub fn format_folder<R: AllocGlobal + Eprint + Files<File = File> + Clone + Drop>(
     rt: &R,
     folder: &str,
     is_terminal: bool,
 ) -> Result<(), Fault> {
-    match make_folder(rt, rt.alloc(), folder) {
+    match make_durably(rt, rt.alloc(), folder) {
         Ok(()) => {}
         // What should hold the folder isn't there.
         Err(FolderRefusal::Missing) => return Err(Fault::Refused(Refusal::DiskFault)),
