@@ -1,13 +1,14 @@
 -- Each number is answered as often as there are jobs with it, where each place was taken once.
 use Rattle.std.proofs.Common.{◌≡◌, ℕ, zero, suc, ◌+◌, ◌*◌, ◌<◌, ◌≤◌, List, [], ◌∷◌, length, Bool, cond, ◌==◌, refl, sym, ap, ◌∙◌, arith}
-use Rattle.std.specs.Prelude.{slice_get, Some, Option, None, count_by}
+use Rattle.std.specs.Prelude.{slice_get, Some, Option, None, count_by, map}
 use Rattle.std.proofs.lemmas.List.{length-drop}
 use Rattle.std.proofs.lemmas.List.Sums.{sum_by-cons}
 use Rattle.std.proofs.lemmas.Bool.Decides.{nat_tests}
 use Rattle.std.proofs.Math.Dec.{eqb-suc-suc, eqb-suc-zero, eqb-zero-suc}
 use Rattle.mvo_front.specs.Job.{JobData}
 use Rattle.mvo_front.specs.declared.outcome.Outcome.{Outcome}
-use Rattle.mvo_front.specs.Outcomes.{AreAnswered, AreOutcomes, outcome_numbers, numbers_taken}
+use Rattle.mvo_front.specs.Outcomes.{AreAnswered, AreRun}
+use Rattle.mvo_front.proofs.Ran.{numbers_of}
 use Rattle.mvo_front.specs.Queue.{Took, is_one, times_taken, once_below, AllBelow, AreAt, IsServed}
 
 -- ---- sums over places
@@ -110,6 +111,12 @@ below : (put : List JobData) (ts : List Took) → AreAt put ts → AllBelow (len
 below put [] h = tt
 below put (t ∷ ts) h = (within put t.0 t.1 h.0, below put ts h.1)
 
+abbrev outcome_numbers : List Outcome → List ℕ
+outcome_numbers = map (λ o. o.number)
+
+abbrev numbers_taken : List Took → List ℕ
+numbers_taken = map (λ t. t.1.number)
+
 counted_by_number : (n : ℕ) (os : List Outcome) → count_by (λ o. o.number == n) os ≡ count_by (λ k. k == n) (outcome_numbers os)
 counted_by_number n [] = refl
 counted_by_number n (o ∷ os) =
@@ -124,8 +131,8 @@ counted_by_job n (t ∷ ts) =
     ∙ (ap (λ (k : ℕ). bit (t.1.number == n) + k) (counted_by_job n ts)
     ∙ sym (count_next (λ (k : ℕ). k == n) t.1.number (numbers_taken ts)))
 
-pub all_answered : (put : List JobData) (ts : List Took) (os : List Outcome) → IsServed put ts [] → AreOutcomes os ts → AreAnswered put os
-all_answered put ts os served same n =
+all_counted : (put : List JobData) (ts : List Took) (os : List Outcome) → IsServed put ts [] → outcome_numbers os ≡ numbers_taken ts → AreAnswered put os
+all_counted put ts os served same n =
     let p : JobData → Bool = λ j. j.number == n in
     let all : length put ≤ served.count =
     let e = ap (λ (xs : List JobData). length xs) served.left_is ∙ length-drop served.count put in omega (arith, e) in
@@ -136,3 +143,7 @@ all_answered put ts os served same n =
     ∙ (ap (count_by (λ k. k == n)) same
     ∙ (sym (counted_by_job n ts)
     ∙ (counted_taken p put ts served.are_at ∙ (sym places ∙ (ones ∙ counted_put p put)))))
+
+-- jobs that were run are answered by their numbers
+pub all_answered : (R : JobData → Outcome → Type 0) (jobs : List JobData) (os : List Outcome) → AreRun R jobs os → AreAnswered jobs os
+all_answered R jobs os run = all_counted jobs run.0 os run.1 (numbers_of R run.0 os run.2)

@@ -1,4 +1,5 @@
 mod Answered
 mod Gathered
 mod Moves
+mod Ran
 mod Waiting

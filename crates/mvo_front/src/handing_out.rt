@@ -28,7 +28,7 @@ pub fn hand_out<L: JobQueue, W: JobWork, R: Wait>(
     requires part { 0 < ticket.parts }
     requires none { (ticket.taken ≡ []) × (vec_len outcomes ≡ 0) }
     ensures pushed { IfOk result (λ x. HasPushed ticket jobs.items x.0) }
-    ensures each { IfOk result (λ x. AreOutcomes x.1.items x.0.taken) }
+    ensures each { IfOk result (λ x. AreOutcomes W.comes_to x.1.items x.0.taken) }
 {
     let mut ticket = ticket;
     let mut outcomes = outcomes;
@@ -50,9 +50,9 @@ fn push_all<L: JobQueue, W: JobWork, R: Wait>(
 ) -> Result<(), AllocError>
     requires pushes { ticket.old.pushes ≡ true }
     requires part { 0 < ticket.old.parts }
-    requires each { AreOutcomes outcomes.old.items ticket.old.taken }
+    requires each { AreOutcomes W.comes_to outcomes.old.items ticket.old.taken }
     ensures pushed { OnOk result (HasPushed ticket.old jobs.items ticket.new) }
-    ensures each { AreOutcomes outcomes.new.items ticket.new.taken }
+    ensures each { AreOutcomes W.comes_to outcomes.new.items ticket.new.taken }
 {
     for job in jobs {
         push_one(rt, work, front, ticket, job, outcomes)?;
@@ -71,9 +71,9 @@ fn push_one<L: JobQueue, W: JobWork, R: Wait>(
 ) -> Result<(), AllocError>
     requires pushes { ticket.old.pushes ≡ true }
     requires part { 0 < ticket.old.parts }
-    requires each { AreOutcomes outcomes.old.items ticket.old.taken }
+    requires each { AreOutcomes W.comes_to outcomes.old.items ticket.old.taken }
     ensures pushed { OnOk result (HasPushed ticket.old (job ∷ []) ticket.new) }
-    ensures each { AreOutcomes outcomes.new.items ticket.new.taken }
+    ensures each { AreOutcomes W.comes_to outcomes.new.items ticket.new.taken }
 {
     let mut waiting = job;
     for _ in rt.forever() {

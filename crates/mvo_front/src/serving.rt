@@ -1,9 +1,10 @@
 //! What one worker does.
-ghost use Rattle.std.specs.Prelude.{◌≡◌, ◌<◌, ◌++◌, ◌∷◌, [], vec_len, vec_capacity};
-ghost use Rattle.mvo_front.specs.Outcomes.{AreOutcomes, outcome_numbers};
-ghost use Rattle.mvo_front.specs.Queue.{IsButForTaken, worker};
+ghost use Rattle.std.specs.Prelude.{◌≡◌, ◌<◌, vec_len, vec_capacity};
+ghost use Rattle.mvo_front.specs.Outcomes.{AreOutcomes, IsRun};
+ghost use Rattle.mvo_front.specs.Queue.{IsButForTaken};
 
 use crate::front::Front;
+use crate::hired::Hired;
 use crate::job::Job;
 use crate::job_queue::JobQueue;
 use crate::job_work::JobWork;
@@ -15,8 +16,7 @@ use std::sync::Wait;
 /// Runs a job that was taken.
 fn run_one<W: JobWork, R: Wait>(rt: &R, work: &W, outcomes: &mut Vec<Outcome>, job: Job)
     requires { vec_len outcomes.old < vec_capacity outcomes.old }
-    ensures { outcome_numbers outcomes.new.items
-        ≡ outcome_numbers outcomes.old.items ++ job.number ∷ [] }
+    ensures { IsRun W.comes_to outcomes.old.items job outcomes.new.items }
 {
     outcomes.push_reserved(work.run(rt, job));
 }
@@ -31,9 +31,9 @@ fn serve_one<L: JobQueue, W: JobWork, R: Wait>(
 ) -> bool
     requires part { 0 < ticket.old.parts }
     requires room { vec_len outcomes.old < vec_capacity outcomes.old }
-    requires each { AreOutcomes outcomes.old.items ticket.old.taken }
+    requires each { AreOutcomes W.comes_to outcomes.old.items ticket.old.taken }
     ensures taken { IsButForTaken ticket.old ticket.new }
-    ensures each { AreOutcomes outcomes.new.items ticket.new.taken }
+    ensures each { AreOutcomes W.comes_to outcomes.new.items ticket.new.taken }
 {
     match front.take(rt, ticket) {
         Some(job) => {
@@ -54,9 +54,9 @@ pub fn serve_waiting<L: JobQueue, W: JobWork, R: Wait>(
 )
     requires part { 0 < ticket.old.parts }
     requires room { vec_len outcomes.old < vec_capacity outcomes.old }
-    requires each { AreOutcomes outcomes.old.items ticket.old.taken }
+    requires each { AreOutcomes W.comes_to outcomes.old.items ticket.old.taken }
     ensures taken { IsButForTaken ticket.old ticket.new }
-    ensures each { AreOutcomes outcomes.new.items ticket.new.taken }
+    ensures each { AreOutcomes W.comes_to outcomes.new.items ticket.new.taken }
 {
     if let Some(job) = front.try_take(rt, ticket) {
         run_one(rt, work, outcomes, job);
@@ -72,9 +72,9 @@ pub fn serve_all<L: JobQueue, W: JobWork, R: Wait>(
     outcomes: &mut Vec<Outcome>,
 )
     requires part { 0 < ticket.old.parts }
-    requires each { AreOutcomes outcomes.old.items ticket.old.taken }
+    requires each { AreOutcomes W.comes_to outcomes.old.items ticket.old.taken }
     ensures taken { IsButForTaken ticket.old ticket.new }
-    ensures each { AreOutcomes outcomes.new.items ticket.new.taken }
+    ensures each { AreOutcomes W.comes_to outcomes.new.items ticket.new.taken }
 {
     for _ in rt.forever() {
         // A job is taken only where there is room for what comes of it.
@@ -93,14 +93,14 @@ pub fn serve<L: JobQueue, W: JobWork, R: Wait>(
     rt: &R,
     work: &W,
     front: &Front<L>,
-    ticket: Ticket<L>,
-    outcomes: Vec<Outcome>,
+    hired: Hired<L>,
 ) -> WorkerEnd<L>
-    requires new { ticket ≡ worker }
-    requires none { vec_len outcomes ≡ 0 }
+    ensures { AreOutcomes W.comes_to result.outcomes.items result.ticket.taken }
 {
-    let mut ticket = ticket;
-    let mut outcomes = outcomes;
+    let Hired {
+        mut ticket,
+        mut outcomes,
+    } = hired;
     serve_all(rt, work, front, &mut ticket, &mut outcomes);
-    WorkerEnd::new(ticket, outcomes)
+    WorkerEnd { ticket, outcomes }
 }

@@ -1,8 +1,8 @@
 //! Workers in threads, and the jobs that are pushed to them.
-ghost use Rattle.std.specs.Prelude.{◌≡◌, ◌+◌, ◌<◌, [], true, IfOk, OnOk, vec_len};
+ghost use Rattle.std.specs.Prelude.{◌≡◌, ◌+◌, ◌<◌, [], true, All, IfOk, OnOk, vec_len};
 ghost use Rattle.mvo_front.specs.declared.workers.TheConstants.{MAX_WORKERS};
 ghost use Rattle.mvo_front.specs.Named.{IsQueueNamedBy};
-ghost use Rattle.mvo_front.specs.Outcomes.{AreAnswered, AreOutcomes};
+ghost use Rattle.mvo_front.specs.Outcomes.{AreAnswered, AreOutcomes, AreRun};
 ghost use Rattle.mvo_front.specs.Queue.{first_hand, hand};
 
 use crate::front::Front;
@@ -27,8 +27,8 @@ pub const MAX_WORKERS: usize = 64;
 
 /// Runs the jobs, as many at once as there are workers (`MAX_WORKERS` at most), and pushes them
 /// while they work. The calling thread is the first of the workers, and alone where the system
-/// gives no other. Each job is run once: each number has as many outcomes as there are jobs with
-/// it, in any order.
+/// gives no other. Each job is run once, and each outcome is what that came to, in any order: so
+/// each number has as many outcomes as there are jobs with it.
 pub fn run<W: JobWork + Sync, R: Threads + Wait + Sync>(
     rt: &R,
     alloc: Global,
@@ -36,7 +36,8 @@ pub fn run<W: JobWork + Sync, R: Threads + Wait + Sync>(
     workers: usize,
     work: &W,
 ) -> Result<Vec<Outcome>, AllocError>
-    ensures { IfOk result (λ outcomes. AreAnswered jobs.items outcomes.items) }
+    ensures run { IfOk result (λ outcomes. AreRun W.comes_to jobs.items outcomes.items) }
+    ensures answered { IfOk result (λ outcomes. AreAnswered jobs.items outcomes.items) }
 {
     let opened = NewQueue::open(alloc)?;
     run_in::<Brand, W, R>(rt, alloc, opened, jobs, workers, work)
@@ -52,7 +53,7 @@ fn run_in<L: JobQueue + Send + Sync, W: JobWork + Sync, R: Threads + Wait + Sync
     work: &W,
 ) -> Result<Vec<Outcome>, AllocError>
     requires { IsQueueNamedBy L.table L.keys opened }
-    ensures { IfOk result (λ outcomes. AreAnswered jobs.items outcomes.items) }
+    ensures { IfOk result (λ outcomes. AreRun W.comes_to jobs.items outcomes.items) }
 {
     let (front, mut ticket) = Front::<L>::new(opened);
     let own = Vec::with_capacity(alloc, jobs.len())?;
@@ -62,15 +63,11 @@ fn run_in<L: JobQueue + Send + Sync, W: JobWork + Sync, R: Threads + Wait + Sync
     // Where there is no other thread, the second closure is called first.
     let (done, handed_out) = thread::join(
         rt,
-        move || thread::map_vec(
-            rt,
-            hired,
-            &|mine: Hired<L>| serve_hired(rt, work, shared, mine),
-        ),
+        move || serve_each(rt, work, shared, hired),
         move || hand_out(rt, work, shared, ticket, jobs, own),
     );
     let (ticket, outcomes) = handed_out?;
-    gather(rt, &front, ticket, outcomes, done?)
+    gather::<L, W, R>(rt, &front, ticket, outcomes, done?)
 }
 
 /// Hires so many workers, each with room for what comes of so many jobs.
@@ -96,19 +93,23 @@ fn hire_all<L: JobQueue>(
     Ok(hired)
 }
 
-fn serve_hired<L: JobQueue, W: JobWork, R: Wait>(
+/// What the hired workers have when they end, each in a thread of its own.
+fn serve_each<L: JobQueue + Send + Sync, W: JobWork + Sync, R: Threads + Wait + Sync>(
     rt: &R,
     work: &W,
     front: &Front<L>,
-    hired: Hired<L>,
-) -> WorkerEnd<L> {
-    let Hired { ticket, outcomes } = hired;
-    serve(rt, work, front, ticket, outcomes)
+    hired: Vec<Hired<L>>,
+) -> Result<Vec<WorkerEnd<L>>, AllocError>
+    ensures count { IfOk result (λ ends. vec_len ends ≡ vec_len hired) }
+    ensures each { IfOk result (λ ends.
+        All (λ e. AreOutcomes W.comes_to e.outcomes.items e.ticket.taken) ends.items) }
+{
+    thread::map_vec(rt, hired, &|mine: Hired<L>| serve(rt, work, front, mine))
 }
 
 /// What came of all jobs, with the tickets of all workers taken back. Out of memory where a worker
 /// ended before all jobs were taken, which it does for want of memory alone.
-fn gather<L: JobQueue, R: Wait>(
+fn gather<L: JobQueue, W: JobWork, R: Wait>(
     rt: &R,
     front: &Front<L>,
     ticket: Ticket<L>,
@@ -117,12 +118,13 @@ fn gather<L: JobQueue, R: Wait>(
 ) -> Result<Vec<Outcome>, AllocError>
     requires pushes { ticket.pushes ≡ true }
     requires parts { ticket.parts + vec_len done ≡ 1024 }
-    requires each { AreOutcomes outcomes.items ticket.taken }
-    ensures { IfOk result (λ all. AreAnswered ticket.put all.items) }
+    requires each { AreOutcomes W.comes_to outcomes.items ticket.taken }
+    requires ends { All (λ e. AreOutcomes W.comes_to e.outcomes.items e.ticket.taken) done.items }
+    ensures { IfOk result (λ all. AreRun W.comes_to ticket.put all.items) }
 {
     let mut ticket = ticket;
     let mut outcomes = outcomes;
-    take_back(front, &mut ticket, done, &mut outcomes)?;
+    take_back::<L, W>(front, &mut ticket, done, &mut outcomes)?;
     match front.try_take(rt, &mut ticket) {
         None => Ok(outcomes),
         Some(_) => Err(AllocError),
@@ -130,14 +132,15 @@ fn gather<L: JobQueue, R: Wait>(
 }
 
 /// Takes back the tickets of the workers, and adds up what came of their jobs.
-fn take_back<L: JobQueue>(
+fn take_back<L: JobQueue, W: JobWork>(
     front: &Front<L>,
     ticket: &mut Ticket<L>,
     done: Vec<WorkerEnd<L>>,
     outcomes: &mut Vec<Outcome>,
 ) -> Result<(), AllocError>
-    requires { AreOutcomes outcomes.old.items ticket.old.taken }
-    ensures each { OnOk result (AreOutcomes outcomes.new.items ticket.new.taken) }
+    requires each { AreOutcomes W.comes_to outcomes.old.items ticket.old.taken }
+    requires ends { All (λ e. AreOutcomes W.comes_to e.outcomes.items e.ticket.taken) done.items }
+    ensures each { OnOk result (AreOutcomes W.comes_to outcomes.new.items ticket.new.taken) }
     ensures parts { OnOk result (ticket.new.parts ≡ ticket.old.parts + vec_len done) }
     ensures same { OnOk result ((ticket.new.pushes ≡ ticket.old.pushes)
         × (ticket.new.put ≡ ticket.old.put)) }

@@ -62,6 +62,8 @@ impl<'e, L: Run, D: Disk, G: Gate + Drop, J: Gate> SessionWork<'e, L, D, G, J> {
 }
 
 impl<'e, L: Run, D: Disk, G: Gate + Drop, J: Gate> JobWork for SessionWork<'e, L, D, G, J> {
+    ghost comes_to = { λ job outcome. Unit {0} };
+
     fn run<R: Wait>(&self, rt: &R, job: Job) -> Outcome {
         let Job { number, script } = job;
         self.gate.pass(Place::JobStart(number));

@@ -18,6 +18,8 @@ struct Meeting {
 }
 
 impl JobWork for Meeting {
+    ghost comes_to = { λ job outcome. Unit {0} };
+
     fn run<R: Wait>(&self, _rt: &R, job: Job) -> Outcome {
         let number = job.number;
         if number == 2 {
@@ -56,6 +58,8 @@ struct Echo {
 }
 
 impl JobWork for Echo {
+    ghost comes_to = { λ job outcome. Unit {0} };
+
     fn run<R: Wait>(&self, _rt: &R, job: Job) -> Outcome {
         self.runs.fetch_add(1, Ordering::SeqCst);
         let number = job.number;

@@ -5,5 +5,5 @@ use Rattle.mvo_front.proofs.handing_out.push_all.Given as goal
 abbrev pub invariant-loop-job : goal.invariant-loop-job
 invariant-loop-job g l = record {
   pushed : HasPushed l.fn.ticket l.yielded l.ticket;
-  each : AreOutcomes l.outcomes.items l.ticket.taken;
+  each : AreOutcomes g.W.JobWork.comes_to l.outcomes.items l.ticket.taken;
 }

@@ -7,5 +7,5 @@ abbrev pub invariant-loop : goal.invariant-loop
 invariant-loop g l = record {
   waiting : l.waiting ≡ l.fn.job;
   taken : IsButForTaken l.fn.ticket l.ticket;
-  each : AreOutcomes l.outcomes.items l.ticket.taken;
+  each : AreOutcomes g.W.JobWork.comes_to l.outcomes.items l.ticket.taken;
 }
