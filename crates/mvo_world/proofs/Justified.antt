@@ -16,7 +16,7 @@ use Rattle.mvo_theory.specs.Marks.{low_water}
 use Rattle.mvo_types.specs.Causes.{when}
 use Rattle.mvo_theory.specs.Causes.{why_not_close, awaited, end_of}
 use Rattle.mvo_theory.specs.Calls.{Call, Result, IsRefusal, MayCome, steps_of, answer_in, steps_unless}
-use Rattle.mvo_theory.specs.Calls.Call.{Begin as BeginCall, Precommit as PrecommitCall, Validate as ValidateCall, Settle as SettleCall, Rollback as RollbackCall, Finish as FinishCall, Do as DoCall}
+use Rattle.mvo_theory.specs.Calls.Call.{Begin as BeginCall, Precommit as PrecommitCall, Validate as ValidateCall, Settle as SettleCall, Rollback as RollbackCall, Finish as FinishCall, Do as DoCall, Trim as TrimCall}
 use Rattle.mvo_theory.specs.Calls.Result.{Accepted, Refused as RefusedCall}
 use Rattle.mvo_theory.proofs.Snapshots.{answers_traced}
 use Rattle.mvo_theory.specs.Counts.{checks_in}
@@ -35,11 +35,13 @@ use Rattle.mvo_world.specs.Ring.{is_full}
 use Rattle.mvo_world.specs.Standing.{IsAfter}
 use Rattle.mvo_types.specs.declared.limits.TheConstants.{RING_GROUPS}
 use Rattle.mvo_world.specs.Justified.{IsJust, IsNextStamp, IsJustOperation, IsJustCheck, IsJustSettlement, untaken, IsJustClosing, IsJustifiedBy}
+use Rattle.mvo_world.specs.Forgetting.{IsJustTrim, MayBeTrimmed}
+use Rattle.mvo_world.proofs.Forgetting.{trimmed_so, nothing_so}
 use Rattle.mvo_world.specs.Replies.{IsAsked, IsOpAnswered, IsDrawn, IsReplyTo}
 use Rattle.mvo_world.specs.declared.event.Event.{Event}
-use Rattle.mvo_world.specs.declared.event.Event.TheVariants.{Begin, Do, Precommit, Validate, Settle, Rollback, Finish, CloseGroup}
+use Rattle.mvo_world.specs.declared.event.Event.TheVariants.{Begin, Do, Precommit, Validate, Settle, Rollback, Finish, Trim, CloseGroup}
 use Rattle.mvo_world.specs.declared.reply.Reply.{Reply}
-use Rattle.mvo_world.specs.declared.reply.Reply.TheVariants.{Began, Answered, Prepared, Validated, Settled, RolledBack, Finished, Closed, Refused}
+use Rattle.mvo_world.specs.declared.reply.Reply.TheVariants.{Began, Answered, Prepared, Validated, Settled, RolledBack, Finished, Trimmed, Closed, Refused}
 use Rattle.mvo_model.specs.Trace.Step.{Answers, Terminates}
 use Rattle.mvo_theory.specs.Words.{is_done}
 use Rattle.mvo_core.specs.declared.answers.Finishing.TheVariants.{More, Done}
@@ -111,6 +113,12 @@ module _ {D : Type 0} (d : Ghosts D) (p : Past) (w : WorldData D) (h : IsAfter d
       go None e q' = absurd cc
   closing r w' q = tt
 
+  trim : (m : ℕ) (w' : WorldData D) → IsAsked w (TrimCall m) Accepted w' → MayBeTrimmed p m
+  trim m w' asked = trimmed_so p h.state h.core.versions.kept h.counted h.rests m (asked.leads p.rows p.steps h.state h.core).may
+
+  no_trim : (m : ℕ) (w' : WorldData D) → IsAsked w (TrimCall m) (RefusedCall NothingToDo) w' → MayBeTrimmed p m → ⊥
+  no_trim m w' asked = nothing_so p h.state h.core.versions.kept h.counted h.rests m (asked.leads p.rows p.steps h.state h.core).may
+
   pub justified_reply : (e : Event) (r : Reply) (w' : WorldData D) → IsReplyTo d w e r w' → IsJustifiedBy p e r
   justified_reply Begin (Began t) w' q = (just BeginCall Accepted w' q.0, drawn t.0 q.1)
   justified_reply Begin (Refused r) w' q = just BeginCall (RefusedCall r) w' q
@@ -126,6 +134,8 @@ module _ {D : Type 0} (d : Ghosts D) (p : Past) (w : WorldData D) (h : IsAfter d
   justified_reply (Rollback t) (Refused r) w' q = just (RollbackCall t.0) (RefusedCall r) w' q
   justified_reply (Finish t) (Finished a) w' q = just (FinishCall t.0) Accepted w' q.0
   justified_reply (Finish t) (Refused r) w' q = just (FinishCall t.0) (RefusedCall r) w' q
+  justified_reply (Trim upto) (Trimmed stamp) w' q = trim upto.0 w' q.1.asked
+  justified_reply (Trim upto) (Refused r) w' q = subst (λ (v : Refusal). IsJustTrim p upto.0 (Refused v)) (sym q.0) (no_trim upto.0 w' (subst (λ (v : Refusal). IsAsked w (TrimCall upto.0) (RefusedCall v) w') q.0 q.1))
   justified_reply CloseGroup r w' q = closing r w' q
   justified_reply e r w' q = search
 

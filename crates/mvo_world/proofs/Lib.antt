@@ -1,6 +1,7 @@
 pub mod Chain
 mod Ends
 pub mod Standing
+mod Forgetting
 pub mod Justified
 pub mod Moves
 pub mod Runs

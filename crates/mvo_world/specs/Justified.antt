@@ -21,9 +21,10 @@ use Rattle.mvo_core.specs.declared.answers.Settlement.{Settlement}
 use Rattle.mvo_core.specs.declared.answers.Settlement.TheVariants.{Committed, Waiting}
 use Rattle.mvo_world.specs.Past.{Past, course_of}
 use Rattle.mvo_world.specs.Replies.{HasRow}
+use Rattle.mvo_world.specs.Forgetting.{IsJustTrim}
 use Rattle.mvo_types.specs.declared.limits.TheConstants.{RING_GROUPS}
 use Rattle.mvo_world.specs.declared.event.Event.{Event}
-use Rattle.mvo_world.specs.declared.event.Event.TheVariants.{Begin, Do, Precommit, Validate, Settle, Rollback, Finish, CloseGroup}
+use Rattle.mvo_world.specs.declared.event.Event.TheVariants.{Begin, Do, Precommit, Validate, Settle, Rollback, Finish, Trim, CloseGroup}
 use Rattle.mvo_world.specs.declared.reply.Reply.{Reply}
 use Rattle.mvo_world.specs.declared.reply.Reply.TheVariants.{Began, Answered, Prepared, Validated, Settled, RolledBack, Finished, Closed, Refused}
 
@@ -65,8 +66,8 @@ IsJustClosing p (Closed c) = untaken p < RING_GROUPS
 IsJustClosing p (Refused RingFull) = untaken p ≡ RING_GROUPS
 IsJustClosing p r = ⊤
 
--- The reply is justified by the past. Of events that are of no transaction it says when the ring is
--- full.
+-- The reply is justified by the past. Of events that are of no transaction it says when a trim has
+-- nothing to do, and when the ring is full.
 abbrev pub IsJustifiedBy : Past → Event → Reply → Type 0
 IsJustifiedBy p Begin (Began t) = IsJust p BeginCall Accepted × IsNextStamp p t.0
 IsJustifiedBy p Begin (Refused r) = IsJust p BeginCall (RefusedCall r)
@@ -90,6 +91,7 @@ IsJustifiedBy p (Rollback t) r = ⊥
 IsJustifiedBy p (Finish t) (Finished a) = IsJust p (FinishCall t.0) Accepted
 IsJustifiedBy p (Finish t) (Refused r) = IsJust p (FinishCall t.0) (RefusedCall r)
 IsJustifiedBy p (Finish t) r = ⊥
+IsJustifiedBy p (Trim upto) r = IsJustTrim p upto.0 r
 IsJustifiedBy p CloseGroup r = IsJustClosing p r
 IsJustifiedBy p e r = ⊤
 
