@@ -1,4 +1,5 @@
 //! A transfer between two accounts.
+ghost use Rattle.std.specs.Prelude.{◌≡◌};
 
 use mvo_disk::Disk;
 use mvo_engine::{Gate, Run, Session, Transaction};
@@ -70,7 +71,9 @@ pub fn money<L: Run, D: Disk, G: Gate + Drop, R: Wait>(
     rt: &R,
     session: &mut Session<'_, L, D, G>,
     account: u64,
-) -> Result<u64, Refusal> {
+) -> Result<u64, Refusal>
+    ensures { session.new.receipts ≡ session.old.receipts }
+{
     match session.read(rt, key_of(account))? {
         Answer::Found(Some(row)) => Ok(money_in(&row)),
         _ => Ok(0),

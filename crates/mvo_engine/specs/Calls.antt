@@ -32,7 +32,7 @@ use Rattle.mvo_store.specs.declared.call.StoreCall.{StoreCall}
 use Rattle.mvo_store.specs.declared.done.Done.{Done}
 use Rattle.mvo_store.specs.declared.done.Done.TheVariants.{Durable}
 use Rattle.mvo_engine.specs.declared.run.run.TheConstants.{MAX_SESSIONS}
-use Rattle.mvo_core.specs.Receipts.{Receipt, receipt}
+use Rattle.mvo_core.specs.Receipts.{receipt}
 use Rattle.mvo_engine.specs.States.{CoreState, SendsState, StoreState, SessionState}
 
 -- a step of the core that closes no group
@@ -161,22 +161,3 @@ HasCommitted old (Err r) new = new ≡ session_after r old
 abbrev pub HasLeft : {A : Type 0} → SessionState → Result A Refusal → SessionState → Type 0
 HasLeft old (Ok a) new = new ≡ record old { tx = None }
 HasLeft old (Err r) new = new ≡ session_after r old
-
--- the last receipt is of a transaction that ended there
-pub record EndsWith (e : ℕ) (receipts : List Receipt) : Type 0 where
-  pub before : List Receipt
-  pub last : Receipt
-  pub list : receipts ≡ before ++ last ∷ []
-  pub end : last.end ≡ e
-
--- committed with this end, of which there is a receipt
-abbrev pub IsCommittedAt : {A : Type 0} → Result (A × Stamp) Refusal → List Receipt → Type 0
-IsCommittedAt (Ok told) receipts = EndsWith told.1.0 receipts
-IsCommittedAt (Err r) receipts = Unit {0}
-
--- Refused with Busy where it has a transaction, which stays. Else it has none, whatever came, and
--- what was accepted is committed.
-abbrev pub IsTransacted : {A : Type 0} → Option ℕ → SessionState → Result (A × Stamp) Refusal
-    → SessionState → Type 0
-IsTransacted (Some t) old result new = (result ≡ Err Busy) × (new ≡ old)
-IsTransacted None old result new = (new.tx ≡ None) × IsCommittedAt result new.receipts

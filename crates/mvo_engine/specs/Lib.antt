@@ -11,6 +11,7 @@ pub mod Flushing
 pub mod Collecting
 pub mod Booked
 pub mod Settling
+pub mod Transacting
 pub mod Audited
 pub mod Gathering
 pub mod day

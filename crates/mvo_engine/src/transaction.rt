@@ -6,8 +6,19 @@ use mvo_types::Refusal;
 use std::sync::Wait;
 
 /// What is done in a transaction that is tried again where another was in its way
-/// (`Session::transact`). It may be done several times, so it changes nothing but rows.
+/// (`Session::transact`). It may be done several times, so it changes nothing but rows. It commits
+/// nothing itself: the session's receipts are as before.
 pub trait Transaction<T, L: Run, D: Disk, G: Gate + Drop> {
-    /// Reads and writes in the transaction that the session has begun.
-    fn run<R: Wait>(&self, rt: &R, session: &mut Session<'_, L, D, G>) -> Result<T, Refusal>;
+    ghost use Rattle.std.specs.Prelude.{◌≡◌, ⊤};
+    ghost use Rattle.mvo_engine.specs.Transacting.{Work};
+
+    /// What a run comes to: the work, the session before it, the result, and the session after it.
+    /// By default anything.
+    ghost comes_to: { Self → Work T } = { λ work old result new. ⊤ };
+
+    /// Reads and writes in the transaction that the session has begun. Where it is refused, the
+    /// transaction is rolled back, and where the refusal is a failure, all is done again.
+    fn run<R: Wait>(&self, rt: &R, session: &mut Session<'_, L, D, G>) -> Result<T, Refusal>
+        ensures comes { comes_to self.now session.old result session.new }
+        ensures receipts { session.new.receipts ≡ session.old.receipts };
 }

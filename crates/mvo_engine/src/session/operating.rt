@@ -42,6 +42,7 @@ impl<'e, L: Run, D: Disk, G: Gate + Drop> Session<'e, L, D, G> {
     pub fn operate<R: Wait>(&mut self, rt: &R, op: Op) -> Result<Answer, Refusal>
         ensures none { IsNoTx self.old.tx result }
         ensures asked { HasAsked self.old op result self.new }
+        ensures receipts { self.new.receipts ≡ self.old.receipts }
     {
         let Some(tx) = self.tx else {
             return Err(Refusal::NoSuchTransaction);
@@ -62,6 +63,7 @@ impl<'e, L: Run, D: Disk, G: Gate + Drop> Session<'e, L, D, G> {
     pub fn read<R: Wait>(&mut self, rt: &R, key: RowKey) -> Result<Answer, Refusal>
         ensures none { IsNoTx self.old.tx result }
         ensures asked { HasAsked self.old (Op.Read key) result self.new }
+        ensures receipts { self.new.receipts ≡ self.old.receipts }
     {
         self.operate(rt, Op::Read(key))
     }
@@ -71,6 +73,7 @@ impl<'e, L: Run, D: Disk, G: Gate + Drop> Session<'e, L, D, G> {
     pub fn scan<R: Wait>(&mut self, rt: &R, table: u8, lo: u64, hi: u64) -> Result<Answer, Refusal>
         ensures none { IsNoTx self.old.tx result }
         ensures asked { HasAsked self.old (Op.Scan table lo hi) result self.new }
+        ensures receipts { self.new.receipts ≡ self.old.receipts }
     {
         self.operate(rt, Op::Scan(table, lo, hi))
     }
@@ -79,6 +82,7 @@ impl<'e, L: Run, D: Disk, G: Gate + Drop> Session<'e, L, D, G> {
     pub fn insert<R: Wait>(&mut self, rt: &R, row: Row) -> Result<Answer, Refusal>
         ensures none { IsNoTx self.old.tx result }
         ensures asked { HasAsked self.old (Op.Insert row) result self.new }
+        ensures receipts { self.new.receipts ≡ self.old.receipts }
     {
         self.operate(rt, Op::Insert(row))
     }
@@ -87,6 +91,7 @@ impl<'e, L: Run, D: Disk, G: Gate + Drop> Session<'e, L, D, G> {
     pub fn update<R: Wait>(&mut self, rt: &R, row: Row) -> Result<Answer, Refusal>
         ensures none { IsNoTx self.old.tx result }
         ensures asked { HasAsked self.old (Op.Update row) result self.new }
+        ensures receipts { self.new.receipts ≡ self.old.receipts }
     {
         self.operate(rt, Op::Update(row))
     }
@@ -95,6 +100,7 @@ impl<'e, L: Run, D: Disk, G: Gate + Drop> Session<'e, L, D, G> {
     pub fn delete<R: Wait>(&mut self, rt: &R, key: RowKey) -> Result<Answer, Refusal>
         ensures none { IsNoTx self.old.tx result }
         ensures asked { HasAsked self.old (Op.Delete key) result self.new }
+        ensures receipts { self.new.receipts ≡ self.old.receipts }
     {
         self.operate(rt, Op::Delete(key))
     }

@@ -12,13 +12,13 @@ use std::thread;
 
 impl<'e, L: Run, D: Disk, G: Gate + Drop> Session<'e, L, D, G> {
     ghost use Rattle.std.specs.Prelude.{◌≡◌, None};
-    ghost use Rattle.mvo_engine.specs.Calls.{IsTransacted, IsCommittedAt};
+    ghost use Rattle.mvo_engine.specs.Transacting.{IsTransacted, AreAttempts, IsAttempt};
 
     /// Begins a transaction, does the work in it and commits it. Where another was in its way
     /// (WriteConflict, ValidationFailed, DependencyAborted), all of it is done again, up to so many
     /// times in all, at least once. Where anything else is refused it is rolled back, so the
     /// session is left without a transaction. Answers what the work gave, with the end timestamp
-    /// of the commit, whose receipt is the session's last one.
+    /// of the commit, whose receipt is one more; what is refused has left none.
     ///
     /// Refused with Busy where the session has a transaction, which stays; as the last attempt
     /// was; and where the work ended the transaction itself, with NoSuchTransaction.
@@ -28,7 +28,7 @@ impl<'e, L: Run, D: Disk, G: Gate + Drop> Session<'e, L, D, G> {
         times: u32,
         work: &W,
     ) -> Result<(T, Stamp), Refusal>
-        ensures { IsTransacted self.old.tx self.old result self.new }
+        ensures { IsTransacted (W.comes_to work.now) times self.old.tx self.old result self.new }
     {
         if self.tx.is_some() {
             return Err(Refusal::Busy);
@@ -43,13 +43,14 @@ impl<'e, L: Run, D: Disk, G: Gate + Drop> Session<'e, L, D, G> {
         times: u32,
         work: &W,
     ) -> Result<(T, Stamp), Refusal>
-        ensures tx { self.new.tx ≡ None }
-        ensures committed { IsCommittedAt result self.new.receipts }
+        requires { self.old.tx ≡ None }
+        ensures { AreAttempts (W.comes_to work.now) times self.old result self.new }
     {
-        for _ in 1..times {
+        for _failures in 0..times.saturating_sub(1) {
             match self.attempt(rt, work) {
-                Err(refusal) if is_failure(refusal) => thread::yield_now(),
-                result => return result,
+                Ok(done) => return Ok(done),
+                Err(refusal) if !is_failure(refusal) => return Err(refusal),
+                Err(_) => thread::yield_now(),
             }
         }
         self.attempt(rt, work)
@@ -61,24 +62,29 @@ impl<'e, L: Run, D: Disk, G: Gate + Drop> Session<'e, L, D, G> {
         rt: &R,
         work: &W,
     ) -> Result<(T, Stamp), Refusal>
-        ensures tx { self.new.tx ≡ None }
-        ensures committed { IsCommittedAt result self.new.receipts }
+        requires { self.old.tx ≡ None }
+        ensures { IsAttempt (W.comes_to work.now) self.old result self.new }
     {
-        let result = self.work_through(rt, work);
-        self.leave(rt);
-        result
+        match self.begin_tx(rt) {
+            Ok(_) => {}
+            Err(refusal) => return Err(refusal),
+        }
+        let told = match work.run(rt, self) {
+            Ok(told) => told,
+            Err(refusal) => return Err(self.give_up(rt, refusal)),
+        };
+        match self.commit_tx(rt) {
+            Ok(end) => Ok((told, end)),
+            Err(refusal) => Err(self.give_up(rt, refusal)),
+        }
     }
 
-    fn work_through<T: Drop, W: Transaction<T, L, D, G>, R: Wait>(
-        &mut self,
-        rt: &R,
-        work: &W,
-    ) -> Result<(T, Stamp), Refusal>
-        ensures committed { IsCommittedAt result self.new.receipts }
+    // Rolls back what the refusal left of the transaction, and passes it on.
+    fn give_up<R: Wait>(&mut self, rt: &R, refusal: Refusal) -> Refusal
+        ensures same { result ≡ refusal }
+        ensures session { self.new ≡ record self.old { tx = None } }
     {
-        self.begin_tx(rt)?;
-        let told = work.run(rt, self)?;
-        let end = self.commit_tx(rt)?;
-        Ok((told, end))
+        self.leave(rt);
+        refusal
     }
 }
