@@ -10,3 +10,4 @@ pub mod Starts
 pub mod Booked
 pub mod SentRows
 pub mod Flushed
+pub mod Pouring

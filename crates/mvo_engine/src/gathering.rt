@@ -3,7 +3,7 @@ ghost use Rattle.std.specs.Prelude.{◌≡◌, ◌+◌, ◌≤◌, ◌++◌, [],
 ghost use Rattle.std.specs.Prelude.{IfOk, IfErr, IfSome, IsTrue};
 ghost use Rattle.mvo_types.specs.declared.refusal.Refusal.{Refusal};
 ghost use Rattle.mvo_engine.specs.run.Watching.{count_of};
-ghost use Rattle.mvo_engine.specs.Gathering.{HasGathered, receipts_in};
+ghost use Rattle.mvo_engine.specs.Gathering.{HasGathered, receipts_in, gathered_receipts};
 
 use crate::core_guard::CoreGuard;
 use crate::gate::Gate;
@@ -23,10 +23,10 @@ pub enum Gathered<'e, L: Run, D: Disk + Drop, G: Gate + Drop> {
     Missing(Vec<Session<'e, L, D, G>>),
 }
 
-/// The receipts of all sessions that were made; or, where fewer are handed in, these sessions. The
-/// receipt that the run watches, which may be any, is among all receipts as often as among the
-/// stored commits, where the tale starts below its end. Refused with OutOfMemory, the sessions come
-/// back.
+/// The receipts of all sessions that were made, those of the last one first; or, where fewer are
+/// handed in, these sessions. The receipt that the run watches, which may be any, is among all
+/// receipts as often as among the stored commits, where the tale starts below its end. Refused with
+/// OutOfMemory, the sessions come back.
 pub fn gather<'e, L: Run, D: Disk + Drop, G: Gate + Drop>(
     core: &mut CoreGuard<'_, L>,
     alloc: Global,
@@ -76,7 +76,9 @@ fn count_all<L: Run, D: Disk, G: Gate + Drop>(sessions: &[Session<'_, L, D, G>])
     Some(total)
 }
 
-/// Pours the receipts of these sessions into the list, and their parts into one.
+/// Pours the receipts of these sessions into the list, those of the last one first, and their parts
+/// into one.
+#[tactic(auto, using(crate::proofs::Pouring::poured, crate::proofs::Pouring::all_poured))]
 fn pour<L: Run, D: Disk + Drop, G: Gate + Drop>(
     all: &mut Vec<Receipt>,
     sessions: Vec<Session<'_, L, D, G>>,
@@ -86,6 +88,7 @@ fn pour<L: Run, D: Disk + Drop, G: Gate + Drop>(
     requires room { receipts_in sessions.items ≤ vec_capacity all.old }
     requires nothing { (nothing.parts ≡ 0) × (nothing.amount ≡ 0) }
     ensures parts { result.parts ≡ length sessions.entry.items }
+    ensures items { all.new.items ≡ gathered_receipts sessions.entry.items }
     ensures amount { result.amount ≡ count_of L.watched all.new.items }
 {
     let mut whole = nothing;
