@@ -10,8 +10,8 @@ pub mod Jobs
 pub mod Flushing
 pub mod Collecting
 pub mod Booked
+pub mod Stored
 pub mod Settling
 pub mod Transacting
 pub mod Audited
 pub mod Gathering
-pub mod day

@@ -30,6 +30,7 @@ impl<'e, L: Run> CoreGuard<'e, L> {
     ghost use Rattle.mvo_types.specs.declared.refusal.Refusal.{Refusal};
     ghost use Rattle.mvo_theory.specs.Calls.Call.{Trim};
     ghost use Rattle.mvo_core.specs.Trimming.{HasForgotten};
+    ghost use Rattle.mvo_engine.specs.Stored.{HasStored};
     ghost use Rattle.mvo_engine.specs.Calls.{IsCoreStep};
     ghost use Rattle.mvo_engine.specs.Collecting.{IsCoreCollection};
     ghost use Rattle.mvo_engine.specs.Legal.{IsLegalCore};
@@ -48,9 +49,11 @@ impl<'e, L: Run> CoreGuard<'e, L> {
     }
 
     /// The stored commits, by end timestamp: all that end above the start of the tale, and of those
-    /// up to it the ones that are in no closed group yet, and what follows them.
+    /// up to it the ones that are in no closed group yet, and what follows them. Those above the
+    /// start are legal from the rows that a transaction sees that begins just above it.
     pub fn tale(&self) -> &Tale
-        ensures { result.now ≡ self.now.core.tale }
+        ensures tale { result.now ≡ self.now.core.tale }
+        ensures stored { HasStored self.now.core }
     {
         self.held.tale()
     }

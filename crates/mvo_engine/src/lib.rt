@@ -5,7 +5,6 @@
 mod chain;
 mod core_guard;
 mod counts;
-mod day;
 mod ends;
 mod engine;
 mod fresh;
@@ -23,7 +22,6 @@ mod transaction;
 pub use chain::Chain;
 pub use core_guard::CoreGuard;
 pub use counts::add_known;
-pub use day::{Day, DayWork, spend_day};
 pub use engine::Engine;
 pub use fresh::Fresh;
 pub use gate::{Gate, OpenGate};

@@ -64,6 +64,7 @@ impl<L: Run> LockedCore<L> {
     ghost use Rattle.mvo_theory.specs.Calls.Call.{Rollback, Finish, Trim};
     ghost use Rattle.mvo_core.specs.Steps.{IsAnswered, IsValidation, IsSettlement, IsFinishing};
     ghost use Rattle.mvo_core.specs.Trimming.{HasForgotten};
+    ghost use Rattle.mvo_engine.specs.Stored.{HasStored};
     ghost use Rattle.mvo_engine.specs.Audited.{IsAudited};
     ghost use Rattle.mvo_engine.specs.Booked.{IsBooked, HasSpareParts};
     ghost use Rattle.mvo_engine.specs.run.Receiving.{AreBelow};
@@ -109,7 +110,8 @@ impl<L: Run> LockedCore<L> {
 
     /// As `Core::tale`.
     pub fn tale(&self) -> &Tale
-        ensures { result.now ≡ self.now.core.tale }
+        ensures tale { result.now ≡ self.now.core.tale }
+        ensures stored { HasStored self.now.core }
     {
         self.core.tale()
     }

@@ -1,6 +1,7 @@
 mod beside;
 mod calls;
 mod counting;
+mod day;
 mod depending;
 mod down;
 mod gathering;
