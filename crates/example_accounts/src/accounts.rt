@@ -7,7 +7,7 @@ use crate::transfers::{ACCOUNTS, START, TIMES, Transfer, money_in, row_of};
 use crate::upkeep::{is_let_go, keep_up};
 use anyhow::bail;
 use mvo_disk::{Disk, MemDisk};
-use mvo_engine::{Engine, Fresh, Gathered, OpenGate, Receipt, Run, Session, gather};
+use mvo_engine::{Engine, Fresh, Gathered, OpenGate, Receipt, Run, SeenDurable, Session, gather};
 use mvo_store::format;
 use mvo_types::{Answer, Refusal, Stamp};
 use std::alloc::{AllocError, Global};
@@ -90,29 +90,44 @@ fn run<L: Run + Send + Sync, D: Disk + Drop + Send, R: Threads + Wait + Sync>(
     requires { IsNamedBy D.Disk L.opening L.marks L.ring L.name L.parts fresh }
 {
     let engine = Engine::<L, D, OpenGate>::new(fresh, OpenGate);
-    let told = go(rt, alloc, &engine)?;
-    Ok((told, engine.into_disk()))
+    let (told, seen) = go(rt, alloc, &engine)?;
+    // No commit is missing on the disk that a session was told to be durable.
+    Ok((told, engine.into_disk(seen)))
 }
 
 fn go<L: Run + Send + Sync, D: Disk + Drop + Send, R: Threads + Wait + Sync>(
     rt: &R,
     alloc: Global,
     engine: &Engine<L, D, OpenGate>,
-) -> Result<Told, Refusal> {
+) -> Result<(Told, Vec<SeenDurable<L>>), Refusal> {
     let mut session = engine.session(rt)?;
     open_accounts(rt, alloc, &mut session)?;
     let mut sessions = transfers(rt, alloc, engine)?;
     let (transfers, durable) = ask_all(&mut sessions);
     let total = total(rt, &mut session)?;
     sessions.push(session)?;
+    let seen = seen_by(alloc, &mut sessions)?;
     let receipts = gather_all(rt, alloc, engine, sessions)?;
-    Ok(Told {
+    let told = Told {
         transfers,
         total,
         durable,
         let_go: is_let_go(rt, engine)?,
         receipts,
-    })
+    };
+    Ok((told, seen))
+}
+
+/// How far each session has seen commits to be durable.
+fn seen_by<L: Run, D: Disk>(
+    alloc: Global,
+    sessions: &mut [Session<'_, L, D, OpenGate>],
+) -> Result<Vec<SeenDurable<L>>, AllocError> {
+    let mut seen = Vec::new(alloc);
+    for session in sessions {
+        seen.push(session.seen())?;
+    }
+    Ok(seen)
 }
 
 /// The transfers of all threads, and their sessions. Meanwhile another thread flushes, makes

@@ -51,12 +51,12 @@ fn money_in(found: &Answer) -> u64 {
     }
 }
 
-/// Makes the accounts, moves money, and waits until that is on the disk.
+/// Makes the accounts, moves money, waits until that is on the disk, and shuts the engine down.
 fn run<L: Run, D: Disk + Drop, R: Wait>(
     rt: &R,
     alloc: Global,
     fresh: Fresh<D>,
-) -> Result<u64, Refusal>
+) -> Result<(u64, D), Refusal>
     requires { IsNamedBy D.Disk L.opening L.marks L.ring L.name L.parts fresh }
 {
     let engine = Engine::<L, D, OpenGate>::new(fresh, OpenGate);
@@ -70,16 +70,22 @@ fn run<L: Run, D: Disk + Drop, R: Wait>(
     let (money, end) = session.transact(rt, 100, &transfer)?;
     engine.flush(rt)?;
     session.wait_durable(rt, end)?;
-    Ok(money)
+
+    // What the session was told to be durable is on the disk that comes back: the commits of the
+    // one history, up to a mark at least what it has seen.
+    let mut seen = Vec::new(alloc);
+    seen.push(session.seen())?;
+    drop(session);
+    Ok((money, engine.into_disk(seen)))
 }
 
-/// Writes a store without rows to the disk, and opens it.
+/// Writes a store without rows to the disk, and opens it. The disk comes back.
 fn on_disk<D: Disk + Drop, R: Threads + Wait + Sync>(
     rt: &R,
     alloc: Global,
     seed: u64,
     disk: D,
-) -> Result<u64, Refusal> {
+) -> Result<(u64, D), Refusal> {
     let disk = match format(alloc, disk) {
         Ok(disk) => disk,
         Err((refusal, _)) => return Err(refusal),
@@ -95,7 +101,7 @@ fn main(rt: HostRuntime) -> Result<(), anyhow::Error> {
     rt.fill_bytes(&mut seed)?;
     let disk = MemDisk::new(rt.alloc())?;
     match on_disk(&rt, rt.alloc(), u64::from_le_bytes(seed), disk) {
-        Ok(money) => println!(rt; "the other account has {money}")?,
+        Ok((money, _)) => println!(rt; "the other account has {money}")?,
         Err(refusal) => bail!("refused: {refusal}"),
     }
     over_world::run(&rt, rt.alloc())

@@ -1,10 +1,12 @@
--- Receipts are poured, those of the last session first.
-use Rattle.std.proofs.Common.{◌≡◌, List, [], ◌∷◌, ◌++◌, sym, ap, ◌∙◌, append-nil}
+-- Receipts are poured, those of the last session first, and what sessions have seen is confirmed.
+use Rattle.std.proofs.Common.{◌≡◌, ℕ, ◌≤◌, List, [], ◌∷◌, ◌++◌, sym, ap, ◌∙◌, append-nil}
 use Rattle.std.specs.Prelude.{reverse}
 use Rattle.std.proofs.lemmas.List.{append_assoc, reverse-append}
 use Rattle.std.specs.List.{flat_map}
 use Rattle.std.proofs.lemmas.List.Concat.{flat_map-cons}
+use Rattle.mvo_theory.proofs.Each.{each_append}
 use Rattle.mvo_core.specs.Receipts.{Receipt}
+use Rattle.mvo_engine.specs.Ending.{AreSeenUpTo}
 use Rattle.mvo_engine.specs.Gathering.{gathered_receipts}
 use Rattle.mvo_engine.specs.States.{SessionState}
 
@@ -17,3 +19,7 @@ poured all left x whole e = append_assoc all x.receipts (gathered_receipts left)
 
 pub all_poured : (all whole : List Receipt) → all ++ gathered_receipts [] ≡ whole → all ≡ whole
 all_poured all whole e = sym (append-nil all) ∙ e
+
+-- one more is at most the mark
+pub one_more : (mark : ℕ) (left : List ℕ) (n : ℕ) (all : List ℕ) → (AreSeenUpTo mark (left ++ n ∷ []) → AreSeenUpTo mark all) → n ≤ mark → AreSeenUpTo mark left → AreSeenUpTo mark all
+one_more mark left n all h le k = h (each_append (λ (m : ℕ). m ≤ mark) left (n ∷ []) k (le, tt))

@@ -15,3 +15,4 @@ pub mod Settling
 pub mod Transacting
 pub mod Audited
 pub mod Gathering
+pub mod Ending

@@ -75,9 +75,3 @@ pub record LeavesReceived {D : Type 0} (d : Ghosts D) (o : Opening) (received : 
     (s : StoreData D) : Type 0 where
   pub images : IsHonest (d.moment (disk_of s)) → WasFormatted o → (image : Image) →
       AllOf (d.may_leave (disk_of s)) image → GivesReceived o received (mark_of s) image
-
--- An image is well formed, and gives the opening rows followed by groups.
-pub record GivesSome (o : Opening) (image : Image) : Type 0 where
-  pub received : List GroupData
-  pub least : ℕ
-  pub gives : GivesReceived o received least image

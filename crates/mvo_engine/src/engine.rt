@@ -2,6 +2,8 @@ mod call_by_call;
 mod jobs;
 
 ghost use Rattle.std.specs.Prelude.{◌≡◌};
+ghost use Rattle.mvo_store.specs.Seen.{mark_of};
+ghost use Rattle.mvo_engine.specs.Ending.{AreSeenUpTo, HasShutDown};
 
 use crate::core_guard::CoreGuard;
 use crate::fresh::Fresh;
@@ -10,6 +12,7 @@ use crate::locked_core::LockedCore;
 use crate::locked_store::LockedStore;
 use crate::place::Place;
 use crate::run::Run;
+use crate::seen_durable::SeenDurable;
 use crate::sends::Sends;
 use crate::session::Session;
 use crate::store_guard::StoreGuard;
@@ -53,11 +56,9 @@ impl<L: Run, D: Disk + Drop, G: Gate + Drop> Drop for Engine<L, D, G> {
 impl<L: Run, D: Disk, G: Gate + Drop> Engine<L, D, G> {
     ghost use Rattle.std.specs.Prelude.{◌≡◌, [], None, IfOk, IfErr};
     ghost use Rattle.mvo_types.specs.declared.refusal.Refusal.{Refusal};
-    ghost use Rattle.mvo_disk.specs.Disk.{Image, AllOf, IsHonest};
-    ghost use Rattle.mvo_engine.specs.Opening.{WasFormatted};
     ghost use Rattle.mvo_engine.specs.Audited.{IsAudited};
     ghost use Rattle.mvo_engine.specs.Opened.{IsNamedBy};
-    ghost use Rattle.mvo_engine.specs.Sound.{GivesSome};
+    ghost use Rattle.mvo_engine.specs.Ending.{IsShutDown};
     ghost use Rattle.mvo_engine.specs.declared.engine.TheConstants.{AT_ONCE};
     ghost use Rattle.mvo_engine.specs.Collecting.{HaveCollected};
     ghost use Rattle.mvo_engine.specs.Flushing.{IsClosingFirst, IsWholeFlush};
@@ -180,22 +181,25 @@ impl<L: Run, D: Disk, G: Gate + Drop> Engine<L, D, G> {
         core.held.audit(&mut *store.held);
     }
 
-    /// The disk, as it stands. Where it was formatted and has answered as written, it gives the
-    /// opening rows followed by groups that were received, and so does each image that a stop may
-    /// leave of it from now on.
-    pub fn into_disk(self) -> D
-        ensures gives { IsHonest (D.moment result) → WasFormatted L.opening →
-            GivesSome L.opening (D.content result) }
-        ensures images { IsHonest (D.moment result) → WasFormatted L.opening → (image : Image) →
-            AllOf (D.may_leave result) image → GivesSome L.opening image }
+    /// The disk, as it stands, and what is known of it at the end: the groups that it received are
+    /// a beginning of those that were sent, and these hold the commits of the one history under the
+    /// lock of the core. Where the disk was formatted and has answered as written, it gives the
+    /// opening rows followed by groups that it received, up to a mark at least all of `seen`: no
+    /// commit is missing that a session was told to be durable. So does each image that a stop may
+    /// leave of it from now on. Of a disk that wasn't formatted, or has lied, nothing is said of
+    /// what it gives. It takes no memory, and waits for nobody.
+    pub fn into_disk(self, seen: Vec<SeenDurable<L>>) -> D
+        ensures { IsShutDown D.Disk L.opening seen.items result }
     {
         let Engine {
             gate: _,
-            marks: _,
-            core: _,
+            marks,
+            core,
             store,
         } = self;
-        store.into_inner().into_disk()
+        let mut store = store.into_inner();
+        confirm_all(&marks, &mut store, seen);
+        shut_down(core.into_inner(), store)
     }
 
     // Passes the gate and takes the lock of the core. It tries for a while first, since a step
@@ -228,4 +232,33 @@ impl<L: Run, D: Disk, G: Gate + Drop> Engine<L, D, G> {
     {
         &self.marks
     }
+}
+
+// Each of `seen` is at most the store's mark.
+#[tactic(auto, using(crate::proofs::Pouring::one_more))]
+fn confirm_all<L: Run, D: Disk>(
+    marks: &Marks,
+    store: &mut LockedStore<L, D>,
+    seen: Vec<SeenDurable<L>>,
+)
+    requires { marks.now ≡ L.marks }
+    ensures covers { AreSeenUpTo (mark_of store.old.store) seen.items }
+    ensures store { store.new ≡ store.old }
+{
+    let mut left = seen;
+    while let Some(one) = left.pop() {
+        let mut one = one;
+        one.confirm(marks, store);
+    }
+}
+
+// The disk out of what lies under the locks, and what is known with both.
+fn shut_down<L: Run, D: Disk>(core: LockedCore<L>, store: LockedStore<L, D>) -> D
+    ensures { HasShutDown D.Disk L.opening core store result }
+{
+    let mut core = core;
+    let mut store = store;
+    let _ = core.clock();
+    core.audit(&mut store);
+    store.into_disk()
 }

@@ -7,6 +7,7 @@ use crate::gate::Gate;
 use crate::locked_core::LockedCore;
 use crate::locked_store::LockedStore;
 use crate::run::{Receipt, Receipts, Run, Told};
+use crate::seen_durable::SeenDurable;
 use mvo_disk::Disk;
 use mvo_marks::Seat;
 use mvo_types::{Refusal, Stamp, TxId};
@@ -112,6 +113,15 @@ impl<'e, L: Run, D: Disk, G: Gate + Drop> Session<'e, L, D, G> {
         ensures rest { self.new ≡ record self.old { durable = self.new.durable } }
     {
         self.engine.marks().poll_durable(&mut self.seat, stamp)
+    }
+
+    /// How far it has seen commits to be durable, to be kept beyond the session: what it was told
+    /// to be durable ends up to there. It takes no lock and no memory.
+    pub fn seen(&mut self) -> SeenDurable<L>
+        ensures seen { result ≡ self.old.durable }
+        ensures session { self.new ≡ self.old }
+    {
+        SeenDurable::new(self.engine.marks().split(&mut self.seat))
     }
 
     /// Waits until all commits that end up to the stamp are on the disk: until another thread, or

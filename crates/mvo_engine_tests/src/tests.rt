@@ -4,6 +4,7 @@ mod counting;
 mod day;
 mod depending;
 mod down;
+mod ending;
 mod gathering;
 mod held_disk;
 mod jobs;

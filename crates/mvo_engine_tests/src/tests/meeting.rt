@@ -76,7 +76,7 @@ fn run_meeting<L: Run + Send + Sync, D: Disk + Drop + Send, R: Threads + Wait + 
 {
     let engine = Engine::<L, D, OpenGate>::new(fresh, OpenGate);
     let told = both(rt, alloc, &engine)?;
-    Ok((told, engine.into_disk()))
+    Ok((told, engine.into_disk(Vec::new(alloc))))
 }
 
 // Updates the key, and waits until the other was refused. Whether it was.

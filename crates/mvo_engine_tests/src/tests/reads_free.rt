@@ -71,7 +71,7 @@ fn run_freeing<L: Run + Send + Sync, D: Disk + Drop + Send, R: Threads + Wait + 
 {
     let engine = Engine::<L, D, OpenGate>::new(fresh, OpenGate);
     let told = flush_and_read(rt, alloc, &engine, hold)?;
-    Ok((told, engine.into_disk()))
+    Ok((told, engine.into_disk(Vec::new(alloc))))
 }
 
 // Waits until a sync is held, reads, and lets it go.

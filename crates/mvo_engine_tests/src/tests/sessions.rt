@@ -51,7 +51,7 @@ fn run_going<L: Run + Send + Sync, D: Disk + Drop + Send, R: Threads + Wait + Sy
 {
     let engine = Engine::<L, D, OpenGate>::new(fresh, OpenGate);
     let told = go(rt, alloc, &engine)?;
-    Ok((told, engine.into_disk()))
+    Ok((told, engine.into_disk(Vec::new(alloc))))
 }
 
 fn is_one(answer: &Answer) -> bool {

@@ -104,11 +104,11 @@ fn run_through<L: Run + Send + Sync, D: Disk + Drop + Send, R: Threads + Wait + 
 {
     let engine = Engine::<L, D, OpenGate>::new(fresh, OpenGate);
     let told = put_and_find(rt, alloc, &engine)?;
-    Ok((told, engine.into_disk()))
+    Ok((told, engine.into_disk(Vec::new(alloc))))
 }
 
 /// An engine over what is on the disk.
-fn finding<D: Disk + Drop + Send, R: Threads + Wait + Sync>(
+pub fn finding<D: Disk + Drop + Send, R: Threads + Wait + Sync>(
     rt: &R,
     alloc: Global,
     disk: D,
@@ -121,14 +121,14 @@ fn finding<D: Disk + Drop + Send, R: Threads + Wait + Sync>(
 
 fn run_finding<L: Run + Send + Sync, D: Disk + Drop + Send, R: Threads + Wait + Sync>(
     rt: &R,
-    _alloc: Global,
+    alloc: Global,
     fresh: Fresh<D>,
 ) -> Result<(Option<u8>, D), Refusal>
     requires { IsNamedBy D.Disk L.opening L.marks L.ring L.name L.parts fresh }
 {
     let engine = Engine::<L, D, OpenGate>::new(fresh, OpenGate);
     let told = find(rt, &engine)?;
-    Ok((told, engine.into_disk()))
+    Ok((told, engine.into_disk(Vec::new(alloc))))
 }
 
 /// An engine over what is on the disk.
@@ -152,7 +152,7 @@ fn run_polling<L: Run + Send + Sync, D: Disk + Drop + Send, R: Threads + Wait + 
 {
     let engine = Engine::<L, D, OpenGate>::new(fresh, OpenGate);
     let told = poll(rt, alloc, &engine)?;
-    Ok((told, engine.into_disk()))
+    Ok((told, engine.into_disk(Vec::new(alloc))))
 }
 
 #[test]

@@ -53,7 +53,7 @@ fn run_tried<
 {
     let engine = Engine::<L, D, G>::new(fresh, gate);
     let told = trial.go(rt, alloc, &engine)?;
-    Ok((told, engine.into_disk()))
+    Ok((told, engine.into_disk(Vec::new(alloc))))
 }
 
 /// Asserts that so many things were told, and that each is right.

@@ -76,7 +76,7 @@ fn run_going<L: Run + Send + Sync, D: Disk + Drop + Send, R: Threads + Wait + Sy
 {
     let engine = Engine::<L, D, Counting<'_>>::new(fresh, Counting { passes });
     let told = go(rt, alloc, &engine, passes)?;
-    Ok((told, engine.into_disk()))
+    Ok((told, engine.into_disk(Vec::new(alloc))))
 }
 
 // Changes the row to each of these bytes in turn, and answers the last end.
