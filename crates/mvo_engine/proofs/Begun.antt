@@ -1,5 +1,5 @@
 -- A run before its first step is sound.
-use Rattle.std.proofs.Common.{◌≡◌, ℕ, ◌≤◌, Bool, true, false, List, [], ◌∷◌, ◌++◌, map, Option, refl, sym, ap, ◌∙◌, subst, arith, append-nil}
+use Rattle.std.proofs.Common.{◌≡◌, ℕ, ◌≤◌, Bool, true, false, List, [], ◌∷◌, ◌++◌, map, Option, Ok, refl, sym, ap, ◌∙◌, subst, arith, append-nil}
 use Rattle.std.specs.Prelude.{◌==◌, if◌then◌else◌}
 use Rattle.std.specs.Option.{option_to_list}
 use Rattle.std.proofs.Math.Path.{fun_ext}
@@ -8,6 +8,7 @@ use Rattle.std.proofs.lemmas.List.Elements.{All-nil}
 use Rattle.mvo_types.specs.declared.limits.TheConstants.{MAX_STAMP}
 use Rattle.mvo_types.specs.Keys.{Map}
 use Rattle.mvo_disk.specs.declared.disk.Disk.{Ghosts}
+use Rattle.mvo_disk.specs.Disk.{Image, IsHonest}
 use Rattle.mvo_group.specs.Data.{GroupData, group_of}
 use Rattle.mvo_theory.specs.State.{Marks, opened}
 use Rattle.mvo_core.specs.Data.{CoreData}
@@ -16,10 +17,12 @@ use Rattle.mvo_store.specs.Rows.{after_groups}
 use Rattle.mvo_store.specs.Seen.{disk_of, mark_of}
 use Rattle.mvo_store.specs.StoreData.{StoreData}
 use Rattle.mvo_store.specs.Standing.{Gives, HasSlots, KeepsRows, FollowsMark}
-use Rattle.mvo_store.specs.Opening.{KeepsContent}
+use Rattle.mvo_store.specs.Opening.{IsAnswer, KeepsContent}
+use Rattle.mvo_store.proofs.Marked.{same_answer}
 use Rattle.mvo_world.specs.WorldData.{WorldData, waiting}
 use Rattle.mvo_world.specs.Promise.{IsOpenedOver}
 use Rattle.mvo_engine.specs.run.Opening.{Opening, opening_of}
+use Rattle.mvo_engine.specs.Opening.{GivesJust}
 use Rattle.mvo_engine.specs.Sound.{IsSoundCore, IsSoundStore, last_mark}
 use Rattle.mvo_engine.specs.Opened.{HasOpened, opening_groups}
 
@@ -50,10 +53,18 @@ none_sent : (gs hs : List GroupData) → map (λ g. g.mark) (gs ++ hs) ≡ [] �
 none_sent [] hs e = refl
 none_sent (g ∷ gs) hs e = absurd cc
 
-pub opened_world : {D : Type 0} (d : Ghosts D) (old : D) (w : WorldData D) → KeepsContent d old (disk_of w.store) → (rows : Map) → IsOpenedOver d old rows w → HasOpened d (opening_of d (disk_of w.store)) w.core w.store
-opened_world {D} d old w content rows is = record {
+just_given : (content : Image) (answered : Map) (mark : ℕ) → IsAnswer content (Ok (answered, mark)) → (rows : Map) → Gives rows mark content → GivesJust rows mark content
+just_given content answered mark answer rows gives = record {
+  gives = gives;
+  no_other = λ r m other.
+      let same : ◌≡◌ {A = Map × ℕ} (r, m) (rows, mark) = same_answer content answered mark answer r m other ∙ sym (same_answer content answered mark answer rows mark gives) in
+      (ap (λ (x : Map × ℕ). x.0) same, ap (λ (x : Map × ℕ). x.1) same);
+}
+
+pub opened_world : {D : Type 0} (d : Ghosts D) (old : D) (w : WorldData D) → KeepsContent d old (disk_of w.store) → (IsHonest (d.moment (disk_of w.store)) → (r : Map) × IsAnswer (d.content old) (Ok (r, mark_of w.store))) → (rows : Map) → IsOpenedOver d old rows w → HasOpened d (opening_of d (disk_of w.store)) w.core w.store
+opened_world {D} d old w content answer rows is = record {
   rows = rows;
-  gives = λ now. subst (Gives rows (mark_of w.store)) (sym same) (is.gives now);
+  gives = λ now. let a = answer now in subst (GivesJust rows (mark_of w.store)) (sym same) (just_given (d.content old) a.0 (mark_of w.store) a.1 rows (is.gives now));
   stamp = is.stamp;
   core = is.begins.core;
   pending = is.begins.store.pending;

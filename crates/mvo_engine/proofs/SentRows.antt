@@ -1,6 +1,6 @@
 -- The opening rows followed by the sent groups, and then by the commits that are in no group yet,
 -- are the rows after the whole history.
-use Rattle.std.proofs.Common.{◌≡◌, ℕ, ◌≤◌, ◌<◌, Bool, true, false, cond, List, [], ◌∷◌, ◌++◌, refl, sym, ap, ◌∙◌, arith}
+use Rattle.std.proofs.Common.{◌≡◌, ℕ, ◌≤◌, ◌<◌, Bool, true, false, cond, List, [], ◌∷◌, ◌++◌, refl, sym, ap, ◌∙◌, subst, arith}
 use Rattle.std.specs.Prelude.{nat_le, ◌&&◌}
 use Rattle.std.specs.List.{AllByRecursion, filter}
 use Rattle.std.proofs.lemmas.Bool.{le-leb}
@@ -9,6 +9,7 @@ use Rattle.mvo_types.specs.Keys.{Map}
 use Rattle.mvo_model.specs.History.{after_history}
 use Rattle.mvo_model.specs.Trace.{Step}
 use Rattle.mvo_disk.specs.declared.disk.Disk.{Ghosts}
+use Rattle.mvo_disk.specs.Disk.{Image}
 use Rattle.mvo_engine.specs.run.Opening.{Opening}
 use Rattle.mvo_group.specs.Data.{GroupData}
 use Rattle.mvo_theory.specs.State.{State, StampedTx, Marks, timeline, after_settled}
@@ -16,15 +17,17 @@ use Rattle.mvo_theory.specs.Marks.{Commit, settled_to}
 use Rattle.mvo_theory.specs.Sound.{IsRising, IsPast, IsPlaced}
 use Rattle.mvo_theory.specs.AfterTrace.{IsAfterTrace}
 use Rattle.mvo_theory.proofs.Each.{each_append, each_weaker}
+use Rattle.mvo_theory.proofs.Tales.{serial_after_trace}
 use Rattle.mvo_theory.proofs.Trim.{after_settled-append}
 use Rattle.mvo_core.specs.Data.{CoreData}
 use Rattle.mvo_core.specs.Groups.{HaveRecordsOf}
 use Rattle.mvo_store.specs.Frames.{mark_after}
 use Rattle.mvo_store.specs.Rows.{after_groups}
+use Rattle.mvo_store.specs.Seen.{mark_of}
 use Rattle.mvo_world.proofs.Chain.{left_by_all, left_by_all-append, is_after, chain_rows, parts}
-use Rattle.mvo_engine.specs.Sound.{IsSoundCore, LeavesReceived}
+use Rattle.mvo_engine.specs.Sound.{IsSoundCore, GivesReceived, LeavesReceived, last_mark}
 use Rattle.mvo_engine.specs.States.{StoreState}
-use Rattle.mvo_engine.specs.Audited.{after_commits, not_sent, AgreesWithHistory, IsAudited}
+use Rattle.mvo_engine.specs.Audited.{after_commits, not_sent, AgreesWithHistory, tale_rows, GivesSent, IsAudited}
 
 same_walk : (cs : List Commit) (m : Map) → after_commits cs m ≡ left_by_all cs m
 same_walk [] m = refl
@@ -53,6 +56,26 @@ agrees opening steps s sent trace up ends none groups drawn =
     ∙ (whole s.clock line opening ends
     ∙ (after_settled-append s.past s.stamped opening
     ∙ ap (after_settled s.stamped) (sym trace.base))))))
+
+-- ---- the rows up to a mark that isn't below the start of the tale
+settled_to-append : (m : ℕ) (xs ys : List StampedTx) → settled_to m (xs ++ ys) ≡ settled_to m xs ++ settled_to m ys
+settled_to-append m [] ys = refl
+settled_to-append m (x ∷ xs) ys = go (x.settled && nat_le x.end m) (settled_to-append m xs ys)
+  where
+    go : (b : Bool) → settled_to m (xs ++ ys) ≡ settled_to m xs ++ settled_to m ys → cond b ((x.end, x.history) ∷ settled_to m (xs ++ ys)) (settled_to m (xs ++ ys)) ≡ cond b ((x.end, x.history) ∷ settled_to m xs) (settled_to m xs) ++ settled_to m ys
+    go true e = ap (λ (cs : List Commit). (x.end, x.history) ∷ cs) e
+    go false e = e
+
+from_start : (m : ℕ) (opening : Map) (steps : List Step) (s : State) → IsAfterTrace opening steps s → AllByRecursion (λ (x : StampedTx). x.end ≤ m) s.past → left_by_all (settled_to m (timeline s)) opening ≡ tale_rows m s
+from_start m opening steps s trace past =
+    ap (λ (cs : List Commit). left_by_all cs opening) (settled_to-append m s.past s.stamped)
+    ∙ (left_by_all-append (settled_to m s.past) (settled_to m s.stamped) opening
+    ∙ (ap (left_by_all (settled_to m s.stamped)) (whole m s.past opening past ∙ sym trace.base)
+    ∙ sym (same_walk (settled_to m s.stamped) s.base)))
+
+records_of_front : (s : State) (mark : ℕ) (front behind : List GroupData) → HaveRecordsOf s mark (front ++ behind) → HaveRecordsOf s mark front
+records_of_front s mark [] behind h = tt
+records_of_front s mark (g ∷ gs) behind h = (h.0, h.1, records_of_front s g.mark gs behind h.2)
 
 -- none ends at 0
 none_first : (xs : List StampedTx) → AllByRecursion (λ (x : StampedTx). x.id < x.end) xs → settled_to 0 xs ≡ []
@@ -87,15 +110,33 @@ module _ {o : Opening} {c : CoreData} {sent : List GroupData} (i : IsSoundCore o
       (each_weaker (IsPast i.state.start) (λ (x : StampedTx). x.end ≤ i.state.clock) (λ x p. let le = p.until in let up = started.drawn in omega (arith, le, up)) i.state.past started.past)
       (each_weaker (IsPlaced i.state.stamped i.state.clock) (λ (x : StampedTx). x.end ≤ i.state.clock) (λ x p. p.drawn) i.state.stamped i.stands.versions.kept.sound.placed)
 
+  rising : IsRising (timeline i.state)
+  rising =
+      let started = i.stands.versions.kept.started in
+      rising_line i.state.start i.state.past i.state.stamped started.past started.rising started.later i.stands.versions.kept.sound.rising
+
   pub sent_agrees : AgreesWithHistory i.rows i.state sent
   sent_agrees =
-      let started = i.stands.versions.kept.started in
       let last = i.last in
       let marks = ap (λ (m : Marks). m.closed) i.stands.marks in
       let closed = i.closed.drawn in
-      agrees i.rows i.steps i.state sent i.stands.versions.kept.after_trace
-      (rising_line i.state.start i.state.past i.state.stamped started.past started.rising started.later i.stands.versions.kept.sound.rising)
-      drawn (none_first (timeline i.state) begun) i.groups (omega (arith, last, marks, closed))
+      agrees i.rows i.steps i.state sent i.stands.versions.kept.after_trace rising drawn (none_first (timeline i.state) begun) i.groups (omega (arith, last, marks, closed))
+
+  -- a beginning of the groups leaves the tale's rows up to its mark
+  front_rows : (front behind : List GroupData) → sent ≡ front ++ behind → i.state.start ≤ last_mark front → after_groups i.rows front ≡ tale_rows (last_mark front) i.state
+  front_rows front behind is above =
+      let s = i.state in
+      let past = i.stands.versions.kept.started.past in
+      ap (λ (cs : List Commit). after_groups (left_by_all cs i.rows) front) (sym (none_first (timeline s) begun))
+      ∙ (chain_rows s 0 front i.rows rising (records_of_front s 0 front behind (subst (HaveRecordsOf s 0) is i.groups))
+      ∙ from_start (last_mark front) i.rows i.steps s i.stands.versions.kept.after_trace (each_weaker (IsPast s.start) (λ (x : StampedTx). x.end ≤ last_mark front) (λ x p. let le = p.until in omega (arith, le, above)) s.past past))
+
+  image_sent : (least : ℕ) (image : Image) (g : GivesReceived o sent least image) → g.rows ≡ i.rows → GivesSent o i.rows i.state sent least image
+  image_sent least image g same = record {
+    gives = g;
+    rows_are = same;
+    tale = λ above. ap (λ (r : Map). after_groups r g.front) same ∙ front_rows g.front g.behind g.received_is above;
+  }
 
   -- what is known with both locks
   pub audited : {D : Type 0} (d : Ghosts D) (made raised : ℕ) (st : StoreState D) (behind : List GroupData) → st.received ++ behind ≡ sent → LeavesReceived d o st.received st.store → IsAudited d o (record { core = c; sends = record { sent = sent; raised = raised }; made = made }) st
@@ -108,10 +149,12 @@ module _ {o : Opening} {c : CoreData} {sent : List GroupData} (i : IsSoundCore o
     steps = i.steps;
     state = i.state;
     stands = i.stands;
+    serial = serial_after_trace i.rows i.steps i.state i.stands.versions.kept.sound i.stands.versions.kept.after_trace;
+    groups = i.groups;
     agrees = sent_agrees;
     images = λ now slots left of.
         let g = leaves.images now slots left of in
-        record {
+        image_sent (mark_of st.store) left (record {
           rows = g.rows;
           mark = g.mark;
           opened = g.opened;
@@ -121,5 +164,5 @@ module _ {o : Opening} {c : CoreData} {sent : List GroupData} (i : IsSoundCore o
           slots = g.slots;
           gives = g.gives;
           covers = g.covers;
-        };
+        }) ((i.gives (leaves.was now)).no_other g.rows g.mark g.opened).0;
   }

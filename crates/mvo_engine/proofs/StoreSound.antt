@@ -25,7 +25,7 @@ use Rattle.mvo_store.proofs.Taken.{KeepsTaken, IsQuiet, left_taken, quiet_taken,
 use Rattle.mvo_world.proofs.Standing.{mark_after-append, opening_pending}
 use Rattle.mvo_engine.specs.run.Opening.{Opening}
 use Rattle.mvo_engine.specs.Opening.{WasFormatted}
-use Rattle.mvo_engine.specs.Sound.{IsSoundStore, GivesReceived, last_mark}
+use Rattle.mvo_engine.specs.Sound.{IsSoundStore, GivesReceived, LeavesReceived, last_mark}
 
 pub on_ok : {A E : Type 0} (result : Result A E) (P : Type 0) → P → OnOk result P
 on_ok (Ok a) P p = p
@@ -76,7 +76,7 @@ module _ {D : Type 0} (d : Ghosts D) {o : Opening} {s : StoreData D} {received :
     without gives = record {
       rows = i.rows;
       mark = i.mark;
-      opened = i.gives (i.was now);
+      opened = (i.gives (i.was now)).gives;
       front = i.durable;
       behind = option_to_list (pending_of s);
       received_is = i.received_is;
@@ -91,7 +91,7 @@ module _ {D : Type 0} (d : Ghosts D) {o : Opening} {s : StoreData D} {received :
         record {
           rows = i.rows;
           mark = i.mark;
-          opened = i.gives (i.was now);
+          opened = (i.gives (i.was now)).gives;
           front = i.durable ++ g ∷ [];
           behind = [];
           received_is = i.received_is ∙ ap (λ (o : Option GroupData). i.durable ++ option_to_list o) there ∙ sym (append-nil (i.durable ++ g ∷ []));
@@ -119,6 +119,9 @@ module _ {D : Type 0} (d : Ghosts D) {o : Opening} {s : StoreData D} {received :
   received_image now slots left of =
       let may = (i.keeps now slots).images left of in
       with_or_without now left may.slots (opening s) refl may.gives
+
+  pub leaves : LeavesReceived d o received s
+  leaves = record { was = i.was; images = received_image }
 
 -- the seat and the ring beside it stay over a step that takes no group and makes none durable
 module _ {D : Type 0} (d : Ghosts D) {o : Opening} {s t : StoreData D} {received : List GroupData} {published : ℕ} {P Q : Type 0} (i : IsSoundStore d o s received × P × (published ≤ mark_of s) × Q) where

@@ -1,15 +1,16 @@
 -- What is known with both locks.
-use Rattle.std.specs.Prelude.{◌≡◌, ℕ, nat_lt, List, [], ◌∷◌, ◌++◌}
+use Rattle.std.specs.Prelude.{◌≡◌, ◌≤◌, ℕ, nat_lt, List, [], ◌∷◌, ◌++◌}
 use Rattle.std.specs.List.{filter}
 use Rattle.mvo_types.specs.Keys.{Map}
 use Rattle.mvo_model.specs.History.{after_history}
-use Rattle.mvo_model.specs.Trace.{Step}
+use Rattle.mvo_model.specs.Trace.{Step, IsSerial}
 use Rattle.mvo_disk.specs.declared.disk.Disk.{Ghosts}
 use Rattle.mvo_disk.specs.Disk.{Image, AllOf, IsHonest}
 use Rattle.mvo_group.specs.Data.{GroupData}
 use Rattle.mvo_theory.specs.State.{State, timeline, after_settled}
 use Rattle.mvo_theory.specs.Marks.{Commit, settled_to}
 use Rattle.mvo_core.specs.Standing.{StandsFor}
+use Rattle.mvo_core.specs.Groups.{HaveRecordsOf}
 use Rattle.mvo_store.specs.Rows.{after_groups}
 use Rattle.mvo_store.specs.Seen.{disk_of, mark_of}
 use Rattle.mvo_engine.specs.run.Opening.{Opening}
@@ -32,10 +33,24 @@ abbrev pub AgreesWithHistory : Map → State → List GroupData → Type 0
 AgreesWithHistory opening s sent =
     after_commits (not_sent s sent) (after_groups opening sent) ≡ after_settled s.stamped s.base
 
--- The groups that were received are a beginning of those that were sent, which agree with the
--- history. Each image that a stop now may leave of a disk that was formatted, and has answered as
--- written, gives the opening rows followed by a beginning of those that were sent, up to a mark at
--- least the store's.
+-- the tale's rows up to a mark: those at its start, after the stored commits that end there at most
+abbrev pub tale_rows : ℕ → State → Map
+tale_rows mark s = after_commits (settled_to mark s.stamped) s.base
+
+-- An image gives the opening rows, which are these, followed by a beginning of the groups that were
+-- sent, up to a mark at least this one. Where its mark isn't below the start of the tale, its rows
+-- are the tale's up to it.
+pub record GivesSent (o : Opening) (rows : Map) (s : State) (sent : List GroupData) (least : ℕ)
+    (image : Image) : Type 0 where
+  pub gives : GivesReceived o sent least image
+  pub rows_are : gives.rows ≡ rows
+  pub tale : s.start ≤ last_mark gives.front →
+      after_groups gives.rows gives.front ≡ tale_rows (last_mark gives.front) s
+
+-- The groups that were received are a beginning of those that were sent. These hold the commits of
+-- the state for which the core stands, up to the mark of the last one, and agree with its history,
+-- which is serial. Each image that a stop now may leave of a disk that was formatted, and has
+-- answered as written, gives a beginning of the sent ones, up to a mark at least the store's.
 pub record IsAudited {D : Type 0} (d : Ghosts D) (o : Opening) (c : CoreState)
     (s : StoreState D) : Type 0 where
   pub behind : List GroupData
@@ -46,7 +61,9 @@ pub record IsAudited {D : Type 0} (d : Ghosts D) (o : Opening) (c : CoreState)
   pub steps : List Step
   pub state : State
   pub stands : StandsFor rows steps state c.core
+  pub serial : IsSerial rows steps
+  pub groups : HaveRecordsOf state 0 c.sends.sent
   pub agrees : AgreesWithHistory rows state c.sends.sent
   pub images : IsHonest (d.moment (disk_of s.store)) → WasFormatted o → (image : Image) →
       AllOf (d.may_leave (disk_of s.store)) image →
-      GivesReceived o c.sends.sent (mark_of s.store) image
+      GivesSent o rows state c.sends.sent (mark_of s.store) image

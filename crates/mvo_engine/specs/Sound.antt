@@ -70,8 +70,9 @@ pub record GivesReceived (o : Opening) (received : List GroupData) (least : ℕ)
 
 -- Each image that a stop now may leave of a disk that was formatted, and has answered as written,
 -- gives the opening rows followed by a beginning of the groups that were received, up to a mark at
--- least the store's.
+-- least the store's. A disk that has answered as written until now had so when it was opened.
 pub record LeavesReceived {D : Type 0} (d : Ghosts D) (o : Opening) (received : List GroupData)
     (s : StoreData D) : Type 0 where
+  pub was : IsHonest (d.moment (disk_of s)) → IsTrue o.honest
   pub images : IsHonest (d.moment (disk_of s)) → WasFormatted o → (image : Image) →
       AllOf (d.may_leave (disk_of s)) image → GivesReceived o received (mark_of s) image
