@@ -1,26 +1,23 @@
 -- A reply to a world that stands after a past is justified by the past, and what it is in the trace is what its call is.
-use Rattle.std.proofs.Common.{◌≡◌, ◌≢◌, ℕ, List, [], ◌∷◌, inl, inr, ◌+◌, Bool, true, false, cond, Option, None, Some, length, refl, sym, ap, ◌∙◌, subst, arith}
-use Rattle.std.specs.Prelude.{nat_le, ◌==◌}
-use Rattle.std.proofs.lemmas.Bool.{true≢false, leb-true, leb-false, eqb-true, eq-eqb}
+use Rattle.std.proofs.Common.{◌≡◌, ℕ, [], ◌∷◌, ◌+◌, Bool, true, false, cond, Option, None, Some, length, refl, sym, ap, ◌∙◌, subst}
+use Rattle.std.specs.Prelude.{nat_le, ⊤}
+use Rattle.std.proofs.lemmas.Bool.{leb-true, leb-false}
 use Rattle.mvo_types.specs.declared.ids.TxId.{TxId}
 use Rattle.mvo_types.specs.declared.answer.Answer.{Answer}
 use Rattle.mvo_types.specs.declared.op.Op.{Op}
 use Rattle.mvo_types.specs.declared.refusal.Refusal.{Refusal}
-use Rattle.mvo_types.specs.declared.refusal.Refusal.TheVariants.{RingFull, NothingToDo}
+use Rattle.mvo_types.specs.declared.refusal.Refusal.TheVariants.{NothingToDo}
 use Rattle.mvo_types.specs.AnswerData.{answer_data, AnswerData}
 use Rattle.mvo_model.specs.Trace.{history_of}
 use Rattle.mvo_disk.specs.declared.disk.Disk.{Ghosts}
 use Rattle.mvo_theory.specs.Entries.{entries}
 use Rattle.mvo_theory.specs.State.{StampedTx, State}
-use Rattle.mvo_theory.specs.Marks.{low_water}
-use Rattle.mvo_types.specs.Causes.{when}
-use Rattle.mvo_theory.specs.Causes.{why_not_close, awaited, end_of}
-use Rattle.mvo_theory.specs.Calls.{Call, Result, IsRefusal, MayCome, steps_of, answer_in, steps_unless}
+use Rattle.mvo_theory.specs.Causes.{awaited, end_of}
+use Rattle.mvo_theory.specs.Calls.{Call, Result, MayCome, steps_of, answer_in, steps_unless}
 use Rattle.mvo_theory.specs.Calls.Call.{Begin as BeginCall, Precommit as PrecommitCall, Validate as ValidateCall, Settle as SettleCall, Rollback as RollbackCall, Finish as FinishCall, Do as DoCall, Trim as TrimCall}
 use Rattle.mvo_theory.specs.Calls.Result.{Accepted, Refused as RefusedCall}
 use Rattle.mvo_theory.proofs.Snapshots.{answers_traced}
 use Rattle.mvo_theory.specs.Counts.{checks_in}
-use Rattle.mvo_theory.proofs.Firsts.{FirstOf, first_is, none_is, when_none, when_some}
 use Rattle.mvo_theory.proofs.Justified.{justified}
 use Rattle.mvo_theory.proofs.Answered.{next_drawn, valid_is, settles_so}
 use Rattle.mvo_core.specs.declared.answers.Validation.{Validation}
@@ -31,21 +28,24 @@ use Rattle.mvo_world.specs.WorldData.{WorldData}
 use Rattle.mvo_theory.specs.rests.Laws.{TellsSettling}
 use Rattle.mvo_theory.proofs.rests.Telling.{told_rests, told_settling}
 use Rattle.mvo_world.specs.Past.{Past, course_of, happened}
-use Rattle.mvo_world.specs.Ring.{is_full}
 use Rattle.mvo_world.specs.Standing.{IsAfter}
-use Rattle.mvo_types.specs.declared.limits.TheConstants.{RING_GROUPS}
-use Rattle.mvo_world.specs.Justified.{IsJust, IsNextStamp, IsJustOperation, IsJustCheck, IsJustSettlement, untaken, IsJustClosing, IsJustifiedBy}
+use Rattle.mvo_world.specs.Justified.{IsJust, IsNextStamp, IsJustOperation, IsJustCheck, IsJustSettlement, IsJustifiedBy}
 use Rattle.mvo_world.specs.Forgetting.{IsJustTrim, MayBeTrimmed}
 use Rattle.mvo_world.proofs.Forgetting.{trimmed_so, nothing_so}
 use Rattle.mvo_world.specs.Replies.{IsAsked, IsOpAnswered, IsDrawn, IsReplyTo}
 use Rattle.mvo_world.specs.declared.event.Event.{Event}
 use Rattle.mvo_world.specs.declared.event.Event.TheVariants.{Begin, Do, Precommit, Validate, Settle, Rollback, Finish, Trim, CloseGroup}
 use Rattle.mvo_world.specs.declared.reply.Reply.{Reply}
-use Rattle.mvo_world.specs.declared.reply.Reply.TheVariants.{Began, Answered, Prepared, Validated, Settled, RolledBack, Finished, Trimmed, Closed, Refused}
+use Rattle.mvo_world.specs.declared.reply.Reply.TheVariants.{Began, Answered, Prepared, Validated, Settled, RolledBack, Finished, Trimmed, Refused}
 use Rattle.mvo_model.specs.Trace.Step.{Answers, Terminates}
 use Rattle.mvo_theory.specs.Words.{is_done}
 use Rattle.mvo_core.specs.declared.answers.Finishing.TheVariants.{More, Done}
 use Rattle.mvo_core.specs.declared.answers.Finishing as finishing
+
+-- not the closing of a group
+abbrev pub IsNoClosing : Event → Type 0
+IsNoClosing CloseGroup = ⊥
+IsNoClosing e = ⊤
 
 module _ {D : Type 0} (d : Ghosts D) (p : Past) (w : WorldData D) (h : IsAfter d p w) where
   -- what the call came to
@@ -86,58 +86,32 @@ module _ {D : Type 0} (d : Ghosts D) (p : Past) (w : WorldData D) (h : IsAfter d
       go None told g = subst (IsJustSettlement p t) (sym g) (settles_so p.rows p.steps h.state t may.0 h.core.versions.kept, told)
       go (Some y) told g = subst (IsJustSettlement p t) (sym g) told
 
-  -- the cause of closing, by the ring
-  pub closing : (r : Reply) (w' : WorldData D) → IsReplyTo d w CloseGroup r w' → IsJustClosing p r
-  closing (Closed c) w' q =
-      let came = q.closing p.rows p.steps h.state h.core in
-      let none = none_is (causes (is_full w.ring)) came.0 in
-      let n : length w.ring ≢ RING_GROUPS = λ e. true≢false (sym (eq-eqb (length w.ring) RING_GROUPS e) ∙ when_none (is_full w.ring) RingFull none.1.0) in
-      let u = h.untaken in
-      let r = h.room in
-      omega (arith, n, u, r)
-    where
-      causes : Bool → List (Option Refusal)
-      causes full = when (low_water h.state == h.state.marks.closed) NothingToDo ∷ when full RingFull ∷ []
-  closing (Refused RingFull) w' q = go (why_not_close h.state (is_full w.ring)) refl (q.closing p.rows p.steps h.state h.core).0.refused
-    where
-      is_ring : (is_full w.ring ≡ true) → untaken p ≡ RING_GROUPS
-      is_ring e = let l = eqb-true (length w.ring) RING_GROUPS e in let u = h.untaken in omega (arith, l, u)
-
-      first : FirstOf (when (low_water h.state == h.state.marks.closed) NothingToDo ∷ when (is_full w.ring) RingFull ∷ []) RingFull → untaken p ≡ RING_GROUPS
-      first (inl e) = let other = (when_some (low_water h.state == h.state.marks.closed) NothingToDo RingFull e).1 in absurd cc
-      first (inr (n, inl e)) = is_ring (when_some (is_full w.ring) RingFull RingFull e).0
-      first (inr (n, inr m)) = absurd m.1
-
-      go : (v : Option Refusal) → why_not_close h.state (is_full w.ring) ≡ v → IsRefusal true v RingFull → untaken p ≡ RING_GROUPS
-      go (Some why) e q' = first (first_is (when (low_water h.state == h.state.marks.closed) NothingToDo ∷ when (is_full w.ring) RingFull ∷ []) RingFull (e ∙ ap (λ (v : Refusal). Some v) (sym q'))).is
-      go None e q' = absurd cc
-  closing r w' q = tt
-
   trim : (m : ℕ) (w' : WorldData D) → IsAsked w (TrimCall m) Accepted w' → MayBeTrimmed p m
   trim m w' asked = trimmed_so p h.state h.core.versions.kept h.counted h.rests m (asked.leads p.rows p.steps h.state h.core).may
 
   no_trim : (m : ℕ) (w' : WorldData D) → IsAsked w (TrimCall m) (RefusedCall NothingToDo) w' → MayBeTrimmed p m → ⊥
   no_trim m w' asked = nothing_so p h.state h.core.versions.kept h.counted h.rests m (asked.leads p.rows p.steps h.state h.core).may
 
-  pub justified_reply : (e : Event) (r : Reply) (w' : WorldData D) → IsReplyTo d w e r w' → IsJustifiedBy p e r
-  justified_reply Begin (Began t) w' q = (just BeginCall Accepted w' q.0, drawn t.0 q.1)
-  justified_reply Begin (Refused r) w' q = just BeginCall (RefusedCall r) w' q
-  justified_reply (Do t op) (Answered a) w' q = done t.0 op a w' q
-  justified_reply (Do t op) (Refused r) w' q = just (DoCall t.0 op) (RefusedCall r) w' q
-  justified_reply (Precommit t) (Prepared e) w' q = (just (PrecommitCall t.0) Accepted w' q.0, drawn e.0 q.1)
-  justified_reply (Precommit t) (Refused r) w' q = just (PrecommitCall t.0) (RefusedCall r) w' q
-  justified_reply (Validate t) (Validated v) w' q = (just (ValidateCall t.0) Accepted w' q.0, check t.0 v w' q.0 q.1)
-  justified_reply (Validate t) (Refused r) w' q = just (ValidateCall t.0) (RefusedCall r) w' q
-  justified_reply (Settle t) (Settled a) w' q = (just (SettleCall t.0) Accepted w' q.0, settlement t.0 a w' q.0 q.1)
-  justified_reply (Settle t) (Refused r) w' q = just (SettleCall t.0) (RefusedCall r) w' q
-  justified_reply (Rollback t) RolledBack w' q = just (RollbackCall t.0) Accepted w' q
-  justified_reply (Rollback t) (Refused r) w' q = just (RollbackCall t.0) (RefusedCall r) w' q
-  justified_reply (Finish t) (Finished a) w' q = just (FinishCall t.0) Accepted w' q.0
-  justified_reply (Finish t) (Refused r) w' q = just (FinishCall t.0) (RefusedCall r) w' q
-  justified_reply (Trim upto) (Trimmed stamp) w' q = trim upto.0 w' q.1.asked
-  justified_reply (Trim upto) (Refused r) w' q = subst (λ (v : Refusal). IsJustTrim p upto.0 (Refused v)) (sym q.0) (no_trim upto.0 w' (subst (λ (v : Refusal). IsAsked w (TrimCall upto.0) (RefusedCall v) w') q.0 q.1))
-  justified_reply CloseGroup r w' q = closing r w' q
-  justified_reply e r w' q = search
+  -- of each event but the closing of a group
+  pub justified_reply : (e : Event) (r : Reply) (w' : WorldData D) → IsNoClosing e → IsReplyTo d w e r w' → IsJustifiedBy p e r
+  justified_reply Begin (Began t) w' o q = (just BeginCall Accepted w' q.0, drawn t.0 q.1)
+  justified_reply Begin (Refused r) w' o q = just BeginCall (RefusedCall r) w' q
+  justified_reply (Do t op) (Answered a) w' o q = done t.0 op a w' q
+  justified_reply (Do t op) (Refused r) w' o q = just (DoCall t.0 op) (RefusedCall r) w' q
+  justified_reply (Precommit t) (Prepared e) w' o q = (just (PrecommitCall t.0) Accepted w' q.0, drawn e.0 q.1)
+  justified_reply (Precommit t) (Refused r) w' o q = just (PrecommitCall t.0) (RefusedCall r) w' q
+  justified_reply (Validate t) (Validated v) w' o q = (just (ValidateCall t.0) Accepted w' q.0, check t.0 v w' q.0 q.1)
+  justified_reply (Validate t) (Refused r) w' o q = just (ValidateCall t.0) (RefusedCall r) w' q
+  justified_reply (Settle t) (Settled a) w' o q = (just (SettleCall t.0) Accepted w' q.0, settlement t.0 a w' q.0 q.1)
+  justified_reply (Settle t) (Refused r) w' o q = just (SettleCall t.0) (RefusedCall r) w' q
+  justified_reply (Rollback t) RolledBack w' o q = just (RollbackCall t.0) Accepted w' q
+  justified_reply (Rollback t) (Refused r) w' o q = just (RollbackCall t.0) (RefusedCall r) w' q
+  justified_reply (Finish t) (Finished a) w' o q = just (FinishCall t.0) Accepted w' q.0
+  justified_reply (Finish t) (Refused r) w' o q = just (FinishCall t.0) (RefusedCall r) w' q
+  justified_reply (Trim upto) (Trimmed stamp) w' o q = trim upto.0 w' q.1.asked
+  justified_reply (Trim upto) (Refused r) w' o q = subst (λ (v : Refusal). IsJustTrim p upto.0 (Refused v)) (sym q.0) (no_trim upto.0 w' (subst (λ (v : Refusal). IsAsked w (TrimCall upto.0) (RefusedCall v) w') q.0 q.1))
+  justified_reply CloseGroup r w' o q = absurd o
+  justified_reply e r w' o q = search
 
 -- the answer to an operation is that of the serial step on the snapshot
 pub answered : (s : State) {t : ℕ} {o : Op} (a : Answer) → answer_data a ≡ answer_in s t o → Answers t o (answer_data a) ∷ [] ≡ steps_of s (DoCall t o) Accepted

@@ -69,7 +69,8 @@ use Rattle.mvo_world.specs.declared.event.Event.TheVariants.{Do, Collect, CloseG
 use Rattle.mvo_world.specs.declared.reply.Reply.{Reply}
 use Rattle.mvo_world.specs.declared.reply.Reply.TheVariants.{Answered, Collected, Closed, Taken, Durable, Polled, Refused}
 use Rattle.mvo_world.proofs.Chain.{groups_stay, group_of_next}
-use Rattle.mvo_world.proofs.Justified.{answered, closing as closing_so, justified_reply}
+use Rattle.mvo_world.proofs.Closing.{closed_so, unclosed_so}
+use Rattle.mvo_world.proofs.Justified.{IsNoClosing, answered, justified_reply}
 use Rattle.mvo_world.proofs.Standing.{mark_after-append, groups_front, groups_back, groups_push, marks_rise, follow_to, prefix_image}
 
 -- ---- the groups that wait
@@ -182,14 +183,14 @@ module _ {D : Type 0} (d : Ghosts D) where
       subst (λ (q : Past). IsAfter d q w') (silent_past p e r silent) (goes_on p w w' h p.steps p.trims h.state (core p h) h.counted h.rests h.closed (unchanged h.state) wait mark store p.acknowledged (subst (λ m. AllByRecursion (λ n. n ≤ m) p.acknowledged) (sym mark) h.covers) p.taken (subst (HasRoomFor p.taken p.closed) (sym ring) (h.untaken, h.room))))
 
   -- ---- a call of the store that takes no group and makes none durable
-  store_moved : (w : WorldData D) (store : StoreData D) (e : Event) (r : Reply) → IsSilent e r → IsReplyTo d w e r (record w { store = store }) → KeepsTaken w.store store → (IsHonest (d.moment (disk_of store)) → HasHonestDisk d w) → (IsHonest (d.moment (disk_of store)) → KeepsAllRows d w.store store) → IsWorldStep d w e r (record w { store = store })
-  store_moved w store e r silent reply taken was keeps =
-      moved (IsReplyTo d) IsJustifiedBy w (record w { store = store }) e r silent reply (λ p h. justified_reply d p w h e r (record w { store = store }) reply) (λ p h. h.core) refl (ap (λ (q : Option GroupData). option_to_list q ++ w.ring) taken.pending) taken.mark was keeps
+  store_moved : (w : WorldData D) (store : StoreData D) (e : Event) (r : Reply) → IsNoClosing e → IsSilent e r → IsReplyTo d w e r (record w { store = store }) → KeepsTaken w.store store → (IsHonest (d.moment (disk_of store)) → HasHonestDisk d w) → (IsHonest (d.moment (disk_of store)) → KeepsAllRows d w.store store) → IsWorldStep d w e r (record w { store = store })
+  store_moved w store e r other silent reply taken was keeps =
+      moved (IsReplyTo d) IsJustifiedBy w (record w { store = store }) e r silent reply (λ p h. justified_reply d p w h e r (record w { store = store }) other reply) (λ p h. h.core) refl (ap (λ (q : Option GroupData). option_to_list q ++ w.ring) taken.pending) taken.mark was keeps
 
   -- so of an accepted call, but for the one that opens a gate
   done : (w : WorldData D) {store : StoreData D} (call : StoreCall) (answer : Done) → IsStoreStep d w.store (CallOf call) (Ok answer) store → IsQuiet (CallOf call) → IsSilent (Store call) (reply_of (Ok answer)) → AnswersCall d w.store call answer store → IsWorldStep d w (Store call) (reply_of (Ok answer)) (record w { store = store })
   done w {store} call answer h quiet silent answers =
-      store_moved w store (Store call) (reply_of (Ok answer)) silent (Ok answer, refl, record { comes = h.comes; answers = answers; rest = refl })
+      store_moved w store (Store call) (reply_of (Ok answer)) tt silent (Ok answer, refl, record { comes = h.comes; answers = answers; rest = refl })
       (quiet_taken d w.store (CallOf call) (Ok answer) store quiet h.comes) h.honest (quiet_rows d w.store (CallOf call) (Ok answer) store quiet h)
 
   silent : (call : StoreCall) (answer : Done) → IsQuiet (CallOf call) → IsSilent (Store call) (reply_of (Ok answer))
@@ -199,7 +200,7 @@ module _ {D : Type 0} (d : Ghosts D) where
   -- and of one that is refused
   refused : (w : WorldData D) {store : StoreData D} (call : StoreCall) (why : Refusal) → IsStoreStep {A = Done} d w.store (CallOf call) (Err why) store → IsWorldStep d w (Store call) (Refused why) (record w { store = store })
   refused w {store} call why h =
-      store_moved w store (Store call) (Refused why) (silent_refused call) (Err why, refl, record { comes = h.comes; answers = tt; rest = refl })
+      store_moved w store (Store call) (Refused why) tt (silent_refused call) (Err why, refl, record { comes = h.comes; answers = tt; rest = refl })
       (left_taken d (CallOf call) why w.store store h.comes.left) h.honest (refused_rows Done d w.store (CallOf call) why store h)
     where
       silent_refused : (call : StoreCall) → IsSilent (Store call) (Refused why)
@@ -282,9 +283,9 @@ module _ {D : Type 0} (d : Ghosts D) where
         → ((opening : Map) (steps : List Step) (s : State) → StandsFor opening steps s w.core → LeadsOn opening steps s c result core)
         → (IsAsked w c result (record w { core = core }) → IsReplyTo d w e r (record w { core = core }))
         → ((opening : Map) (steps : List Step) (s : State) → StandsFor opening steps s w.core → happened e r ≡ steps_of s c result)
-        → (acknowledged_by e r ≡ []) × (groups_by e r ≡ ([], 0, trimmed_to c result)) → IsWorldStep d w e r (record w { core = core })
+        → (acknowledged_by e r ≡ []) × (groups_by e r ≡ ([], 0, trimmed_to c result)) × IsNoClosing e → IsWorldStep d w e r (record w { core = core })
     told w {core} {c} {result} {e} {r} leads reply is silent =
-        stepped (IsReplyTo d) IsJustifiedBy w w' e r (λ rows. rows) (reply (record { leads = leads; rest = refl })) (λ p h. justified_reply d p w h e r w' (reply (record { leads = leads; rest = refl }))) (λ now. now) (λ now. refused_keeps d only_now w.store) (λ p h store.
+        stepped (IsReplyTo d) IsJustifiedBy w w' e r (λ rows. rows) (reply (record { leads = leads; rest = refl })) (λ p h. justified_reply d p w h e r w' silent.2 (reply (record { leads = leads; rest = refl }))) (λ now. now) (λ now. refused_keeps d only_now w.store) (λ p h store.
         let l = leads p.rows p.steps h.state h.core in
         let kept = h.core.versions.kept in
         let next = after_call h.state c result in
@@ -297,11 +298,11 @@ module _ {D : Type 0} (d : Ghosts D) where
 
     -- an operation is answered
     pub answered_step : (w : WorldData D) {core : CoreData} (t : TxId) (o : Op) (a : Answer) → IsStep {A = Answer} w.core (DoCall t.0 o) (Ok a) core → IsAnswered w.core t.0 o a → IsWorldStep d w (Do t o) (Answered a) (record w { core = core })
-    answered_step w t o a step answer = told w step (λ asked. (asked, answer)) (λ opening xs s h. answered s a (answer opening xs s h)) (refl, refl)
+    answered_step w t o a step answer = told w step (λ asked. (asked, answer)) (λ opening xs s h. answered s a (answer opening xs s h)) (refl, refl, tt)
 
     -- or refused
     pub unanswered_step : (w : WorldData D) {core : CoreData} (t : TxId) (o : Op) {r : Refusal} → IsStep {A = Answer} w.core (DoCall t.0 o) (Err r) core → IsWorldStep d w (Do t o) (Refused r) (record w { core = core })
-    unanswered_step w t o step = told w step (λ asked. asked) (λ opening xs s h. refl) (refl, refl)
+    unanswered_step w t o step = told w step (λ asked. asked) (λ opening xs s h. refl) (refl, refl, tt)
 
     -- a collection, over which the state stays
     pub collected : (w : WorldData D) {core : CoreData} (c : Collection) → AreFewer w.core c core → StandsAsBefore w.core core → HasNewVersions w.core core → IsWorldStep d w Collect (Collected c) (record w { core = core })
@@ -313,7 +314,7 @@ module _ {D : Type 0} (d : Ghosts D) where
     -- a group is closed
     pub closed_step : (w : WorldData D) {core : CoreData} {ring : List GroupData} (c : closing.Closed) → IsLinked w → IsClosingInto w.core w.ring (Ok c) core ring → IsWorldStep d w CloseGroup (Closed c) (record w { core = core; ring = ring })
     closed_step w {core} {ring} c linked step =
-        stepped (IsReplyTo d) IsJustifiedBy w w' CloseGroup (Closed c) (λ rows. rows) (record { closing = step; store = refl }) (λ p h. closing_so d p w h (Closed c) w' (record { closing = step; store = refl })) (λ now. now) (λ now. refused_keeps d only_now w.store) after
+        stepped (IsReplyTo d) IsJustifiedBy w w' CloseGroup (Closed c) (λ rows. rows) (record { closing = step; store = refl }) (λ p h. closed_so d p w h linked c w' (record { closing = step; store = refl })) (λ now. now) (λ now. refused_keeps d only_now w.store) after
       where
         w' : WorldData D
         w' = record w { core = core; ring = ring }
@@ -333,7 +334,7 @@ module _ {D : Type 0} (d : Ghosts D) where
             let longer : length ring ≡ length w.ring + 1 = ap (λ (gs : List GroupData). length gs) there ∙ length-append w.ring (g ∷ []) in
             let more : length (p.closed ++ g.mark ∷ []) ≡ length p.closed + 1 = length-append p.closed (g.mark ∷ []) in
             let untaken = h.untaken in
-            let fits = closing_so d p w h (Closed c) w' (record { closing = step; store = refl }) in
+            let fits = (closed_so d p w h linked c w' (record { closing = step; store = refl })).1 in
             let prev_is : g.prev ≡ mark_after first (h.sent ++ waiting w) =
             now.next.prev ∙ ap (λ (m : Marks). m.closed) h.core.marks
             ∙ sym (follow_to (mark_of w.store) (closed_mark_of w.core) (waiting w) linked)
@@ -362,7 +363,7 @@ module _ {D : Type 0} (d : Ghosts D) where
     unclosed_step w {core} {ring} r i step =
         let same = (step i.core.opening i.core.steps i.core.state i.core.stands).1 in
         moved (IsReplyTo d) IsJustifiedBy w (record w { core = core; ring = ring }) CloseGroup (Refused r) (refl, refl, refl) (record { closing = step; store = refl })
-        (λ p h. closing_so d p w h (Refused r) (record w { core = core; ring = ring }) (record { closing = step; store = refl }))
+        (λ p h. unclosed_so d p w h i.linked r (record w { core = core; ring = ring }) (record { closing = step; store = refl }))
         (λ p h. (step p.rows p.steps h.state h.core).0.stands) same (ap (λ (gs : List GroupData). option_to_list (pending_of w.store) ++ gs) same) refl (λ now. now) (λ now. refused_keeps d only_now w.store)
 
     -- a poll

@@ -1,7 +1,7 @@
 -- What justifies the reply to an event of a transaction: what was asked and answered before it.
-use Rattle.std.specs.Prelude.{◌≡◌, ◌⊎◌, ◌+◌, ◌-◌, ◌<◌, ◌≤◌, ℕ, length, ⊤}
+use Rattle.std.specs.Prelude.{◌≡◌, ◌⊎◌, ◌+◌, ◌<◌, ◌≤◌, ℕ, length, ⊤}
 use Rattle.mvo_types.specs.declared.op.Op.{Op}
-use Rattle.mvo_types.specs.declared.refusal.Refusal.TheVariants.{RingFull, OutOfMemory}
+use Rattle.mvo_types.specs.declared.refusal.Refusal.TheVariants.{OutOfMemory}
 use Rattle.mvo_types.specs.AnswerData.{answer_data}
 use Rattle.mvo_model.specs.Serial.{answer_to}
 use Rattle.mvo_model.specs.Trace.{history_of, phase_of}
@@ -22,11 +22,11 @@ use Rattle.mvo_core.specs.declared.answers.Settlement.TheVariants.{Committed, Wa
 use Rattle.mvo_world.specs.Past.{Past, course_of}
 use Rattle.mvo_world.specs.Replies.{HasRow}
 use Rattle.mvo_world.specs.Forgetting.{IsJustTrim}
-use Rattle.mvo_types.specs.declared.limits.TheConstants.{RING_GROUPS}
+use Rattle.mvo_world.specs.Closing.{IsJustClosing}
 use Rattle.mvo_world.specs.declared.event.Event.{Event}
 use Rattle.mvo_world.specs.declared.event.Event.TheVariants.{Begin, Do, Precommit, Validate, Settle, Rollback, Finish, Trim, CloseGroup}
 use Rattle.mvo_world.specs.declared.reply.Reply.{Reply}
-use Rattle.mvo_world.specs.declared.reply.Reply.TheVariants.{Began, Answered, Prepared, Validated, Settled, RolledBack, Finished, Closed, Refused}
+use Rattle.mvo_world.specs.declared.reply.Reply.TheVariants.{Began, Answered, Prepared, Validated, Settled, RolledBack, Finished, Refused}
 
 -- what the call came to: with its cause where it is refused, and else with none; and 22 just where
 -- one on whom its transaction rests was aborted
@@ -56,18 +56,8 @@ IsJustSettlement p t (Committed e) =
     (phase_of t p.steps ≡ Preparing e.0) × AwaitsNone (course_of p) t
 IsJustSettlement p t (Waiting x) = IsFirstAwaited (course_of p) t x.0
 
--- how many closed groups the store hasn't taken
-abbrev pub untaken : Past → ℕ
-untaken p = length p.closed - p.taken
-
--- a group is closed while the ring has room for it, and refused RingFull while it has none
-abbrev pub IsJustClosing : Past → Reply → Type 0
-IsJustClosing p (Closed c) = untaken p < RING_GROUPS
-IsJustClosing p (Refused RingFull) = untaken p ≡ RING_GROUPS
-IsJustClosing p r = ⊤
-
 -- The reply is justified by the past. Of events that are of no transaction it says when a trim has
--- nothing to do, and when the ring is full.
+-- nothing to do, and a group that is closed.
 abbrev pub IsJustifiedBy : Past → Event → Reply → Type 0
 IsJustifiedBy p Begin (Began t) = IsJust p BeginCall Accepted × IsNextStamp p t.0
 IsJustifiedBy p Begin (Refused r) = IsJust p BeginCall (RefusedCall r)

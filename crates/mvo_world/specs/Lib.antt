@@ -6,6 +6,7 @@ pub mod Past
 pub mod Standing
 pub mod Replies
 pub mod Forgetting
+pub mod Closing
 pub mod Justified
 pub mod Steps
 pub mod Promise

@@ -1,0 +1,49 @@
+-- What the past says of the closing of a group: up to where all are settled, and what was closed.
+use Rattle.std.specs.Prelude.{◌≡◌, ◌⊎◌, ◌+◌, ◌-◌, ◌<◌, ◌≤◌, ℕ, List, [], ◌∷◌, length}
+use Rattle.mvo_types.specs.declared.limits.TheConstants.{RING_GROUPS}
+use Rattle.mvo_types.specs.declared.refusal.Refusal.TheVariants.{NothingToDo, RingFull, OutOfMemory}
+use Rattle.mvo_model.specs.Trace.{phase_of}
+use Rattle.mvo_model.specs.Trace.Phase.{Preparing}
+use Rattle.mvo_world.specs.Past.{Past}
+use Rattle.mvo_world.specs.Forgetting.{last_drawn}
+use Rattle.mvo_world.specs.declared.reply.Reply.{Reply}
+use Rattle.mvo_world.specs.declared.reply.Reply.TheVariants.{Closed, Refused}
+
+-- no transaction is Preparing
+abbrev pub NoneIsPreparing : Past → Type 0
+NoneIsPreparing p = (t e : ℕ) → phase_of t p.steps ≡ Preparing e → ⊥
+
+-- it is the least end of those that are Preparing
+pub record IsLeastEnd (p : Past) (e : ℕ) : Type 0 where
+  pub tx : ℕ
+  pub preparing : phase_of tx p.steps ≡ Preparing e
+  pub least : (t f : ℕ) → phase_of t p.steps ≡ Preparing f → e ≤ f
+
+-- the low-water: the last draw, or just below the least end of those that are Preparing
+abbrev pub IsLowWater : Past → ℕ → Type 0
+IsLowWater p n = (NoneIsPreparing p × (n ≡ last_drawn p)) ⊎ IsLeastEnd p (n + 1)
+
+abbrev pub last_of : ℕ → List ℕ → ℕ
+last_of m [] = m
+last_of m (n ∷ ns) = last_of n ns
+
+-- the mark of the group that was closed last, or the opening one
+abbrev pub last_closed : Past → ℕ
+last_closed p = last_of p.mark p.closed
+
+-- nothing was drawn or settled that a group could close: the low-water is the last group's mark
+abbrev pub IsAllClosed : Past → Type 0
+IsAllClosed p = IsLowWater p (last_closed p)
+
+-- how many closed groups the store hasn't taken
+abbrev pub untaken : Past → ℕ
+untaken p = length p.closed - p.taken
+
+-- There is nothing to do just where the low-water is the last group's mark; else the ring is full
+-- just where it has no room; else a group is closed, or is refused memory.
+abbrev pub IsJustClosing : Past → Reply → Type 0
+IsJustClosing p (Closed c) = (IsAllClosed p → ⊥) × (untaken p < RING_GROUPS)
+IsJustClosing p (Refused NothingToDo) = IsAllClosed p
+IsJustClosing p (Refused RingFull) = (IsAllClosed p → ⊥) × (untaken p ≡ RING_GROUPS)
+IsJustClosing p (Refused OutOfMemory) = (IsAllClosed p → ⊥) × (untaken p < RING_GROUPS)
+IsJustClosing p r = ⊥
