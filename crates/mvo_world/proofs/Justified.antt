@@ -32,6 +32,7 @@ use Rattle.mvo_world.specs.Standing.{IsAfter}
 use Rattle.mvo_world.specs.Justified.{IsJust, IsNextStamp, IsJustOperation, IsJustCheck, IsJustSettlement, IsJustifiedBy}
 use Rattle.mvo_world.specs.Forgetting.{IsJustTrim, MayBeTrimmed}
 use Rattle.mvo_world.proofs.Forgetting.{trimmed_so, nothing_so}
+use Rattle.mvo_world.proofs.Order.{first_cause_stands}
 use Rattle.mvo_world.specs.Replies.{IsAsked, IsOpAnswered, IsDrawn, IsReplyTo}
 use Rattle.mvo_world.specs.declared.event.Event.{Event}
 use Rattle.mvo_world.specs.declared.event.Event.TheVariants.{Begin, Do, Precommit, Validate, Settle, Rollback, Finish, Trim, CloseGroup}
@@ -52,7 +53,8 @@ module _ {D : Type 0} (d : Ghosts D) (p : Past) (w : WorldData D) (h : IsAfter d
   just : (c : Call) (r : Result) (w' : WorldData D) → IsAsked w c r w' → IsJust p c r
   just c r w' asked =
       let may = (asked.leads p.rows p.steps h.state h.core).may in
-      (justified p.rows p.mark p.steps h.state c r h.core.versions.kept h.counted may, told_rests (course_of p) h.state h.core.versions.kept h.rests c r may)
+      let is = justified p.rows p.mark p.steps h.state c r h.core.versions.kept h.counted may in
+      (is, first_cause_stands p h.state h.core.versions.kept h.counted c r may is, told_rests (course_of p) h.state h.core.versions.kept h.rests c r may)
 
   drawn : (n : ℕ) → IsDrawn w n → IsNextStamp p n
   drawn n e = next_drawn p.mark p.steps h.state n h.counted (e p.rows p.steps h.state h.core)

@@ -3,6 +3,7 @@ mod Ends
 pub mod Standing
 mod Forgetting
 mod Closing
+mod Order
 pub mod Justified
 pub mod Moves
 pub mod Runs

@@ -23,15 +23,17 @@ use Rattle.mvo_world.specs.Past.{Past, course_of}
 use Rattle.mvo_world.specs.Replies.{HasRow}
 use Rattle.mvo_world.specs.Forgetting.{IsJustTrim}
 use Rattle.mvo_world.specs.Closing.{IsJustClosing}
+use Rattle.mvo_world.specs.Order.{NoneBefore}
 use Rattle.mvo_world.specs.declared.event.Event.{Event}
 use Rattle.mvo_world.specs.declared.event.Event.TheVariants.{Begin, Do, Precommit, Validate, Settle, Rollback, Finish, Trim, CloseGroup}
 use Rattle.mvo_world.specs.declared.reply.Reply.{Reply}
 use Rattle.mvo_world.specs.declared.reply.Reply.TheVariants.{Began, Answered, Prepared, Validated, Settled, RolledBack, Finished, Refused}
 
--- what the call came to: with its cause where it is refused, and else with none; and 22 just where
--- one on whom its transaction rests was aborted
+-- what the call came to: with the first cause that stands where it is refused, and else with none;
+-- and 22 just where one on whom its transaction rests was aborted
 abbrev pub IsJust : Past → theory.Call → theory.Result → Type 0
-IsJust p c r = IsJustified p.rows p.mark p.steps c r × TellsRests (course_of p) c r
+IsJust p c r =
+    IsJustified p.rows p.mark p.steps c r × NoneBefore p c r × TellsRests (course_of p) c r
 
 -- the timestamp behind those that were drawn
 abbrev pub IsNextStamp : Past → ℕ → Type 0

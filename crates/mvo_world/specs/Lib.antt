@@ -7,6 +7,7 @@ pub mod Standing
 pub mod Replies
 pub mod Forgetting
 pub mod Closing
+pub mod Order
 pub mod Justified
 pub mod Steps
 pub mod Promise
