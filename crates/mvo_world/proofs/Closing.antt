@@ -32,7 +32,7 @@ use Rattle.mvo_world.specs.WorldData.{WorldData, waiting, IsLinked}
 use Rattle.mvo_world.specs.Past.{Past}
 use Rattle.mvo_world.specs.Ring.{is_full}
 use Rattle.mvo_world.specs.Standing.{IsAfter}
-use Rattle.mvo_world.specs.Closing.{NoneIsPreparing, IsLeastEnd, IsLowWater, last_of, last_closed, IsAllClosed, untaken, IsJustClosing}
+use Rattle.mvo_world.specs.Closing.{NoneIsPreparing, IsLeastEnd, IsLowWaterOf, last_of_marks, last_closed, IsAllClosed, untaken, IsJustClosing}
 use Rattle.mvo_world.specs.Replies.{IsReplyTo}
 use Rattle.mvo_world.specs.declared.event.Event.TheVariants.{CloseGroup}
 use Rattle.mvo_world.specs.declared.reply.Reply.TheVariants.{Closed, Refused}
@@ -117,10 +117,10 @@ module _ (p : Past) (s : State) (kept : IsKept p.rows p.steps s) (counted : HasC
         omega (arith, l, ends, is);
   }
 
-  low_is : IsLowWater p (low_water s)
+  low_is : IsLowWaterOf p (low_water s)
   low_is = go (least_open s.stamped) refl
     where
-      go : (o : Option ℕ) → least_open s.stamped ≡ o → IsLowWater p (below_open s.clock o)
+      go : (o : Option ℕ) → least_open s.stamped ≡ o → IsLowWaterOf p (below_open s.clock o)
       go None q = inl (none_prepares (all_settled s.stamped q), counted.clock)
       go (Some e) q =
           let i = first_open s.stamped e kept.sound.rising q in
@@ -128,16 +128,16 @@ module _ (p : Past) (s : State) (kept : IsKept p.rows p.steps s) (counted : HasC
           let ends = i.ends in
           inr (least_end e (below_open s.clock (Some e)) i (omega (arith, begun, ends)))
 
-  low_one : (n : ℕ) → IsLowWater p n → low_water s ≡ n
+  low_one : (n : ℕ) → IsLowWaterOf p n → low_water s ≡ n
   low_one n low = go low_is low
     where
-      go : IsLowWater p (low_water s) → IsLowWater p n → low_water s ≡ n
+      go : IsLowWaterOf p (low_water s) → IsLowWaterOf p n → low_water s ≡ n
       go (inl a) (inl b) = a.1 ∙ sym b.1
       go (inl a) (inr b) = absurd (a.0 b.tx (n + 1) b.preparing)
       go (inr a) (inl b) = absurd (b.0 a.tx (low_water s + 1) a.preparing)
       go (inr a) (inr b) = let up = a.least b.tx (n + 1) b.preparing in let down = b.least a.tx (low_water s + 1) a.preparing in omega (arith, up, down)
 
-last_marks : (m : ℕ) (gs : List GroupData) → mark_after m gs ≡ last_of m (map (λ g. g.mark) gs)
+last_marks : (m : ℕ) (gs : List GroupData) → mark_after m gs ≡ last_of_marks m (map (λ g. g.mark) gs)
 last_marks m [] = refl
 last_marks m (g ∷ gs) = last_marks g.mark gs
 
@@ -149,10 +149,10 @@ module _ {D : Type 0} (d : Ghosts D) (p : Past) (w : WorldData D) (h : IsAfter d
       ∙ ap (λ (m : ℕ). mark_after m (waiting w)) h.mark
       ∙ sym (mark_after-append p.mark h.sent (waiting w))
       ∙ last_marks p.mark (h.sent ++ waiting w)
-      ∙ ap (last_of p.mark) h.marks
+      ∙ ap (last_of_marks p.mark) h.marks
 
   none_left : (low_water h.state == h.state.marks.closed) ≡ true → IsAllClosed p
-  none_left e = subst (IsLowWater p) (eqb-true (low_water h.state) h.state.marks.closed e ∙ closed_is) (low_is p h.state h.core.versions.kept h.counted)
+  none_left e = subst (IsLowWaterOf p) (eqb-true (low_water h.state) h.state.marks.closed e ∙ closed_is) (low_is p h.state h.core.versions.kept h.counted)
 
   one_left : (low_water h.state == h.state.marks.closed) ≡ false → IsAllClosed p → ⊥
   one_left e all = true≢false (sym (eq-eqb (low_water h.state) h.state.marks.closed (low_one p h.state h.core.versions.kept h.counted (last_closed p) all ∙ sym closed_is)) ∙ e)

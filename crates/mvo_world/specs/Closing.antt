@@ -20,20 +20,20 @@ pub record IsLeastEnd (p : Past) (e : ℕ) : Type 0 where
   pub least : (t f : ℕ) → phase_of t p.steps ≡ Preparing f → e ≤ f
 
 -- the low-water: the last draw, or just below the least end of those that are Preparing
-abbrev pub IsLowWater : Past → ℕ → Type 0
-IsLowWater p n = (NoneIsPreparing p × (n ≡ last_drawn p)) ⊎ IsLeastEnd p (n + 1)
+abbrev pub IsLowWaterOf : Past → ℕ → Type 0
+IsLowWaterOf p n = (NoneIsPreparing p × (n ≡ last_drawn p)) ⊎ IsLeastEnd p (n + 1)
 
-abbrev pub last_of : ℕ → List ℕ → ℕ
-last_of m [] = m
-last_of m (n ∷ ns) = last_of n ns
+abbrev pub last_of_marks : ℕ → List ℕ → ℕ
+last_of_marks m [] = m
+last_of_marks m (n ∷ ns) = last_of_marks n ns
 
 -- the mark of the group that was closed last, or the opening one
 abbrev pub last_closed : Past → ℕ
-last_closed p = last_of p.mark p.closed
+last_closed p = last_of_marks p.mark p.closed
 
 -- nothing was drawn or settled that a group could close: the low-water is the last group's mark
 abbrev pub IsAllClosed : Past → Type 0
-IsAllClosed p = IsLowWater p (last_closed p)
+IsAllClosed p = IsLowWaterOf p (last_closed p)
 
 -- how many closed groups the store hasn't taken
 abbrev pub untaken : Past → ℕ
