@@ -1,17 +1,20 @@
 -- A reply to a world that stands after a past is justified by the past, and what it is in the trace is what its call is.
-use Rattle.std.proofs.Common.{◌≡◌, ℕ, [], ◌∷◌, ◌+◌, Bool, true, false, cond, Option, None, Some, length, refl, sym, ap, ◌∙◌, subst}
-use Rattle.std.specs.Prelude.{nat_le, ⊤}
-use Rattle.std.proofs.lemmas.Bool.{leb-true, leb-false}
+use Rattle.std.proofs.Common.{◌≡◌, ℕ, ◌≤◌, List, [], ◌∷◌, ◌+◌, Bool, true, false, cond, Option, None, Some, length, refl, sym, ap, ◌∙◌, subst, arith}
+use Rattle.std.specs.Prelude.{nat_le, ◌==◌, ⊤}
+use Rattle.std.proofs.lemmas.Bool.{leb-true, leb-false, eqb-true}
 use Rattle.mvo_types.specs.declared.ids.TxId.{TxId}
 use Rattle.mvo_types.specs.declared.answer.Answer.{Answer}
 use Rattle.mvo_types.specs.declared.op.Op.{Op}
 use Rattle.mvo_types.specs.declared.refusal.Refusal.{Refusal}
 use Rattle.mvo_types.specs.declared.refusal.Refusal.TheVariants.{NothingToDo}
 use Rattle.mvo_types.specs.AnswerData.{answer_data, AnswerData}
-use Rattle.mvo_model.specs.Trace.{history_of}
+use Rattle.std.specs.List.{AllByRecursion}
+use Rattle.mvo_model.specs.Trace.{Step, history_of}
+use Rattle.mvo_theory.proofs.Cases.{finish_none, no_ended}
+use Rattle.mvo_theory.proofs.Words.{Few}
 use Rattle.mvo_disk.specs.declared.disk.Disk.{Ghosts}
 use Rattle.mvo_theory.specs.Entries.{entries}
-use Rattle.mvo_theory.specs.State.{StampedTx, State}
+use Rattle.mvo_theory.specs.State.{StampedTx, EndedTx, State, ended_of}
 use Rattle.mvo_theory.specs.Causes.{awaited, end_of}
 use Rattle.mvo_theory.specs.Calls.{Call, Result, MayCome, steps_of, answer_in, steps_unless}
 use Rattle.mvo_theory.specs.Calls.Call.{Begin as BeginCall, Precommit as PrecommitCall, Validate as ValidateCall, Settle as SettleCall, Rollback as RollbackCall, Finish as FinishCall, Do as DoCall, Trim as TrimCall}
@@ -23,13 +26,13 @@ use Rattle.mvo_theory.proofs.Answered.{next_drawn, valid_is, settles_so}
 use Rattle.mvo_core.specs.declared.answers.Validation.{Validation}
 use Rattle.mvo_core.specs.declared.answers.Validation.TheVariants.{More, Valid}
 use Rattle.mvo_core.specs.declared.answers.Settlement.{Settlement}
-use Rattle.mvo_core.specs.Steps.{settled_as, IsValidation, IsSettlement}
+use Rattle.mvo_core.specs.Steps.{settled_as, IsValidation, IsSettlement, IsFinishing}
 use Rattle.mvo_world.specs.WorldData.{WorldData}
 use Rattle.mvo_theory.specs.rests.Laws.{TellsSettling}
 use Rattle.mvo_theory.proofs.rests.Telling.{told_rests, told_settling}
 use Rattle.mvo_world.specs.Past.{Past, course_of, happened}
 use Rattle.mvo_world.specs.Standing.{IsAfter}
-use Rattle.mvo_world.specs.Justified.{IsJust, IsNextStamp, IsJustOperation, IsJustCheck, IsJustSettlement, IsJustifiedBy}
+use Rattle.mvo_world.specs.Justified.{IsJust, IsNextStamp, IsJustOperation, IsJustCheck, IsJustSettlement, IsJustFinishing, IsJustifiedBy}
 use Rattle.mvo_world.specs.Forgetting.{IsJustTrim, MayBeTrimmed}
 use Rattle.mvo_world.proofs.Forgetting.{trimmed_so, nothing_so}
 use Rattle.mvo_world.proofs.Order.{first_cause_stands}
@@ -39,9 +42,21 @@ use Rattle.mvo_world.specs.declared.event.Event.TheVariants.{Begin, Do, Precommi
 use Rattle.mvo_world.specs.declared.reply.Reply.{Reply}
 use Rattle.mvo_world.specs.declared.reply.Reply.TheVariants.{Began, Answered, Prepared, Validated, Settled, RolledBack, Finished, Trimmed, Refused}
 use Rattle.mvo_model.specs.Trace.Step.{Answers, Terminates}
-use Rattle.mvo_theory.specs.Words.{is_done}
+use Rattle.mvo_theory.specs.Words.{is_done, is_last_word, word_count}
 use Rattle.mvo_core.specs.declared.answers.Finishing.TheVariants.{More, Done}
 use Rattle.mvo_core.specs.declared.answers.Finishing as finishing
+
+some_ended : (u v : EndedTx) → ◌≡◌ {A = Option EndedTx} (Some u) (Some v) → u ≡ v
+some_ended u v q = cc
+
+-- one that is found among the ended ones has few words left
+few_found : (t : ℕ) (xs : List Step) (us : List EndedTx) (u : EndedTx) → AllByRecursion (Few xs) us → ended_of t us ≡ Some u → length u.words ≤ word_count (history_of t xs)
+few_found t xs [] u h e = absurd (no_ended u e)
+few_found t xs (w ∷ ws) u h e = go (w.id == t) refl e (few_found t xs ws u h.1)
+  where
+    go : (b : Bool) → (w.id == t) ≡ b → cond b (Some w) (ended_of t ws) ≡ Some u → (ended_of t ws ≡ Some u → length u.words ≤ word_count (history_of t xs)) → length u.words ≤ word_count (history_of t xs)
+    go true q f r = subst (λ (v : EndedTx). length v.words ≤ word_count (history_of t xs)) (some_ended w u f) (subst (λ (i : ℕ). length w.words ≤ word_count (history_of i xs)) (eqb-true w.id t q) h.0)
+    go false q f r = r f
 
 -- not the closing of a group
 abbrev pub IsNoClosing : Event → Type 0
@@ -88,6 +103,19 @@ module _ {D : Type 0} (d : Ghosts D) (p : Past) (w : WorldData D) (h : IsAfter d
       go None told g = subst (IsJustSettlement p t) (sym g) (settles_so p.rows p.steps h.state t may.0 h.core.versions.kept, told)
       go (Some y) told g = subst (IsJustSettlement p t) (sym g) told
 
+  finishing_so : (t : ℕ) (a : finishing.Finishing) (w' : WorldData D) → IsAsked w (FinishCall t) Accepted w' → IsFinishing w.core t a → IsJustFinishing p t a
+  finishing_so t a w' asked e = go (is_done h.state t) refl (e p.rows p.steps h.state h.core)
+    where
+      found : (u : EndedTx) × (ended_of t h.state.ended ≡ Some u)
+      found = finish_none h.state t (asked.leads p.rows p.steps h.state h.core).may.0
+
+      go : (b : Bool) → is_done h.state t ≡ b → a ≡ cond b Done More → IsJustFinishing p t a
+      go true f g = subst (IsJustFinishing p t) (sym g) tt
+      go false f g =
+          let few = few_found t p.steps h.state.ended found.0 h.words found.1 in
+          let more = leb-false (length found.0.words) 1 (sym (ap is_last_word found.1) ∙ f) in
+          subst (IsJustFinishing p t) (sym g) (omega (arith, few, more))
+
   trim : (m : ℕ) (w' : WorldData D) → IsAsked w (TrimCall m) Accepted w' → MayBeTrimmed p m
   trim m w' asked = trimmed_so p h.state h.core.versions.kept h.counted h.rests m (asked.leads p.rows p.steps h.state h.core).may
 
@@ -108,7 +136,7 @@ module _ {D : Type 0} (d : Ghosts D) (p : Past) (w : WorldData D) (h : IsAfter d
   justified_reply (Settle t) (Refused r) w' o q = just (SettleCall t.0) (RefusedCall r) w' q
   justified_reply (Rollback t) RolledBack w' o q = just (RollbackCall t.0) Accepted w' q
   justified_reply (Rollback t) (Refused r) w' o q = just (RollbackCall t.0) (RefusedCall r) w' q
-  justified_reply (Finish t) (Finished a) w' o q = just (FinishCall t.0) Accepted w' q.0
+  justified_reply (Finish t) (Finished a) w' o q = (just (FinishCall t.0) Accepted w' q.0, finishing_so t.0 a w' q.0 q.1)
   justified_reply (Finish t) (Refused r) w' o q = just (FinishCall t.0) (RefusedCall r) w' q
   justified_reply (Trim upto) (Trimmed stamp) w' o q = trim upto.0 w' q.1.asked
   justified_reply (Trim upto) (Refused r) w' o q = subst (λ (v : Refusal). IsJustTrim p upto.0 (Refused v)) (sym q.0) (no_trim upto.0 w' (subst (λ (v : Refusal). IsAsked w (TrimCall upto.0) (RefusedCall v) w') q.0 q.1))

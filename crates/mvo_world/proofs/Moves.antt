@@ -27,6 +27,8 @@ use Rattle.mvo_theory.specs.Calls.Result.{Accepted}
 use Rattle.mvo_theory.proofs.Each.{each_weaker, each_append}
 use Rattle.mvo_theory.specs.Counted.{HasCounts}
 use Rattle.mvo_theory.proofs.Stays.{stays_after_call}
+use Rattle.mvo_theory.specs.Words.{HaveFewWords}
+use Rattle.mvo_theory.proofs.Words.{words_after_call}
 use Rattle.mvo_theory.proofs.Counting.{counted_after_call, counted_closed, counted_opened}
 use Rattle.mvo_core.specs.Collection.{Collection}
 use Rattle.mvo_core.specs.declared.answers.Closed as closing
@@ -154,14 +156,15 @@ module _ {D : Type 0} (d : Ghosts D) where
   }
 
   -- no group becomes durable and none is closed
-  goes_on : (p : Past) (w w' : WorldData D) (h : IsAfter d p w) (steps : List Step) (trims : List (ℕ × ℕ)) (s : State) → StandsFor p.rows steps s w'.core → HasCounts p.mark steps s → KnowsRests (record { rows = p.rows; mark = p.mark; steps = steps; trims = trims }) s → IsClosedAt s.marks.closed s → StaysBelow h.state s
+  goes_on : (p : Past) (w w' : WorldData D) (h : IsAfter d p w) (steps : List Step) (trims : List (ℕ × ℕ)) (s : State) → StandsFor p.rows steps s w'.core → HasCounts p.mark steps s → HaveFewWords steps s → KnowsRests (record { rows = p.rows; mark = p.mark; steps = steps; trims = trims }) s → IsClosedAt s.marks.closed s → StaysBelow h.state s
       → waiting w' ≡ waiting w → mark_of w'.store ≡ mark_of w.store → (HasHonestDisk d w' → KeepsRows d w'.store (after_groups p.rows h.sent))
       → (acked : List ℕ) → AllByRecursion (λ n. n ≤ mark_of w'.store) acked → (took : ℕ) → HasRoomFor took p.closed w'.ring → IsAfter d (record p { steps = steps; trims = trims; acknowledged = acked; taken = took }) w'
-  goes_on p w w' h steps trims s core counted rests closed stays wait mark store acked covers took room = record {
+  goes_on p w w' h steps trims s core counted words rests closed stays wait mark store acked covers took room = record {
     sent = h.sent;
     state = s;
     core = core;
     counted = counted;
+    words = words;
     rests = rests;
     closed = closed;
     before = (stays p.mark h.before).0;
@@ -180,7 +183,7 @@ module _ {D : Type 0} (d : Ghosts D) where
       → ((p : Past) (h : IsAfter d p w) → StandsFor p.rows p.steps h.state w'.core) → w'.ring ≡ w.ring → waiting w' ≡ waiting w → mark_of w'.store ≡ mark_of w.store → (HasHonestDisk d w' → HasHonestDisk d w) → (HasHonestDisk d w' → KeepsAllRows d w.store w'.store) → IsStepBy IsReply Justifies d w e r w'
   moved IsReply Justifies w w' e r silent reply just core ring wait mark was keeps =
       stepped IsReply Justifies w w' e r (λ rows. rows) reply just was keeps (λ p h store.
-      subst (λ (q : Past). IsAfter d q w') (silent_past p e r silent) (goes_on p w w' h p.steps p.trims h.state (core p h) h.counted h.rests h.closed (unchanged h.state) wait mark store p.acknowledged (subst (λ m. AllByRecursion (λ n. n ≤ m) p.acknowledged) (sym mark) h.covers) p.taken (subst (HasRoomFor p.taken p.closed) (sym ring) (h.untaken, h.room))))
+      subst (λ (q : Past). IsAfter d q w') (silent_past p e r silent) (goes_on p w w' h p.steps p.trims h.state (core p h) h.counted h.words h.rests h.closed (unchanged h.state) wait mark store p.acknowledged (subst (λ m. AllByRecursion (λ n. n ≤ m) p.acknowledged) (sym mark) h.covers) p.taken (subst (HasRoomFor p.taken p.closed) (sym ring) (h.untaken, h.room))))
 
   -- ---- a call of the store that takes no group and makes none durable
   store_moved : (w : WorldData D) (store : StoreData D) (e : Event) (r : Reply) → IsNoClosing e → IsSilent e r → IsReplyTo d w e r (record w { store = store }) → KeepsTaken w.store store → (IsHonest (d.moment (disk_of store)) → HasHonestDisk d w) → (IsHonest (d.moment (disk_of store)) → KeepsAllRows d w.store store) → IsWorldStep d w e r (record w { store = store })
@@ -221,7 +224,7 @@ module _ {D : Type 0} (d : Ghosts D) where
       let untaken = a.untaken in
       let room = a.room in
       subst (λ (q : Past). IsAfter d q (record w { ring = ring; store = store })) (past_is p TakeGroup Taken p.steps p.trims p.acknowledged p.closed (p.taken + 1) (append-nil p.steps) (append-nil p.trims) (append-nil p.acknowledged) (append-nil p.closed) refl)
-      (goes_on p w (record w { ring = ring; store = store }) a p.steps p.trims a.state a.core a.counted a.rests a.closed (unchanged a.state) (later ∙ sym before) mark rows p.acknowledged
+      (goes_on p w (record w { ring = ring; store = store }) a p.steps p.trims a.state a.core a.counted a.words a.rests a.closed (unchanged a.state) (later ∙ sym before) mark rows p.acknowledged
       (subst (λ m. AllByRecursion (λ n. n ≤ m) p.acknowledged) (sym mark) a.covers) (p.taken + 1) ((omega (arith, ends, untaken)), (omega (arith, ends, room)))))
 
   -- ---- a group becomes durable
@@ -253,6 +256,7 @@ module _ {D : Type 0} (d : Ghosts D) where
             state = b.state;
             core = b.core;
             counted = b.counted;
+            words = b.words;
             rests = b.rests;
             closed = b.closed;
             before = b.before;
@@ -291,7 +295,7 @@ module _ {D : Type 0} (d : Ghosts D) where
         let next = after_call h.state c result in
         subst (λ (q : Past). IsAfter d q w')
         (past_is p e r (p.steps ++ steps_of h.state c result) (trims_after (course_of p) c result) p.acknowledged p.closed p.taken (ap (λ xs. p.steps ++ xs) (is p.rows p.steps h.state h.core)) (ap (λ (g : List ℕ × ℕ × List ℕ). trims_with p g.2) silent.1 ∙ trims_are p c result) (ap (λ ms. p.acknowledged ++ ms) silent.0 ∙ append-nil p.acknowledged) (ap (λ (g : List ℕ × ℕ × List ℕ). p.closed ++ g.0) silent.1 ∙ append-nil p.closed) (ap (λ (g : List ℕ × ℕ × List ℕ). p.taken + g.1) silent.1 ∙ none_more p.taken))
-        (goes_on p w w' h (p.steps ++ steps_of h.state c result) (trims_after (course_of p) c result) next l.stands (counted_after_call p.rows p.mark p.steps h.state c result l.may kept h.counted) (known_after_call (course_of p) h.state c result l.may kept h.rests) (still_closed p.rows p.steps h.state c result l.may kept h.closed) (stays_after_call h.state c result kept.sound) refl refl store p.acknowledged h.covers p.taken (h.untaken, h.room)))
+        (goes_on p w w' h (p.steps ++ steps_of h.state c result) (trims_after (course_of p) c result) next l.stands (counted_after_call p.rows p.mark p.steps h.state c result l.may kept h.counted) (words_after_call p.rows p.steps h.state c result kept.after_trace h.words) (known_after_call (course_of p) h.state c result l.may kept h.rests) (still_closed p.rows p.steps h.state c result l.may kept h.closed) (stays_after_call h.state c result kept.sound) refl refl store p.acknowledged h.covers p.taken (h.untaken, h.room)))
       where
         w' : WorldData D
         w' = record w { core = core }
@@ -345,6 +349,7 @@ module _ {D : Type 0} (d : Ghosts D) where
               state = after_close s c.mark.0;
               core = now.stands;
               counted = counted_closed p.mark p.steps s c.mark.0 h.counted;
+              words = h.words;
               rests = known_closed (course_of p) s c.mark.0 h.rests;
               closed = record { drawn = up.drawn; above = up.above };
               before = record { drawn = h.before.drawn; above = h.before.above };
@@ -373,7 +378,7 @@ module _ {D : Type 0} (d : Ghosts D) where
         stepped (IsReplyTo d) IsJustifiedBy w w (Poll stamp) (Polled true) (λ rows. rows) (is, refl) (λ p h. tt) (λ now. now) (λ now. refused_keeps d only_now w.store) (λ p h store.
         let acked = p.acknowledged ++ stamp.0 ∷ [] in
         subst (λ (q : Past). IsAfter d q w) (past_is p (Poll stamp) (Polled true) p.steps p.trims acked p.closed p.taken (append-nil p.steps) (append-nil p.trims) refl (append-nil p.closed) (none_more p.taken))
-        (goes_on p w w h p.steps p.trims h.state h.core h.counted h.rests h.closed (unchanged h.state) refl refl store acked (each_append (λ m. m ≤ mark_of w.store) p.acknowledged (stamp.0 ∷ []) h.covers (leb-true stamp.0 (mark_of w.store) (sym is), tt)) p.taken (h.untaken, h.room)))
+        (goes_on p w w h p.steps p.trims h.state h.core h.counted h.words h.rests h.closed (unchanged h.state) refl refl store acked (each_append (λ m. m ≤ mark_of w.store) p.acknowledged (stamp.0 ∷ []) h.covers (leb-true stamp.0 (mark_of w.store) (sym is), tt)) p.taken (h.untaken, h.room)))
 
   -- ---- a world that was just opened
   pub begun : (rows : Map) (w : WorldData D) → IsJustOpened rows w → (HasHonestDisk d w → KeepsRows d w.store rows) → IsAfter d (opened_over rows (mark_of w.store)) w
@@ -385,6 +390,7 @@ module _ {D : Type 0} (d : Ghosts D) where
         state = opened rows (mark_of w.store);
         core = is.core;
         counted = counted_opened rows (mark_of w.store);
+        words = tt;
         rests = known_opened rows (mark_of w.store);
         closed = record { drawn = omega arith; above = tt };
         before = record { drawn = omega arith; above = tt };

@@ -17,6 +17,9 @@ use Rattle.mvo_theory.specs.rests.Resting.{IsFirstAwaited, AwaitsNone}
 use Rattle.mvo_theory.specs.rests.Laws.{TellsRests}
 use Rattle.mvo_core.specs.declared.answers.Validation.{Validation}
 use Rattle.mvo_core.specs.declared.answers.Validation.TheVariants.{More, Valid}
+use Rattle.mvo_theory.specs.Words.{word_count}
+use Rattle.mvo_core.specs.declared.answers.Finishing.{Finishing}
+use Rattle.mvo_core.specs.declared.answers.Finishing.TheVariants.{More, Done}
 use Rattle.mvo_core.specs.declared.answers.Settlement.{Settlement}
 use Rattle.mvo_core.specs.declared.answers.Settlement.TheVariants.{Committed, Waiting}
 use Rattle.mvo_world.specs.Past.{Past, course_of}
@@ -58,6 +61,12 @@ IsJustSettlement p t (Committed e) =
     (phase_of t p.steps ≡ Preparing e.0) × AwaitsNone (course_of p) t
 IsJustSettlement p t (Waiting x) = IsFirstAwaited (course_of p) t x.0
 
+-- More comes only where more than one word was written: one for each Inserted or Deleted that was
+-- answered, and two for each Updated
+abbrev pub IsJustFinishing : Past → ℕ → Finishing → Type 0
+IsJustFinishing p t More = 1 < word_count (history_of t p.steps)
+IsJustFinishing p t Done = ⊤
+
 -- The reply is justified by the past. Of events that are of no transaction it says when a trim has
 -- nothing to do, and a group that is closed.
 abbrev pub IsJustifiedBy : Past → Event → Reply → Type 0
@@ -80,7 +89,8 @@ IsJustifiedBy p (Settle t) r = ⊥
 IsJustifiedBy p (Rollback t) RolledBack = IsJust p (RollbackCall t.0) Accepted
 IsJustifiedBy p (Rollback t) (Refused r) = IsJust p (RollbackCall t.0) (RefusedCall r)
 IsJustifiedBy p (Rollback t) r = ⊥
-IsJustifiedBy p (Finish t) (Finished a) = IsJust p (FinishCall t.0) Accepted
+IsJustifiedBy p (Finish t) (Finished a) =
+    IsJust p (FinishCall t.0) Accepted × IsJustFinishing p t.0 a
 IsJustifiedBy p (Finish t) (Refused r) = IsJust p (FinishCall t.0) (RefusedCall r)
 IsJustifiedBy p (Finish t) r = ⊥
 IsJustifiedBy p (Trim upto) r = IsJustTrim p upto.0 r

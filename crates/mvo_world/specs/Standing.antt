@@ -9,6 +9,7 @@ use Rattle.mvo_group.specs.Data.{GroupData}
 use Rattle.mvo_theory.specs.State.{State, timeline}
 use Rattle.mvo_theory.specs.Marks.{IsClosedAt, settled_to}
 use Rattle.mvo_theory.specs.Counted.{HasCounts}
+use Rattle.mvo_theory.specs.Words.{HaveFewWords}
 use Rattle.mvo_theory.specs.rests.Known.{KnowsRests}
 use Rattle.mvo_core.specs.Standing.{StandsFor}
 use Rattle.mvo_store.specs.Frames.{mark_after}
@@ -53,6 +54,8 @@ pub record IsAfter {D : Type 0} (d : Ghosts D) (p : Past) (w : WorldData D) : Ty
   pub core : StandsFor p.rows p.steps state w.core
   -- the opening mark, the clock, the unfinished and the checks are those of the steps
   pub counted : HasCounts p.mark p.steps state
+  -- those that ended have no more words left than they were answered
+  pub words : HaveFewWords p.steps state
   -- it knows on whom its transactions rest
   pub rests : KnowsRests (course_of p) state
   -- up to the mark of the group that was closed last all are settled
