@@ -1,5 +1,5 @@
 -- What a day comes to.
-use Rattle.std.specs.Prelude.{◌≡◌, ◌<◌, ℕ, List, map}
+use Rattle.std.specs.Prelude.{◌≡◌, ◌<◌, List, map}
 use Rattle.mvo_types.specs.Keys.{Map}
 use Rattle.mvo_model.specs.History.{Legal}
 use Rattle.mvo_model.specs.Trace.{Step}
