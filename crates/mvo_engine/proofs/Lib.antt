@@ -11,3 +11,5 @@ pub mod Booked
 pub mod SentRows
 pub mod Flushed
 pub mod Pouring
+mod Refused
+mod Transacting

@@ -12,6 +12,8 @@ pub mod Collecting
 pub mod Booked
 pub mod Stored
 pub mod Settling
+pub mod Asked
+pub mod Refusing
 pub mod Transacting
 pub mod Audited
 pub mod Gathering

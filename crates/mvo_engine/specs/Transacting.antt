@@ -1,12 +1,15 @@
 -- What a whole transaction of a session comes to, and each attempt at it.
-use Rattle.std.specs.Prelude.{◌≡◌, ◌<◌, ◌+◌, ℕ, zero, suc, true, List, [], ◌∷◌, ◌++◌, Option, None, Some, Result, Ok, Err, max, IfErr}
+use Rattle.std.specs.Prelude.{◌≡◌, ◌<◌, ◌+◌, ℕ, zero, suc, true, List, [], ◌∷◌, ◌++◌, Option, None, Some, Result, Ok, Err, max, IfErr, IfSome}
 use Rattle.mvo_types.specs.declared.refusal.Refusal.{Refusal}
 use Rattle.mvo_types.specs.declared.refusal.Refusal.TheVariants.{Busy}
 use Rattle.mvo_types.specs.declared.ids.Stamp.{Stamp}
 use Rattle.mvo_theory.specs.Causes.{is_failure}
 use Rattle.mvo_core.specs.Receipts.{Receipt, receipt}
 use Rattle.mvo_engine.specs.run.Receiving.{AreBelow}
+use Rattle.mvo_engine.specs.run.Opening.{Opening}
 use Rattle.mvo_engine.specs.States.{SessionState}
+use Rattle.mvo_engine.specs.Asked.{HasGone}
+use Rattle.mvo_engine.specs.Refusing.{refuses_begin, refuses_commit}
 
 -- what work in a transaction comes to: the session before it, its result, and the session after it
 abbrev pub Work : Type 0 → Type 1
@@ -18,18 +21,20 @@ pub record HasNewTx (old new : SessionState) : Type 0 where
   pub above : AreBelow tx old.receipts
   pub begun : new ≡ record old { tx = Some tx; told = [] }
 
--- an attempt that is refused: by its begin, by the work, or by its commit
-pub data IsRefusedBy {A : Type 0} (work : Work A) (old : SessionState) (e : Refusal) : Type 0 where
-  Beginning : IsRefusedBy work old e
+-- An attempt that is refused: by its begin; by the work, of which the transaction is rolled back in
+-- the core and finished; or by its commit.
+pub data IsRefusedBy {A : Type 0} (o : Opening) (work : Work A) (old : SessionState) (e : Refusal)
+    : Type 0 where
+  Beginning : refuses_begin e ≡ true → IsRefusedBy o work old e
   Working : (begun worked : SessionState) → HasNewTx old begun → work begun (Err e) worked
-      → IsRefusedBy work old e
+      → IfSome worked.tx (HasGone o) → IsRefusedBy o work old e
   Committing : (begun worked : SessionState) → HasNewTx old begun → (a : A)
-      → work begun (Ok a) worked → IsRefusedBy work old e
+      → work begun (Ok a) worked → refuses_commit e ≡ true → IsRefusedBy o work old e
 
 -- it leaves no receipt and no transaction
-pub record HasNotDone {A : Type 0} (work : Work A) (old : SessionState) (e : Refusal)
+pub record HasNotDone {A : Type 0} (o : Opening) (work : Work A) (old : SessionState) (e : Refusal)
     (new : SessionState) : Type 0 where
-  pub by : IsRefusedBy work old e
+  pub by : IsRefusedBy o work old e
   pub receipts : new.receipts ≡ old.receipts
   pub tx : new.tx ≡ None
 
@@ -48,16 +53,16 @@ pub record HasDone {A : Type 0} (work : Work A) (old : SessionState) (told : A �
     receipts = old.receipts ++ receipt tx told.1.0 worked.told ∷ [];
   }
 
-abbrev pub IsAttempt : {A : Type 0} → Work A → SessionState → Result (A × Stamp) Refusal
+abbrev pub IsAttempt : {A : Type 0} → Opening → Work A → SessionState → Result (A × Stamp) Refusal
     → SessionState → Type 0
-IsAttempt work old (Ok told) new = HasDone work old told new
-IsAttempt work old (Err e) new = HasNotDone work old e new
+IsAttempt o work old (Ok told) new = HasDone work old told new
+IsAttempt o work old (Err e) new = HasNotDone o work old e new
 
 -- so many attempts one after another, each refused with a failure
-abbrev pub HaveFailed : {A : Type 0} → Work A → ℕ → SessionState → SessionState → Type 0
-HaveFailed work zero old new = new ≡ old
-HaveFailed work (suc n) old new = (between : SessionState) × HaveFailed work n old between
-    × (e : Refusal) × (is_failure e ≡ true) × IsAttempt work between (Err e) new
+abbrev pub HaveFailed : {A : Type 0} → Opening → Work A → ℕ → SessionState → SessionState → Type 0
+HaveFailed o work zero old new = new ≡ old
+HaveFailed o work (suc n) old new = (between : SessionState) × HaveFailed o work n old between
+    × (e : Refusal) × (is_failure e ≡ true) × IsAttempt o work between (Err e) new
 
 -- what is accepted has one receipt more, which ends there; what is refused has none
 abbrev pub HasOneMore : {A : Type 0} → Result (A × Stamp) Refusal → List Receipt → List Receipt
@@ -67,19 +72,19 @@ HasOneMore (Err e) old new = new ≡ old
 
 -- Attempts up to the first that doesn't fail, up to so many in all, and at least one: the answer is
 -- the last one's, and a failure alone where all of them failed.
-pub record AreAttempts {A : Type 0} (work : Work A) (times : ℕ) (old : SessionState)
+pub record AreAttempts {A : Type 0} (o : Opening) (work : Work A) (times : ℕ) (old : SessionState)
     (result : Result (A × Stamp) Refusal) (new : SessionState) : Type 0 where
   pub failures : ℕ
   pub before : SessionState
-  pub failed : HaveFailed work failures old before
-  pub last : IsAttempt work before result new
+  pub failed : HaveFailed o work failures old before
+  pub last : IsAttempt o work before result new
   pub fewer : failures < max 1 times
   pub spent : IfErr result (λ e. is_failure e ≡ true → failures + 1 ≡ max 1 times)
   pub receipts : HasOneMore result old.receipts new.receipts
   pub tx : new.tx ≡ None
 
 -- Refused with Busy where it has a transaction, and nothing changes.
-abbrev pub IsTransacted : {A : Type 0} → Work A → ℕ → Option ℕ → SessionState
+abbrev pub IsTransacted : {A : Type 0} → Opening → Work A → ℕ → Option ℕ → SessionState
     → Result (A × Stamp) Refusal → SessionState → Type 0
-IsTransacted work times (Some t) old result new = (result ≡ Err Busy) × (new ≡ old)
-IsTransacted work times None old result new = AreAttempts work times old result new
+IsTransacted o work times (Some t) old result new = (result ≡ Err Busy) × (new ≡ old)
+IsTransacted o work times None old result new = AreAttempts o work times old result new

@@ -1,7 +1,8 @@
 mod call_by_call;
 mod jobs;
 
-ghost use Rattle.std.specs.Prelude.{◌≡◌};
+ghost use Rattle.std.specs.Prelude.{◌≡◌, Some, IsTrue};
+ghost use Rattle.mvo_types.specs.declared.refusal.Refusal.{Refusal};
 ghost use Rattle.mvo_store.specs.Seen.{mark_of};
 ghost use Rattle.mvo_engine.specs.Ending.{AreSeenUpTo, HasShutDown};
 
@@ -54,8 +55,9 @@ impl<L: Run, D: Disk + Drop, G: Gate + Drop> Drop for Engine<L, D, G> {
 }
 
 impl<L: Run, D: Disk, G: Gate + Drop> Engine<L, D, G> {
-    ghost use Rattle.std.specs.Prelude.{◌≡◌, [], None, IfOk, IfErr};
+    ghost use Rattle.std.specs.Prelude.{◌≡◌, [], None, IfOk, IfErr, IsTrue};
     ghost use Rattle.mvo_types.specs.declared.refusal.Refusal.{Refusal};
+    ghost use Rattle.mvo_engine.specs.Asked.{WasMade, WasDown};
     ghost use Rattle.mvo_engine.specs.Audited.{IsAudited};
     ghost use Rattle.mvo_engine.specs.Opened.{IsNamedBy};
     ghost use Rattle.mvo_engine.specs.Ending.{IsShutDown};
@@ -94,6 +96,7 @@ impl<L: Run, D: Disk, G: Gate + Drop> Engine<L, D, G> {
         ensures ok { IfOk result (λ session. session.tx ≡ None) }
         ensures receipts { IfOk result (λ session. session.receipts ≡ []) }
         ensures err { IfErr result (λ r. r ≡ Refusal.TableFull) }
+        ensures made { WasMade result }
     {
         let mut core = self.enter_core(rt);
         match core.another(&self.marks) {
@@ -222,8 +225,10 @@ impl<L: Run, D: Disk, G: Gate + Drop> Engine<L, D, G> {
     }
 
     // Whether the store is down.
-    pub(crate) fn is_down<R: Wait>(&self, rt: &R) -> bool {
-        self.enter_store(rt).can_take() == Some(Refusal::Down)
+    pub(crate) fn is_down<R: Wait>(&self, rt: &R) -> bool
+        ensures { IsTrue result → WasDown D }
+    {
+        is_of_down(self.enter_store(rt).can_take())
     }
 
     // The marks.
@@ -261,4 +266,11 @@ fn shut_down<L: Run, D: Disk>(core: LockedCore<L>, store: LockedStore<L, D>) -> 
     let _ = core.clock();
     core.audit(&mut store);
     store.into_disk()
+}
+
+// Whether the refusal is Down.
+fn is_of_down(refusal: Option<Refusal>) -> bool
+    ensures { IsTrue result → refusal ≡ Some Refusal.Down }
+{
+    matches!(refusal, Some(Refusal::Down))
 }

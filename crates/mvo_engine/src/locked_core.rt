@@ -69,6 +69,7 @@ impl<L: Run> LockedCore<L> {
     ghost use Rattle.mvo_engine.specs.Booked.{IsBooked, HasSpareParts};
     ghost use Rattle.mvo_engine.specs.run.Receiving.{AreBelow};
     ghost use Rattle.mvo_engine.specs.Settling.{HasSettled};
+    ghost use Rattle.mvo_engine.specs.Refusing.{refuses_operation, refuses_rollback};
     ghost use Rattle.mvo_engine.specs.Sound.{IsSoundCore};
     ghost use Rattle.mvo_engine.specs.Legal.{IsLegalCore};
     ghost use Rattle.mvo_engine.specs.Calls.{IsCoreStep, IsBeginning, IsSettling};
@@ -222,6 +223,7 @@ impl<L: Run> LockedCore<L> {
     /// As `Core::begin_tx`, for a session whose commits end at most there; refused with Busy where
     /// the clock is below that, which no run meets.
     pub fn begin_tx(&mut self, last: Stamp) -> Result<TxId, Refusal>
+        ensures sound { IsSoundCore L.opening self.old.core self.old.sends.sent }
         ensures step { IsBeginning self.old last.0 result self.new }
         ensures above { IfOk result (λ t. last.0 < t.0) }
     {
@@ -233,14 +235,17 @@ impl<L: Run> LockedCore<L> {
 
     /// As `Core::operate`.
     pub fn operate(&mut self, tx: TxId, op: Op) -> Result<Answer, Refusal>
+        ensures sound { IsSoundCore L.opening self.old.core self.old.sends.sent }
         ensures step { IsCoreStep self.old (Do tx.0 op) result self.new }
         ensures answer { IfOk result (IsAnswered self.old.core tx.0 op) }
+        ensures err { IfErr result (λ e. refuses_operation op e ≡ true) }
     {
         self.core.operate(tx, op)
     }
 
     /// As `Core::precommit`.
     pub fn precommit(&mut self, tx: TxId) -> Result<Stamp, Refusal>
+        ensures sound { IsSoundCore L.opening self.old.core self.old.sends.sent }
         ensures step { IsCoreStep self.old (Precommit tx.0) result self.new }
     {
         self.core.precommit(tx)
@@ -248,6 +253,7 @@ impl<L: Run> LockedCore<L> {
 
     /// As `Core::validate_one`.
     pub fn validate_one(&mut self, tx: TxId) -> Result<Validation, Refusal>
+        ensures sound { IsSoundCore L.opening self.old.core self.old.sends.sent }
         ensures step { IsCoreStep self.old (Validate tx.0) result self.new }
         ensures answer { IfOk result (IsValidation self.old.core tx.0) }
     {
@@ -265,6 +271,7 @@ impl<L: Run> LockedCore<L> {
     ) -> Result<Settlement, Refusal>
         requires room { mine.old.room ≡ true }
         requires above { AreBelow tx.0 mine.old.list }
+        ensures sound { IsSoundCore L.opening self.old.core self.old.sends.sent }
         ensures step { IsSettling self.old tx.0 told.old result self.new }
         ensures answer { IfOk result (IsSettlement self.old.core tx.0) }
         ensures settled { HasSettled tx.0 told.old mine.old result mine.new told.new }
@@ -284,13 +291,16 @@ impl<L: Run> LockedCore<L> {
 
     /// As `Core::rollback_tx`.
     pub fn rollback_tx(&mut self, tx: TxId) -> Result<(), Refusal>
+        ensures sound { IsSoundCore L.opening self.old.core self.old.sends.sent }
         ensures step { IsCoreStep self.old (Rollback tx.0) result self.new }
+        ensures err { IfErr result (λ e. refuses_rollback e ≡ true) }
     {
         self.core.rollback_tx(tx)
     }
 
     /// As `Core::finish_one`.
     pub fn finish_one(&mut self, tx: TxId) -> Result<Finishing, Refusal>
+        ensures sound { IsSoundCore L.opening self.old.core self.old.sends.sent }
         ensures step { IsCoreStep self.old (Finish tx.0) result self.new }
         ensures answer { IfOk result (IsFinishing self.old.core tx.0) }
     {

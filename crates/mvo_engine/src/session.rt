@@ -62,6 +62,7 @@ impl<'e, L: Run, D: Disk, G: Gate + Drop> Session<'e, L, D, G> {
     ghost use Rattle.std.specs.Prelude.{◌≡◌, ◌≤◌, None, IsTrue, OnOk, IfErr};
     ghost use Rattle.mvo_types.specs.declared.refusal.Refusal.{Refusal};
     ghost use Rattle.mvo_store.specs.Seen.{mark_of};
+    ghost use Rattle.mvo_engine.specs.Asked.{WasDown};
     ghost use Rattle.mvo_engine.specs.run.Receiving.{Rises};
 
     pub(crate) fn new(
@@ -128,7 +129,7 @@ impl<'e, L: Run, D: Disk, G: Gate + Drop> Session<'e, L, D, G> {
     /// this one before the call, has flushed them. Refused with Down where the store is down.
     pub fn wait_durable<R: Wait>(&mut self, rt: &R, stamp: Stamp) -> Result<(), Refusal>
         ensures ok { OnOk result (stamp.0 ≤ self.new.durable) }
-        ensures err { IfErr result (λ r. r ≡ Refusal.Down) }
+        ensures err { IfErr result (λ r. (r ≡ Refusal.Down) × WasDown D) }
         ensures rest { self.new ≡ record self.old { durable = self.new.durable } }
     {
         for _ in rt.forever() {

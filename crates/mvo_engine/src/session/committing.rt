@@ -26,14 +26,20 @@ pub(super) fn is_failure(refusal: Refusal) -> bool
     }
 }
 
-ghost use Rattle.std.specs.Prelude.{◌≡◌, true};
+ghost use Rattle.std.specs.Prelude.{◌≡◌, true, IfErr};
 ghost use Rattle.mvo_theory.specs.Causes.{is_failure};
+ghost use Rattle.mvo_theory.specs.Calls.Call.{Precommit, Validate};
 ghost use Rattle.mvo_engine.specs.run.Receiving.{AreBelow};
 ghost use Rattle.mvo_engine.specs.Settling.{HasEnded};
+ghost use Rattle.mvo_engine.specs.Asked.{WasAsked, IsFinishingAnswer, HasRefusedToCommit};
 
 impl<'e, L: Run, D: Disk, G: Gate + Drop> Session<'e, L, D, G> {
-    ghost use Rattle.std.specs.Prelude.{◌≡◌, None};
+    ghost use Rattle.std.specs.Prelude.{◌≡◌, None, Some, true, OnOk, IfErr, IfSome};
+    ghost use Rattle.mvo_theory.specs.Calls.Call.{Rollback};
     ghost use Rattle.mvo_engine.specs.Calls.{HasCommitted, HasLeft, IsNoTx, session_after};
+    ghost use Rattle.mvo_engine.specs.Asked.{WasAsked, WasFinished, HasLeftTx};
+    ghost use Rattle.mvo_engine.specs.Asked.{HasGone, HasRefusedToCommit};
+    ghost use Rattle.mvo_engine.specs.Refusing.{refuses_commit, refuses_rollback};
 
     /// Commits the transaction, and answers its end timestamp: makes room for its receipt, draws
     /// the end, checks what was read and scanned, waits until each transaction that it depends on
@@ -49,6 +55,11 @@ impl<'e, L: Run, D: Disk, G: Gate + Drop> Session<'e, L, D, G> {
     pub fn commit_tx<R: Wait>(&mut self, rt: &R) -> Result<Stamp, Refusal>
         ensures none { IsNoTx self.old.tx result }
         ensures committed { HasCommitted self.old result self.new }
+        ensures finished { OnOk result (IfSome self.old.tx (WasFinished L.opening)) }
+        ensures tx { IfErr result (λ e. HasLeftTx L.opening self.old.tx e self.new.tx) }
+        ensures core { IfErr result (λ e.
+            IfSome self.old.tx (λ t. HasRefusedToCommit L.opening t e)) }
+        ensures err { IfErr result (λ e. refuses_commit e ≡ true) }
     {
         let Some(tx) = self.tx else {
             return Err(Refusal::NoSuchTransaction);
@@ -68,10 +79,14 @@ impl<'e, L: Run, D: Disk, G: Gate + Drop> Session<'e, L, D, G> {
     }
 
     /// Rolls the transaction back, and finishes it. Refused with NoSuchTransaction without a
-    /// transaction.
+    /// transaction; and as the core refuses it, which no run meets.
     pub fn rollback_tx<R: Wait>(&mut self, rt: &R) -> Result<(), Refusal>
         ensures none { IsNoTx self.old.tx result }
         ensures left { HasLeft self.old result self.new }
+        ensures finished { OnOk result (IfSome self.old.tx (WasFinished L.opening)) }
+        ensures tx { IfErr result (λ e. HasLeftTx L.opening self.old.tx e self.new.tx) }
+        ensures core { IfSome self.old.tx (λ t. WasAsked L.opening (Rollback t) result) }
+        ensures err { IfErr result (λ e. refuses_rollback e ≡ true) }
     {
         let Some(tx) = self.tx else {
             return Err(Refusal::NoSuchTransaction);
@@ -90,7 +105,9 @@ impl<'e, L: Run, D: Disk, G: Gate + Drop> Session<'e, L, D, G> {
 
     // Ends the transaction by a refusal that is a failure.
     pub(super) fn end_by<R: Wait>(&mut self, rt: &R, tx: TxId, refusal: Refusal)
-        ensures { self.new ≡ session_after refusal self.old }
+        requires { self.old.tx ≡ Some tx.0 }
+        ensures session { self.new ≡ session_after refusal self.old }
+        ensures left { HasLeftTx L.opening self.old.tx refusal self.new.tx }
     {
         if is_failure(refusal) {
             self.finish(rt, tx);
@@ -99,7 +116,8 @@ impl<'e, L: Run, D: Disk, G: Gate + Drop> Session<'e, L, D, G> {
 
     // Rolls back the transaction, if there is one.
     pub(super) fn leave<R: Wait>(&mut self, rt: &R)
-        ensures { self.new ≡ record self.old { tx = None } }
+        ensures session { self.new ≡ record self.old { tx = None } }
+        ensures gone { IfSome self.old.tx (HasGone L.opening) }
     {
         if let Some(tx) = self.tx {
             let _ = self.rolled_back(rt, tx);
@@ -109,23 +127,30 @@ impl<'e, L: Run, D: Disk, G: Gate + Drop> Session<'e, L, D, G> {
 
     // Finishes the transaction, which is Committed or Aborted.
     fn finish<R: Wait>(&mut self, rt: &R, tx: TxId)
-        ensures { self.new ≡ record self.old { tx = None } }
+        ensures session { self.new ≡ record self.old { tx = None } }
+        ensures finished { WasFinished L.opening tx.0 }
     {
         self.replace_words(rt, tx);
         self.tx = None;
     }
 
-    // Replaces the words of the transaction, up to `AT_ONCE` while the lock is taken once.
-    fn replace_words<R: Wait>(&self, rt: &R, tx: TxId) {
+    // Replaces the words of the transaction, up to `AT_ONCE` while the lock is taken once. Were it
+    // not ended, which no run meets, it would be asked for until it is.
+    fn replace_words<R: Wait>(&self, rt: &R, tx: TxId)
+        ensures { WasFinished L.opening tx.0 }
+    {
         for _ in rt.forever() {
             match finish_some(&mut self.enter(rt), tx) {
+                Ok(Finishing::Done) | Err(Refusal::NoSuchTransaction) => return,
                 Ok(Finishing::More) => {}
-                Ok(Finishing::Done) | Err(_) => return,
+                Err(_) => thread::yield_now(),
             }
         }
     }
 
-    fn rolled_back<R: Wait>(&self, rt: &R, tx: TxId) -> Result<(), Refusal> {
+    fn rolled_back<R: Wait>(&self, rt: &R, tx: TxId) -> Result<(), Refusal>
+        ensures { WasAsked L.opening (Rollback tx.0) result }
+    {
         self.enter(rt).rollback_tx(tx)
     }
 }
@@ -140,7 +165,8 @@ fn settled<L: Run, D: Disk, G: Gate + Drop, R: Wait>(
 ) -> Result<Stamp, Refusal>
     requires room { mine.old.room ≡ true }
     requires above { AreBelow tx.0 mine.old.list }
-    ensures { HasEnded tx.0 told.old mine.old result mine.new told.new }
+    ensures ended { HasEnded tx.0 told.old mine.old result mine.new told.new }
+    ensures core { IfErr result (HasRefusedToCommit L.opening tx.0) }
 {
     if let Err(refusal) = prepare(rt, engine, tx) {
         return Err(refusal);
@@ -155,7 +181,9 @@ fn prepare<L: Run, D: Disk, G: Gate + Drop, R: Wait>(
     rt: &R,
     engine: &Engine<L, D, G>,
     tx: TxId,
-) -> Result<Stamp, Refusal> {
+) -> Result<Stamp, Refusal>
+    ensures { WasAsked L.opening (Precommit tx.0) result }
+{
     engine.enter_core(rt).precommit(tx)
 }
 
@@ -163,7 +191,9 @@ fn validate<L: Run, D: Disk, G: Gate + Drop, R: Wait>(
     rt: &R,
     engine: &Engine<L, D, G>,
     tx: TxId,
-) -> Result<(), Refusal> {
+) -> Result<(), Refusal>
+    ensures { IfErr result (HasRefusedToCommit L.opening tx.0) }
+{
     for _ in rt.forever() {
         match check_some(&mut engine.enter_core(rt), tx) {
             Ok(Validation::More) => {}
@@ -175,7 +205,9 @@ fn validate<L: Run, D: Disk, G: Gate + Drop, R: Wait>(
 }
 
 /// Checks up to `AT_ONCE` entries of the transaction.
-fn check_some<L: Run>(core: &mut LockedCore<L>, tx: TxId) -> Result<Validation, Refusal> {
+fn check_some<L: Run>(core: &mut LockedCore<L>, tx: TxId) -> Result<Validation, Refusal>
+    ensures { WasAsked L.opening (Validate tx.0) result }
+{
     for _ in 1..AT_ONCE {
         match core.validate_one(tx) {
             Ok(Validation::More) => {}
@@ -186,7 +218,9 @@ fn check_some<L: Run>(core: &mut LockedCore<L>, tx: TxId) -> Result<Validation, 
 }
 
 /// Replaces up to `AT_ONCE` words of the transaction.
-fn finish_some<L: Run>(core: &mut LockedCore<L>, tx: TxId) -> Result<Finishing, Refusal> {
+fn finish_some<L: Run>(core: &mut LockedCore<L>, tx: TxId) -> Result<Finishing, Refusal>
+    ensures { IsFinishingAnswer L.opening tx.0 result }
+{
     for _ in 1..AT_ONCE {
         match core.finish_one(tx) {
             Ok(Finishing::More) => {}
@@ -205,7 +239,8 @@ fn settle<L: Run, D: Disk, G: Gate + Drop, R: Wait>(
 ) -> Result<Stamp, Refusal>
     requires room { mine.old.room ≡ true }
     requires above { AreBelow tx.0 mine.old.list }
-    ensures { HasEnded tx.0 told.old mine.old result mine.new told.new }
+    ensures ended { HasEnded tx.0 told.old mine.old result mine.new told.new }
+    ensures core { IfErr result (HasRefusedToCommit L.opening tx.0) }
 {
     for _ in rt.forever() {
         match engine.enter_core(rt).settle(mine, tx, told) {

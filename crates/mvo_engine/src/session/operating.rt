@@ -9,9 +9,11 @@ use mvo_types::{Answer, Op, Refusal, Row, RowKey, TxId};
 use std::sync::Wait;
 
 impl<'e, L: Run, D: Disk, G: Gate + Drop> Session<'e, L, D, G> {
-    ghost use Rattle.std.specs.Prelude.{◌≡◌, [], IfOk};
+    ghost use Rattle.std.specs.Prelude.{◌≡◌, [], true, Ok, IfOk, IfErr};
     ghost use Rattle.mvo_types.specs.declared.op.Op.TheVariants as Op;
+    ghost use Rattle.mvo_engine.specs.Asked.{IsCoreAnswer, HasLeftTx};
     ghost use Rattle.mvo_engine.specs.Calls.{HasAsked, IsBegun, IsNoTx};
+    ghost use Rattle.mvo_engine.specs.Refusing.{refuses_begin, refuses_operation};
     ghost use Rattle.mvo_engine.specs.run.Receiving.{AreBelow};
 
     /// Begins a transaction, above the ends of all receipts. Its id is its begin timestamp.
@@ -22,6 +24,7 @@ impl<'e, L: Run, D: Disk, G: Gate + Drop> Session<'e, L, D, G> {
         ensures above { IfOk result (λ t. AreBelow t.0 self.new.receipts) }
         ensures rest { self.new ≡
             record self.old { tx = self.new.tx; told = self.new.told } }
+        ensures err { IfErr result (λ e. refuses_begin e ≡ true) }
     {
         if self.tx.is_some() {
             return Err(Refusal::Busy);
@@ -43,6 +46,9 @@ impl<'e, L: Run, D: Disk, G: Gate + Drop> Session<'e, L, D, G> {
         ensures none { IsNoTx self.old.tx result }
         ensures asked { HasAsked self.old op result self.new }
         ensures receipts { self.new.receipts ≡ self.old.receipts }
+        ensures core { IsCoreAnswer L.opening self.old.tx op result }
+        ensures tx { IfErr result (λ e. HasLeftTx L.opening self.old.tx e self.new.tx) }
+        ensures err { IfErr result (λ e. refuses_operation op e ≡ true) }
     {
         let Some(tx) = self.tx else {
             return Err(Refusal::NoSuchTransaction);
@@ -64,6 +70,9 @@ impl<'e, L: Run, D: Disk, G: Gate + Drop> Session<'e, L, D, G> {
         ensures none { IsNoTx self.old.tx result }
         ensures asked { HasAsked self.old (Op.Read key) result self.new }
         ensures receipts { self.new.receipts ≡ self.old.receipts }
+        ensures core { IsCoreAnswer L.opening self.old.tx (Op.Read key) result }
+        ensures tx { IfErr result (λ e. HasLeftTx L.opening self.old.tx e self.new.tx) }
+        ensures err { IfErr result (λ e. refuses_operation (Op.Read key) e ≡ true) }
     {
         self.operate(rt, Op::Read(key))
     }
@@ -74,6 +83,9 @@ impl<'e, L: Run, D: Disk, G: Gate + Drop> Session<'e, L, D, G> {
         ensures none { IsNoTx self.old.tx result }
         ensures asked { HasAsked self.old (Op.Scan table lo hi) result self.new }
         ensures receipts { self.new.receipts ≡ self.old.receipts }
+        ensures core { IsCoreAnswer L.opening self.old.tx (Op.Scan table lo hi) result }
+        ensures tx { IfErr result (λ e. HasLeftTx L.opening self.old.tx e self.new.tx) }
+        ensures err { IfErr result (λ e. refuses_operation (Op.Scan table lo hi) e ≡ true) }
     {
         self.operate(rt, Op::Scan(table, lo, hi))
     }
@@ -83,6 +95,9 @@ impl<'e, L: Run, D: Disk, G: Gate + Drop> Session<'e, L, D, G> {
         ensures none { IsNoTx self.old.tx result }
         ensures asked { HasAsked self.old (Op.Insert row) result self.new }
         ensures receipts { self.new.receipts ≡ self.old.receipts }
+        ensures core { IsCoreAnswer L.opening self.old.tx (Op.Insert row) result }
+        ensures tx { IfErr result (λ e. HasLeftTx L.opening self.old.tx e self.new.tx) }
+        ensures err { IfErr result (λ e. refuses_operation (Op.Insert row) e ≡ true) }
     {
         self.operate(rt, Op::Insert(row))
     }
@@ -92,6 +107,9 @@ impl<'e, L: Run, D: Disk, G: Gate + Drop> Session<'e, L, D, G> {
         ensures none { IsNoTx self.old.tx result }
         ensures asked { HasAsked self.old (Op.Update row) result self.new }
         ensures receipts { self.new.receipts ≡ self.old.receipts }
+        ensures core { IsCoreAnswer L.opening self.old.tx (Op.Update row) result }
+        ensures tx { IfErr result (λ e. HasLeftTx L.opening self.old.tx e self.new.tx) }
+        ensures err { IfErr result (λ e. refuses_operation (Op.Update row) e ≡ true) }
     {
         self.operate(rt, Op::Update(row))
     }
@@ -101,6 +119,9 @@ impl<'e, L: Run, D: Disk, G: Gate + Drop> Session<'e, L, D, G> {
         ensures none { IsNoTx self.old.tx result }
         ensures asked { HasAsked self.old (Op.Delete key) result self.new }
         ensures receipts { self.new.receipts ≡ self.old.receipts }
+        ensures core { IsCoreAnswer L.opening self.old.tx (Op.Delete key) result }
+        ensures tx { IfErr result (λ e. HasLeftTx L.opening self.old.tx e self.new.tx) }
+        ensures err { IfErr result (λ e. refuses_operation (Op.Delete key) e ≡ true) }
     {
         self.operate(rt, Op::Delete(key))
     }
@@ -108,7 +129,11 @@ impl<'e, L: Run, D: Disk, G: Gate + Drop> Session<'e, L, D, G> {
     // Passes on what the transaction was answered to an operation, and keeps a copy. Where memory
     // is refused for the copy, the transaction is rolled back.
     fn keep_answer<R: Wait>(&mut self, rt: &R, op: Op, answer: Answer) -> Result<Answer, Refusal>
+        requires core { IsCoreAnswer L.opening self.old.tx op (Ok answer) }
         ensures asked { HasAsked self.old op result self.new }
+        ensures core { IsCoreAnswer L.opening self.old.tx op result }
+        ensures tx { IfErr result (λ e. HasLeftTx L.opening self.old.tx e self.new.tx) }
+        ensures err { IfErr result (λ e. refuses_operation op e ≡ true) }
     {
         if self.told.keep(op, &answer).is_err() {
             self.leave(rt);

@@ -11,7 +11,8 @@ use std::sync::Wait;
 use std::thread;
 
 impl<'e, L: Run, D: Disk, G: Gate + Drop> Session<'e, L, D, G> {
-    ghost use Rattle.std.specs.Prelude.{◌≡◌, None};
+    ghost use Rattle.std.specs.Prelude.{◌≡◌, None, IfSome};
+    ghost use Rattle.mvo_engine.specs.Asked.{HasGone};
     ghost use Rattle.mvo_engine.specs.Transacting.{IsTransacted, AreAttempts, IsAttempt};
 
     /// Begins a transaction, does the work in it and commits it. Where another was in its way
@@ -28,7 +29,8 @@ impl<'e, L: Run, D: Disk, G: Gate + Drop> Session<'e, L, D, G> {
         times: u32,
         work: &W,
     ) -> Result<(T, Stamp), Refusal>
-        ensures { IsTransacted (W.comes_to work.now) times self.old.tx self.old result self.new }
+        ensures { IsTransacted L.opening (W.comes_to work.now) times
+            self.old.tx self.old result self.new }
     {
         if self.tx.is_some() {
             return Err(Refusal::Busy);
@@ -44,7 +46,7 @@ impl<'e, L: Run, D: Disk, G: Gate + Drop> Session<'e, L, D, G> {
         work: &W,
     ) -> Result<(T, Stamp), Refusal>
         requires { self.old.tx ≡ None }
-        ensures { AreAttempts (W.comes_to work.now) times self.old result self.new }
+        ensures { AreAttempts L.opening (W.comes_to work.now) times self.old result self.new }
     {
         for _failures in 0..times.saturating_sub(1) {
             match self.attempt(rt, work) {
@@ -63,7 +65,7 @@ impl<'e, L: Run, D: Disk, G: Gate + Drop> Session<'e, L, D, G> {
         work: &W,
     ) -> Result<(T, Stamp), Refusal>
         requires { self.old.tx ≡ None }
-        ensures { IsAttempt (W.comes_to work.now) self.old result self.new }
+        ensures { IsAttempt L.opening (W.comes_to work.now) self.old result self.new }
     {
         match self.begin_tx(rt) {
             Ok(_) => {}
@@ -83,6 +85,7 @@ impl<'e, L: Run, D: Disk, G: Gate + Drop> Session<'e, L, D, G> {
     fn give_up<R: Wait>(&mut self, rt: &R, refusal: Refusal) -> Refusal
         ensures same { result ≡ refusal }
         ensures session { self.new ≡ record self.old { tx = None } }
+        ensures gone { IfSome self.old.tx (HasGone L.opening) }
     {
         self.leave(rt);
         refusal

@@ -9,3 +9,6 @@ pub returns-clause-step : goal.returns-clause-step
 returns-clause-step g c =
     let le : c.args.last.0 ≤ c.self.inside.core.table.clock = first_of (grind (arith, c.if-lt.false, c.lt.ensures, c.clock.ensures), search rules) in
     rw (← c.self.view_is) (inl (le, record { step = c.begin_tx.ensures.step; sends = refl; made = refl }))
+
+pub returns-clause-sound : goal.returns-clause-sound
+returns-clause-sound g c = rw (← c.self.view_is) c.self.invariant.0

@@ -7,3 +7,6 @@ invariant_of-self g c = stays_sound c.self.invariant c.finish_one.result c.finis
 
 pub returns-clause-step : goal.returns-clause-step
 returns-clause-step g c = rw (← c.self.view_is) (record { step = c.finish_one.ensures.step; sends = refl; made = refl })
+
+pub returns-clause-sound : goal.returns-clause-sound
+returns-clause-sound g c = rw (← c.self.view_is) c.self.invariant.0

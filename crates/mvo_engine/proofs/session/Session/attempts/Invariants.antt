@@ -4,4 +4,4 @@ use Rattle.mvo_engine.proofs.session.Session.attempts.Given as goal
 
 abbrev pub invariant-loop-failures : goal.invariant-loop-failures
 invariant-loop-failures g l =
-    HaveFailed (g.W.Transaction.comes_to l.fn.work) l._failures l.fn.self l.self × (l.self.receipts ≡ l.fn.self.receipts) × (l.self.tx ≡ None)
+    HaveFailed g.L.Run.opening (g.W.Transaction.comes_to l.fn.work) l._failures l.fn.self l.self × (l.self.receipts ≡ l.fn.self.receipts) × (l.self.tx ≡ None)

@@ -1,0 +1,91 @@
+-- What a session's calls came to in the core, and attempts at a whole transaction.
+use Rattle.std.proofs.Common.{◌≡◌, ◌+◌, ◌<◌, ℕ, Bool, true, false, [], Option, None, Some, Result, Ok, Err, sym, ap, ◌∙◌, subst, arith}
+use Rattle.std.specs.Prelude.{IfSome, max, suc}
+use Rattle.std.specs.Option.{option_map}
+use Rattle.mvo_types.specs.declared.answer.Answer.{Answer}
+use Rattle.mvo_types.specs.declared.ids.TxId.{TxId}
+use Rattle.mvo_types.specs.declared.op.Op.{Op}
+use Rattle.mvo_types.specs.declared.refusal.Refusal.{Refusal}
+use Rattle.mvo_theory.specs.Causes.{is_failure}
+use Rattle.mvo_theory.specs.Calls.Call.{Do}
+use Rattle.mvo_core.specs.Steps.{IsAnswered}
+use Rattle.mvo_engine.specs.run.Opening.{Opening}
+use Rattle.mvo_engine.specs.run.Receiving.{AreBelow}
+use Rattle.mvo_engine.specs.Sound.{IsSoundCore}
+use Rattle.mvo_engine.specs.States.{CoreState, SessionState}
+use Rattle.mvo_engine.specs.Calls.{IsCoreStep, IsBegun, HasCommitted}
+use Rattle.mvo_engine.specs.Asked.{WasAsked, WasAnswered, HasGone}
+use Rattle.mvo_engine.specs.Refusing.{refuses_commit}
+use Rattle.mvo_engine.specs.Transacting.{Work, HasNewTx, HasNotDone, HaveFailed, AreAttempts}
+use Rattle.mvo_engine.specs.Transacting.IsRefusedBy.{Working, Committing}
+
+-- an operation of the session's transaction, by a copy of it
+pub answered_so : {o : Opening} (x : Option TxId) (tx : TxId) (op copy : Op) (a : Answer) (old new : CoreState) → x ≡ Some tx → copy ≡ op → IsSoundCore o old.core old.sends.sent → IsCoreStep old (Do tx.0 op) (Ok a) new → IsAnswered old.core tx.0 op a → IfSome (option_map (λ (t : TxId). t.0) x) (λ t. WasAnswered o t copy a)
+answered_so {o} x tx op copy a old new is same sound step answer =
+    let was : WasAnswered o tx.0 op a = record { old = old; new = new; sound = sound; step = step; answer = answer } in
+    subst (λ (y : Option TxId). IfSome (option_map (λ (t : TxId). t.0) y) (λ t. WasAnswered o t copy a)) (sym is) (subst (λ (p : Op). WasAnswered o tx.0 p a) (sym same) was)
+
+-- one that is refused
+pub refused_so : {o : Opening} (x : Option TxId) (tx : TxId) (op : Op) (e : Refusal) (old new : CoreState) → x ≡ Some tx → IsSoundCore o old.core old.sends.sent → IsCoreStep {A = Answer} old (Do tx.0 op) (Err e) new → IfSome (option_map (λ (t : TxId). t.0) x) (λ t. WasAsked {A = Answer} o (Do t op) (Err e))
+refused_so {o} x tx op e old new is sound step =
+    let was : WasAsked {A = Answer} o (Do tx.0 op) (Err e) = record { old = old; new = new; sound = sound; step = step } in
+    subst (λ (y : Option TxId). IfSome (option_map (λ (t : TxId). t.0) y) (λ t. WasAsked {A = Answer} o (Do t op) (Err e))) (sym is) was
+
+-- a begin that is accepted
+pub begun_so : (old new : SessionState) (t : TxId) → old.tx ≡ None → IsBegun old.tx (Ok t) new.tx → new.told ≡ [] → AreBelow t.0 new.receipts → new ≡ record old { tx = new.tx; told = new.told } → HasNewTx old new
+begun_so old new t none begun told above rest =
+    let there : new.tx ≡ Some t.0 = subst (λ (x : Option ℕ). IsBegun x (Ok t) new.tx) none begun in
+    record {
+      tx = t.0;
+      above = subst (AreBelow t.0) (ap (λ (s : SessionState). s.receipts) rest) above;
+      begun = rest ∙ (λ k. record old { tx = there k; told = told k });
+    }
+
+same_receipts : (old begun : SessionState) → HasNewTx old begun → begun.receipts ≡ old.receipts
+same_receipts old begun b = ap (λ (s : SessionState). s.receipts) b.begun
+
+-- work that is refused, behind which the session leaves the transaction
+pub not_worked : {A : Type 0} {o : Opening} (work : Work A) (old begun worked new : SessionState) (e f : Refusal) → HasNewTx old begun → work begun (Err e) worked → worked.receipts ≡ begun.receipts → IfSome worked.tx (HasGone o) → f ≡ e → new ≡ record worked { tx = None } → HasNotDone o work old f new
+not_worked {o = o} work old begun worked new e f begins works same gone is left =
+    let done : HasNotDone o work old e new = record {
+      by = Working begun worked begins works gone;
+      receipts = ap (λ (s : SessionState). s.receipts) left ∙ same ∙ same_receipts old begun begins;
+      tx = ap (λ (s : SessionState). s.tx) left;
+    } in
+    subst (λ (r : Refusal). HasNotDone o work old r new) (sym is) done
+
+-- a commit that is refused
+pub not_committed : {A : Type 0} {o : Opening} (work : Work A) (old begun worked asked new : SessionState) (a : A) (e f : Refusal) → HasNewTx old begun → work begun (Ok a) worked → worked.receipts ≡ begun.receipts → refuses_commit e ≡ true → HasCommitted worked (Err e) asked → f ≡ e → new ≡ record asked { tx = None } → HasNotDone o work old f new
+not_committed {o = o} work old begun worked asked new a e f begins works same listed commits is left =
+    let done : HasNotDone o work old e new = record {
+      by = Committing begun worked begins a works listed;
+      receipts = ap (λ (s : SessionState). s.receipts) left ∙ ap (λ (s : SessionState). s.receipts) commits ∙ same ∙ same_receipts old begun begins;
+      tx = ap (λ (s : SessionState). s.tx) left;
+    } in
+    subst (λ (r : Refusal). HasNotDone o work old r new) (sym is) done
+
+-- ---- attempts
+not_both : (b : Bool) → b ≡ false → b ≡ true → ⊥
+not_both true wrong right = absurd cc
+not_both false wrong right = absurd cc
+
+-- one that is refused with no failure is the last
+pub ended_by : {A : Type 0} (o : Opening) (work : Work A) (times n : ℕ) (old before new : SessionState) (e : Refusal) (b : Bool) → HaveFailed o work n old before → before.receipts ≡ old.receipts → HasNotDone o work before e new → n < max 1 times → b ≡ is_failure e → b ≡ false → AreAttempts o work times old (Err e) new
+ended_by o work times n old before new e b failed same last fewer is wrong = record {
+  failures = n;
+  before = before;
+  failed = failed;
+  last = last;
+  fewer = fewer;
+  spent = λ right. absurd (not_both b wrong (is ∙ right));
+  receipts = last.receipts ∙ same;
+  tx = last.tx;
+}
+
+-- one failure more
+pub failed_more : {A : Type 0} (o : Opening) (work : Work A) (n : ℕ) (old before new : SessionState) (e : Refusal) (b : Bool) → HaveFailed o work n old before → HasNotDone o work before e new → b ≡ is_failure e → b ≡ true → HaveFailed o work (n + 1) old new
+failed_more o work n old before new e b failed last is right' =
+    let right : is_failure e ≡ true = sym is ∙ right' in
+    let all : HaveFailed o work (suc n) old new = (before, failed, e, right, last) in
+    let one : suc n ≡ n + 1 = omega arith in
+    subst (λ (m : ℕ). HaveFailed o work m old new) one all

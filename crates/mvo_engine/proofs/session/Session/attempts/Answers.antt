@@ -1,0 +1,16 @@
+use Rattle.std.proofs.Common.{◌∙◌, arith}
+use Rattle.mvo_engine.proofs.Transacting.{ended_by, failed_more}
+use Rattle.mvo_engine.proofs.session.Session.attempts.Goals as goal
+
+pub returns-in-Err : goal.returns-in-Err
+returns-in-Err g c =
+    let l = c.loop-failures in
+    let test = c.loop-failures-test.true in
+    let end = c.saturating_sub-failures-end.ensures in
+    ended_by g.L.Run.opening (g.W.Transaction.comes_to c.args.work.now) c.args.times l._failures c.args.self.now l.self c.attempt.new.self c.in-Err.refusal c.is_failure.result l.invariant.0 l.invariant.1 c.in-Err.ensures (omega (arith, test, end)) c.is_failure.ensures c.if-not-is_failure.true
+
+pub loop-failures-preserved : goal.loop-failures-preserved
+loop-failures-preserved g c =
+    let l = c.loop-failures in
+    let last = c.in-Err.ensures in
+    (failed_more g.L.Run.opening (g.W.Transaction.comes_to c.args.work.now) l._failures c.args.self.now l.self c.attempt.new.self c.in-Err.refusal c.is_failure.result l.invariant.0 last c.is_failure.ensures c.if-not-is_failure.false, last.receipts ∙ l.invariant.1, last.tx)

@@ -1,0 +1,91 @@
+-- What a session asked of the core, each time under its lock.
+use Rattle.std.specs.Prelude.{◌≡◌, ◌⊎◌, ℕ, true, Option, None, Some, Result, Ok, Err, IfOk, IfSome}
+use Rattle.mvo_types.specs.declared.answer.Answer.{Answer}
+use Rattle.mvo_types.specs.declared.ids.Stamp.{Stamp}
+use Rattle.mvo_types.specs.declared.op.Op.{Op}
+use Rattle.mvo_types.specs.declared.refusal.Refusal.{Refusal}
+use Rattle.mvo_types.specs.declared.refusal.Refusal.TheVariants.{NoSuchTransaction, Down, Busy, OutOfMemory}
+use Rattle.mvo_theory.specs.Calls as theory
+use Rattle.mvo_theory.specs.Calls.Call.{Do, Precommit, Validate, Settle, Rollback, Finish}
+use Rattle.mvo_theory.specs.Causes.{is_failure}
+use Rattle.mvo_core.specs.declared.answers.Finishing.{Finishing}
+use Rattle.mvo_core.specs.declared.answers.Finishing.TheVariants.{Done}
+use Rattle.mvo_core.specs.declared.answers.Settlement.{Settlement}
+use Rattle.mvo_core.specs.declared.answers.Validation.{Validation}
+use Rattle.mvo_core.specs.Steps.{IsAnswered, IsFinishing}
+use Rattle.mvo_store.specs.Causes.{why_not_take}
+use Rattle.mvo_engine.specs.run.Opening.{Opening}
+use Rattle.mvo_engine.specs.Sound.{IsSoundCore}
+use Rattle.mvo_engine.specs.States.{CoreState, StoreState}
+use Rattle.mvo_engine.specs.Calls.{IsCoreStep, IsAnother}
+
+-- Under its lock the core lay sound, and the call came to this.
+pub record WasAsked {A : Type 0} (o : Opening) (call : theory.Call) (result : Result A Refusal)
+    : Type 0 where
+  pub old : CoreState
+  pub new : CoreState
+  pub sound : IsSoundCore o old.core old.sends.sent
+  pub step : IsCoreStep old call result new
+
+-- The transaction was rolled back in the core; or that was refused, since it had ended or was no
+-- longer there.
+abbrev pub WasRolledBack : Opening → ℕ → Type 0
+WasRolledBack o t = (result : Result (Unit {0}) Refusal) × WasAsked o (Rollback t) result
+
+-- a step of its finishing
+pub record IsFinishingAnswer (o : Opening) (t : ℕ) (result : Result Finishing Refusal) : Type 0
+  where
+    pub old : CoreState
+    pub new : CoreState
+    pub sound : IsSoundCore o old.core old.sends.sent
+    pub step : IsCoreStep old (Finish t) result new
+    pub answer : IfOk result (IsFinishing old.core t)
+
+-- its last word was replaced in the core, or it was no longer there
+pub data WasFinished (o : Opening) (t : ℕ) : Type 0 where
+  Last : IsFinishingAnswer o t (Ok Done) → WasFinished o t
+  NotThere : IsFinishingAnswer o t (Err NoSuchTransaction) → WasFinished o t
+
+-- it was rolled back in the core and finished
+pub record HasGone (o : Opening) (t : ℕ) : Type 0 where
+  pub rolled_back : WasRolledBack o t
+  pub finished : WasFinished o t
+
+-- What a refusal leaves of the transaction: it stays the session's; or a failure ended it, and it
+-- is finished in the core; or it was rolled back there.
+pub data HasLeftTx (o : Opening) (before : Option ℕ) (e : Refusal) (after : Option ℕ) : Type 0 where
+  Stays : after ≡ before → HasLeftTx o before e after
+  Failed : is_failure e ≡ true → IfSome before (WasFinished o) → HasLeftTx o before e after
+  Gone : IfSome before (HasGone o) → HasLeftTx o before e after
+
+-- what the core answered to an operation of the transaction
+pub record WasAnswered (o : Opening) (t : ℕ) (op : Op) (a : Answer) : Type 0 where
+  pub old : CoreState
+  pub new : CoreState
+  pub sound : IsSoundCore o old.core old.sends.sent
+  pub step : IsCoreStep old (Do t op) (Ok a) new
+  pub answer : IsAnswered old.core t op a
+
+-- what an operation was answered or refused, the core answered or refused; but for want of memory
+abbrev pub IsCoreAnswer : Opening → Option ℕ → Op → Result Answer Refusal → Type 0
+IsCoreAnswer o tx op (Ok a) = IfSome tx (λ t. WasAnswered o t op a)
+IsCoreAnswer o tx op (Err e) =
+    (e ≡ OutOfMemory) ⊎ IfSome tx (λ t. WasAsked {A = Answer} o (Do t op) (Err e))
+
+-- one session more was made under the lock of the core; or none, as many were made as may be
+abbrev pub WasMade : {A : Type 0} → Result A Refusal → Type 0
+WasMade (Ok session) = (old new : CoreState) × IsAnother old (Some session) new
+WasMade {A} (Err e) = (old new : CoreState) × IsAnother {A = A} old None new
+
+-- what refuses a commit: a step of the core; or want of memory for the receipt, or Busy, since the
+-- core holds other answers than its calls gave
+pub data HasRefusedToCommit (o : Opening) (t : ℕ) (e : Refusal) : Type 0 where
+  Preparing : WasAsked {A = Stamp} o (Precommit t) (Err e) → HasRefusedToCommit o t e
+  Checking : WasAsked {A = Validation} o (Validate t) (Err e) → HasRefusedToCommit o t e
+  Settling : WasAsked {A = Settlement} o (Settle t) (Err e) → HasRefusedToCommit o t e
+  Receipt : e ≡ OutOfMemory → HasRefusedToCommit o t e
+  Unlike : e ≡ Busy → HasRefusedToCommit o t e
+
+-- under its lock the store was down
+abbrev pub WasDown : Type 0 → Type 0
+WasDown D = (s : StoreState D) × (why_not_take s.store ≡ Some Down)
