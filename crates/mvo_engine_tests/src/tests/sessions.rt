@@ -27,6 +27,7 @@ fn go<L: Run, D: Disk, R: Wait>(
     with_one(rt, alloc, &mut session, &mut told)?;
     conflicts(rt, alloc, engine, &mut told)?;
     guards(rt, alloc, engine, &mut told)?;
+    committed_reads(rt, &mut session, &mut told)?;
     Ok(told)
 }
 
@@ -147,6 +148,24 @@ fn guards<L: Run, D: Disk, R: Wait>(
     Ok(())
 }
 
+// What was answered is what a commit finds: of a scan round the row's sort, and of a delete.
+fn committed_reads<L: Run, D: Disk, G: Gate + Drop, R: Wait>(
+    rt: &R,
+    session: &mut Session<'_, L, D, G>,
+    told: &mut Vec<bool>,
+) -> Result<(), Refusal> {
+    session.begin_tx(rt)?;
+    told.push(is_one(&session.scan(rt, 0, 49, 51)?))?;
+    session.commit_tx(rt)?;
+    session.begin_tx(rt)?;
+    told.push(matches!(session.delete(rt, KEY)?, Answer::Deleted))?;
+    session.commit_tx(rt)?;
+    session.begin_tx(rt)?;
+    told.push(matches!(session.read(rt, KEY)?, Answer::Found(None)))?;
+    session.commit_tx(rt)?;
+    Ok(())
+}
+
 #[test]
 fn sessions_are_told(rt: HostRuntime) -> Result<(), Fail> {
     let alloc = rt.alloc();
@@ -154,6 +173,6 @@ fn sessions_are_told(rt: HostRuntime) -> Result<(), Fail> {
     for (place, right) in told.iter().enumerate() {
         assert!(rt; *right, "answer {place}");
     }
-    same(&rt, &told.len(), &23);
+    same(&rt, &told.len(), &26);
     Ok(())
 }
