@@ -1,11 +1,11 @@
 //! A flush that is refused memory says so. It sees that where an allocation fails in its closing.
 
-use super::formatted;
 use super::rows::put;
 use super::trial::{Trial, tried};
 use crate::equal::holds;
 use mvo_disk::MemDisk;
 use mvo_engine::{Engine, OpenGate, Run};
+use mvo_store::format;
 use mvo_types::Refusal;
 use std::alloc::Global;
 use std::sync::Wait;
@@ -35,7 +35,10 @@ impl Trial<MemDisk, OpenGate> for Flushing {
 #[test]
 fn a_flush_that_is_refused_memory_says_so(rt: HostRuntime) -> Result<(), Fail> {
     let alloc = rt.alloc();
-    let disk = match formatted(alloc) {
+    let Ok(disk) = MemDisk::new(alloc) else {
+        return Ok(());
+    };
+    let disk = match format(alloc, disk) {
         Ok(disk) => disk,
         Err(_) => return Ok(()),
     };
