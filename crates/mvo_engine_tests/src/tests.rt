@@ -5,7 +5,6 @@ mod day;
 mod depending;
 mod down;
 mod ending;
-mod flushing;
 mod gathering;
 mod held_disk;
 mod jobs;
