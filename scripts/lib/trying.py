@@ -26,6 +26,8 @@ STATUS = re.compile(r"^fn (\S+): (.*)$", re.M)
 RESTS = "it calls "
 # The last line where the functions were tried.
 ENDED = re.compile(r"^only=\d+ proved=", re.M)
+# What is printed where a name fits no function, or several.
+UNKNOWN = re.compile(r"^rattle: error: .*(?:has no function|several functions).*`([^`]+)`: help", re.M)
 # What the toolchain says of an edit that it tried alone.
 TRIED = re.compile(r"^rt: must-fail \S+/(\S+)\.edit: ([Rr]efused|NOT REFUSED|BAD EDIT|NOT TRIED)(.*)$", re.M)
 
@@ -59,7 +61,8 @@ def owner_of(head):
 
 
 def functions_of(file, text):
-    """The functions of a file of src/: where each begins and ends, and its name in the crate."""
+    """The functions of a file of src/: where each begins and ends, and the end of its name that the
+    toolchain finds it by: of a method's that is the type, which may be declared in another file."""
     code = blanked(text)
     module = file[len("src/") : -len(".rt")].split("/")
     if module[-1] in ("lib", "main", "mod"):
@@ -68,7 +71,8 @@ def functions_of(file, text):
     for it in FUNCTION.finditer(code):
         end = code.find(f"\n{it[1]}}}", it.start())
         inside = [owner_of(head) for begin, until, head in owners if begin < it.start() < until]
-        yield it.start(), end if end >= 0 else len(code), "::".join([*module, *inside[-1:], it[2]])
+        name = "::".join([*(inside[-1:] or module), it[2]])
+        yield it.start(), end if end >= 0 else len(code), name
 
 
 class Stopped(Exception):
@@ -231,6 +235,10 @@ class Trying:
         some = self.chosen(edits)
         left = [it for it in edits if it not in some]
         said = self.room.check(some)
+        unknown = [it for it in some if it.functions & {*UNKNOWN.findall(said)}]
+        if unknown:
+            self.alone += unknown
+            return [it for it in edits if it not in unknown]
         is_read = ENDED.search(said)
         again = [it for it in some if not is_read or not self.judge(it, said, len(some) == 1)]
         if is_read and len(again) < len(some):
