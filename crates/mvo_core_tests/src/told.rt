@@ -1,7 +1,7 @@
 //! What a transaction was told is compared with what somebody says.
 
 use crate::equal::same;
-use mvo_core::Core;
+use mvo_core::{Core, Finishing};
 use mvo_types::{Answer, Op, Refusal, Row, RowKey, Rows, Stamp, TxId};
 use std::alloc::{AllocError, Global};
 use std::test::*;
@@ -79,14 +79,14 @@ fn is_held(
     Ok(core.holds(tx, &told))
 }
 
-/// Whether each case is as it is wanted, and a transaction that never began holds nothing.
+/// Whether each case is as it is wanted, and a transaction that never began isn't compared.
 fn is_as_wanted(alloc: Global, core: &Core, tx: TxId) -> Result<bool, AllocError> {
     for (count, other, wanted) in CASES {
         if is_held(alloc, core, tx, count, other)? != wanted {
             return Ok(false);
         }
     }
-    Ok(!is_held(alloc, core, TxId(99), 5, NONE)?)
+    is_held(alloc, core, TxId(99), 4, 2)
 }
 
 /// Of a transaction that is Active, and then of the same that is Preparing.
@@ -96,6 +96,45 @@ fn asked(rt: &(impl Threads + Sync), alloc: Global) -> Result<(bool, bool), Refu
     let active = is_as_wanted(alloc, &core, tx)?;
     core.precommit(tx)?;
     Ok((active, is_as_wanted(alloc, &core, tx)?))
+}
+
+/// Whether one that is no longer Active or Preparing isn't compared, and why it isn't settled.
+fn settled(alloc: Global, core: &mut Core, tx: TxId) -> Result<(bool, Option<Refusal>), Refusal> {
+    let is_held = is_held(alloc, core, tx, 4, 2)?;
+    Ok((is_held, core.settle(tx).err()))
+}
+
+/// Of a transaction that is Committed, of the same that is finished, and of one that is Aborted.
+fn ended(
+    rt: &(impl Threads + Sync),
+    alloc: Global,
+) -> Result<[(bool, Option<Refusal>); 3], Refusal> {
+    let mut core = Core::open(rt, alloc, 1, Rows::new(alloc), Stamp(0))?;
+    let tx = work(alloc, &mut core)?;
+    core.precommit(tx)?;
+    for _ in 0..6 {
+        core.validate_one(tx)?;
+    }
+    core.settle(tx)?;
+    let committed = settled(alloc, &mut core, tx)?;
+    for _ in 0..9 {
+        if core.finish_one(tx)? == Finishing::Done {
+            break;
+        }
+    }
+    let finished = settled(alloc, &mut core, tx)?;
+    let other = core.begin_tx()?;
+    core.rollback_tx(other)?;
+    Ok([committed, finished, settled(alloc, &mut core, other)?])
+}
+
+/// Who was never there or is over is refused by `settle`, and not for what he was told.
+#[test]
+fn who_is_over_is_not_compared(rt: HostRuntime) -> Result<(), Fail> {
+    let over = (true, Some(Refusal::Ended));
+    let gone = (true, Some(Refusal::NoSuchTransaction));
+    same(&rt, &ended(&rt, rt.alloc()), &Ok([over, gone, over]));
+    Ok(())
 }
 
 #[test]

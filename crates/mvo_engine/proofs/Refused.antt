@@ -152,9 +152,9 @@ pub beginning_refused : {A : Type 0} {o : Opening} (old new : CoreState) (last :
 beginning_refused old new last e sound (inl step) = begin_refused e (record { old = old; new = new; sound = sound; step = step.1 })
 beginning_refused old new last e sound (inr busy) = ap refuses_begin (err_same e _ busy.1)
 
-pub settling_refused : {o : Opening} (old new : CoreState) (t : ℕ) (told : History) (e : Refusal) → IsSoundCore o old.core old.sends.sent → IsSettling old t told (Err e) new → HasRefusedToCommit o t e
+pub settling_refused : {o : Opening} (old new : CoreState) (t : ℕ) (told : History) (e : Refusal) → IsSoundCore o old.core old.sends.sent → IsSettling old t told (Err e) new → HasRefusedToCommit o t told e
 settling_refused old new t told e sound (inl step) = Settling (record { old = old; new = new; sound = sound; step = step.1 })
-settling_refused old new t told e sound (inr busy) = Unlike (err_same e _ busy.1)
+settling_refused old new t told e sound (inr busy) = Unlike (record { old = old; sound = sound; holds = busy.0 }) (err_same e _ busy.1)
 
 -- want of memory is of each
 no_memory : (op : Op) → refuses_operation op OutOfMemory ≡ true
@@ -170,12 +170,12 @@ operation_refused t op e asked = asked_in (refuses_operation op) (Do t op) e (λ
 pub rollback_refused : {A : Type 0} {o : Opening} (t : ℕ) (e : Refusal) → WasAsked {A = A} o (Rollback t) (Err e) → refuses_rollback e ≡ true
 rollback_refused t e asked = asked_in refuses_rollback (Rollback t) e (λ s. rollback_in s t) (λ m. absurd cc) asked
 
-pub commit_refused : {o : Opening} (t : ℕ) (e : Refusal) → HasRefusedToCommit o t e → refuses_commit e ≡ true
-commit_refused t e (Preparing asked) = asked_in refuses_commit (Precommit t) e (λ s. precommit_in s t) (λ m. refl) asked
-commit_refused t e (Checking asked) = asked_in refuses_commit (Validate t) e (λ s. validate_in s t) (λ m. absurd cc) asked
-commit_refused t e (Settling asked) = asked_in refuses_commit (Settle t) e (λ s. settle_in s t) (λ m. absurd cc) asked
-commit_refused t e (Receipt is) = ap refuses_commit is
-commit_refused t e (Unlike is) = ap refuses_commit is
+pub commit_refused : {o : Opening} (t : ℕ) (told : History) (e : Refusal) → HasRefusedToCommit o t told e → refuses_commit e ≡ true
+commit_refused t told e (Preparing asked) = asked_in refuses_commit (Precommit t) e (λ s. precommit_in s t) (λ m. refl) asked
+commit_refused t told e (Checking asked) = asked_in refuses_commit (Validate t) e (λ s. validate_in s t) (λ m. absurd cc) asked
+commit_refused t told e (Settling asked) = asked_in refuses_commit (Settle t) e (λ s. settle_in s t) (λ m. absurd cc) asked
+commit_refused t told e (Receipt is) = ap refuses_commit is
+commit_refused t told e (Unlike unlike is) = ap refuses_commit is
 
 -- ---- of a step of a sound core
 asked_of : {A : Type 0} {o : Opening} (old : CoreState) (call : Call) (result : Result A Refusal) (new : CoreData) → IsSoundCore o old.core old.sends.sent → IsStep old.core call result new → WasAsked o call result

@@ -1,10 +1,11 @@
 -- What a session asked of the core, each time under its lock.
-use Rattle.std.specs.Prelude.{◌≡◌, ◌⊎◌, ℕ, true, Option, None, Some, Result, Ok, Err, IfOk, IfSome}
+use Rattle.std.specs.Prelude.{◌≡◌, ◌⊎◌, ℕ, true, false, Option, None, Some, Result, Ok, Err, IfOk, IfSome}
 use Rattle.mvo_types.specs.declared.answer.Answer.{Answer}
 use Rattle.mvo_types.specs.declared.ids.Stamp.{Stamp}
 use Rattle.mvo_types.specs.declared.op.Op.{Op}
 use Rattle.mvo_types.specs.declared.refusal.Refusal.{Refusal}
 use Rattle.mvo_types.specs.declared.refusal.Refusal.TheVariants.{NoSuchTransaction, Down, Busy, OutOfMemory}
+use Rattle.mvo_model.specs.History.{History}
 use Rattle.mvo_theory.specs.Calls as theory
 use Rattle.mvo_theory.specs.Calls.Call.{Do, Precommit, Validate, Settle, Rollback, Finish}
 use Rattle.mvo_theory.specs.Causes.{is_failure}
@@ -12,6 +13,7 @@ use Rattle.mvo_core.specs.declared.answers.Finishing.{Finishing}
 use Rattle.mvo_core.specs.declared.answers.Finishing.TheVariants.{Done}
 use Rattle.mvo_core.specs.declared.answers.Settlement.{Settlement}
 use Rattle.mvo_core.specs.declared.answers.Validation.{Validation}
+use Rattle.mvo_core.specs.Holding.{HoldsJust}
 use Rattle.mvo_core.specs.Steps.{IsAnswered, IsFinishing}
 use Rattle.mvo_store.specs.Causes.{why_not_take}
 use Rattle.mvo_engine.specs.run.Opening.{Opening}
@@ -77,14 +79,21 @@ abbrev pub WasMade : {A : Type 0} → Result A Refusal → Type 0
 WasMade (Ok session) = (old new : CoreState) × IsAnother old (Some session) new
 WasMade {A} (Err e) = (old new : CoreState) × IsAnother {A = A} old None new
 
--- what refuses a commit: a step of the core; or want of memory for the receipt, or Busy, since the
--- core holds other answers than its calls gave
-pub data HasRefusedToCommit (o : Opening) (t : ℕ) (e : Refusal) : Type 0 where
-  Preparing : WasAsked {A = Stamp} o (Precommit t) (Err e) → HasRefusedToCommit o t e
-  Checking : WasAsked {A = Validation} o (Validate t) (Err e) → HasRefusedToCommit o t e
-  Settling : WasAsked {A = Settlement} o (Settle t) (Err e) → HasRefusedToCommit o t e
-  Receipt : e ≡ OutOfMemory → HasRefusedToCommit o t e
-  Unlike : e ≡ Busy → HasRefusedToCommit o t e
+-- Under its lock the core lay sound, and held other answers of the transaction than these: it was
+-- Active or Preparing there.
+pub record WasUnlike (o : Opening) (t : ℕ) (told : History) : Type 0 where
+  pub old : CoreState
+  pub sound : IsSoundCore o old.core old.sends.sent
+  pub holds : HoldsJust old.core t told false
+
+-- what refuses a commit of a transaction that was told this: a step of the core; or want of memory
+-- for the receipt, or Busy, since the core held other answers than its calls gave
+pub data HasRefusedToCommit (o : Opening) (t : ℕ) (told : History) (e : Refusal) : Type 0 where
+  Preparing : WasAsked {A = Stamp} o (Precommit t) (Err e) → HasRefusedToCommit o t told e
+  Checking : WasAsked {A = Validation} o (Validate t) (Err e) → HasRefusedToCommit o t told e
+  Settling : WasAsked {A = Settlement} o (Settle t) (Err e) → HasRefusedToCommit o t told e
+  Receipt : e ≡ OutOfMemory → HasRefusedToCommit o t told e
+  Unlike : WasUnlike o t told → e ≡ Busy → HasRefusedToCommit o t told e
 
 -- under its lock the store was down
 abbrev pub WasDown : Type 0 → Type 0

@@ -26,7 +26,8 @@ pub(super) fn is_failure(refusal: Refusal) -> bool
     }
 }
 
-ghost use Rattle.std.specs.Prelude.{◌≡◌, true, IfErr};
+ghost use Rattle.std.specs.Prelude.{◌≡◌, true, Err, IfErr};
+ghost use Rattle.mvo_core.specs.declared.answers.Validation.{Validation};
 ghost use Rattle.mvo_theory.specs.Causes.{is_failure};
 ghost use Rattle.mvo_theory.specs.Calls.Call.{Precommit, Validate};
 ghost use Rattle.mvo_engine.specs.run.Receiving.{AreBelow};
@@ -58,7 +59,7 @@ impl<'e, L: Run, D: Disk, G: Gate + Drop> Session<'e, L, D, G> {
         ensures finished { OnOk result (IfSome self.old.tx (WasFinished L.opening)) }
         ensures tx { IfErr result (λ e. HasLeftTx L.opening self.old.tx e self.new.tx) }
         ensures core { IfErr result (λ e.
-            IfSome self.old.tx (λ t. HasRefusedToCommit L.opening t e)) }
+            IfSome self.old.tx (λ t. HasRefusedToCommit L.opening t self.old.told e)) }
         ensures err { IfErr result (λ e. refuses_commit e ≡ true) }
     {
         let Some(tx) = self.tx else {
@@ -166,7 +167,7 @@ fn settled<L: Run, D: Disk, G: Gate + Drop, R: Wait>(
     requires room { mine.old.room ≡ true }
     requires above { AreBelow tx.0 mine.old.list }
     ensures ended { HasEnded tx.0 told.old mine.old result mine.new told.new }
-    ensures core { IfErr result (HasRefusedToCommit L.opening tx.0) }
+    ensures core { IfErr result (HasRefusedToCommit L.opening tx.0 told.old) }
 {
     if let Err(refusal) = prepare(rt, engine, tx) {
         return Err(refusal);
@@ -192,7 +193,8 @@ fn validate<L: Run, D: Disk, G: Gate + Drop, R: Wait>(
     engine: &Engine<L, D, G>,
     tx: TxId,
 ) -> Result<(), Refusal>
-    ensures { IfErr result (HasRefusedToCommit L.opening tx.0) }
+    ensures { IfErr result (λ e.
+        WasAsked {A = Validation} L.opening (Validate tx.0) (Err e)) }
 {
     for _ in rt.forever() {
         match check_some(&mut engine.enter_core(rt), tx) {
@@ -240,7 +242,7 @@ fn settle<L: Run, D: Disk, G: Gate + Drop, R: Wait>(
     requires room { mine.old.room ≡ true }
     requires above { AreBelow tx.0 mine.old.list }
     ensures ended { HasEnded tx.0 told.old mine.old result mine.new told.new }
-    ensures core { IfErr result (HasRefusedToCommit L.opening tx.0) }
+    ensures core { IfErr result (HasRefusedToCommit L.opening tx.0 told.old) }
 {
     for _ in rt.forever() {
         match engine.enter_core(rt).settle(mine, tx, told) {
