@@ -17,8 +17,8 @@ use std::marker::PhantomData;
 /// proofs alone see: the content and the images are what that list makes of what the files held at
 /// first, as `S` has it, and the disk is honest as long as each answer in the list is the content.
 ///
-/// After a write, a cut or a sync that the system failed, each later call fails with no call of the
-/// system: the folder has to be opened again.
+/// After a write, a cut or a sync that the system failed it is broken: each later call fails with no
+/// call of the system, and nothing more is noted (`StaysBroken`). The folder has to be opened again.
 ///
 /// `P` is told of each read how many bytes were read so far, and how many the files held at first.
 pub struct DirDisk<R: Files<File = File> + Drop, S: Start, P: ReadProgress + Drop> {
@@ -60,7 +60,7 @@ fn find_all<R: Files<File = File> + Drop>(folder: &mut Folder<R>) -> Result<u64,
 }
 
 impl<R: Files<File = File> + Drop, S: Start, P: ReadProgress + Drop> DirDisk<R, S, P> {
-    ghost use Rattle.std.specs.Prelude.{◌≡◌, ◌<◌, ◌+◌, ◌^◌, [], IfOk, IsErr};
+    ghost use Rattle.std.specs.Prelude.{◌≡◌, ◌<◌, ◌+◌, ◌^◌, [], true, false, IfOk, IsErr};
 
     /// The disk in the folder at a path. All that its files hold is durable then. The folder is
     /// this process's until the disk is dropped. The start is used up, so that code over any `S`
@@ -74,6 +74,7 @@ impl<R: Files<File = File> + Drop, S: Start, P: ReadProgress + Drop> DirDisk<R, 
     ) -> Result<DirDisk<R, S, P>, FolderRefusal>
         ensures fresh { IfOk result (λ d. d.history.events ≡ []) }
         ensures count { IfOk result (λ d. d.fault_count ≡ 0) }
+        ensures unbroken { IfOk result (λ d. d.is_broken ≡ false) }
     {
         let mut folder = Folder::open(rt, alloc, path)?;
         let all = find_all(&mut folder)?;
@@ -95,6 +96,7 @@ impl<R: Files<File = File> + Drop, S: Start, P: ReadProgress + Drop> DirDisk<R, 
         ensures err { IsErr result }
         ensures count { self.new.fault_count ≡ self.old.fault_count + 1 }
         ensures same { self.new.history ≡ self.old.history }
+        ensures broken { self.new.is_broken ≡ self.old.is_broken }
     {
         self.fault_count += 1;
         Err(DiskFault)
@@ -106,6 +108,7 @@ impl<R: Files<File = File> + Drop, S: Start, P: ReadProgress + Drop> DirDisk<R, 
         ensures err { IsErr result }
         ensures count { self.new.fault_count ≡ self.old.fault_count + 1 }
         ensures same { self.new.history ≡ self.old.history }
+        ensures broken { self.new.is_broken ≡ true }
     {
         self.is_broken = true;
         self.fail()
@@ -113,18 +116,20 @@ impl<R: Files<File = File> + Drop, S: Start, P: ReadProgress + Drop> DirDisk<R, 
 }
 
 impl<R: Files<File = File> + Drop, S: Start, P: ReadProgress + Drop> Disk for DirDisk<R, S, P> {
-    ghost use Rattle.std.specs.Prelude.{length};
+    ghost use Rattle.std.specs.Prelude.{◌≡◌, ◌⊎◌, ◌<◌, ◌+◌, ◌^◌, true, length, take, drop};
+    ghost use Rattle.std.specs.Prelude.{IfOk, OnOk, OnErr, MatchResult};
+    ghost use Rattle.mvo_disk.specs.Disk.{IsHonest, Answers, Counts, Only, Holds, PartlyHolds};
+    ghost use Rattle.mvo_disk.specs.Disk.{Torn, Cut, Follows, Reaches, Keeps};
     ghost use Rattle.mvo_disk.specs.History.{file_content_after, MayLeave, LeftSince, is_honest};
+    ghost use Rattle.mvo_disk.specs.Noted.{noted_moment, FilesStay, OtherFilesStay, FileSettles};
+    ghost use Rattle.mvo_disk.specs.Noted.{GoesOn, StaysBroken};
     ghost use Rattle.mvo_disk.specs.HistoryLaws.{sound, counts_now, only_now, counts_later};
 
     ghost content = { λ d. file_content_after S.Start.files d.history.events };
 
     ghost may_leave = { λ d. MayLeave S.Start.files d.history.events };
 
-    ghost moment = { λ d. record {
-      calls = length d.history.events;
-      honest = is_honest S.Start.files d.history.events;
-    } };
+    ghost moment = { λ d. noted_moment S.Start.files d.history.events };
 
     ghost left_since = { λ d t. LeftSince S.Start.files d.history.events t.calls };
 
@@ -140,7 +145,23 @@ impl<R: Files<File = File> + Drop, S: Start, P: ReadProgress + Drop> Disk for Di
     ghost counts_later = { λ d t u image before. counts_later S.Start.files d.history.events t.calls
         u.calls image before.calls };
 
-    fn len(&mut self, file: u16) -> Result<usize, DiskFault> {
+    fn len(&mut self, file: u16) -> Result<usize, DiskFault>
+        requires file { file < FILE_COUNT }
+        requires room { self.old.fault_count + 1 < 2 ^ 64 }
+        ensures len { IfOk result (λ n.
+            IsHonest (noted_moment S.Start.files self.new.history.events) →
+            n ≡ length (file_content_after S.Start.files self.old.history.events file)) }
+        ensures honest { Answers (noted_moment S.Start.files self.old.history.events)
+            (noted_moment S.Start.files self.new.history.events)
+            (λ n. n ≡ length (file_content_after S.Start.files self.old.history.events file))
+            result }
+        ensures rest { FilesStay S.Start.files self.old.history.events self.new.history.events }
+        ensures time { GoesOn S.Start.files self.old.history.events self.new.history.events }
+        ensures count { Counts self.old.fault_count self.new.fault_count result }
+        ensures broken { StaysBroken self.old.is_broken self.old.history.events
+            self.new.is_broken self.new.history.events result }
+        ensures breaks { self.new.is_broken ≡ self.old.is_broken }
+    {
         if self.is_broken {
             return self.fail();
         }
@@ -154,7 +175,24 @@ impl<R: Files<File = File> + Drop, S: Start, P: ReadProgress + Drop> Disk for Di
         Ok(len)
     }
 
-    fn read_at(&mut self, file: u16, at: usize, into: &mut [u8]) -> Result<(), DiskFault> {
+    fn read_at(&mut self, file: u16, at: usize, into: &mut [u8]) -> Result<(), DiskFault>
+        requires file { file < FILE_COUNT }
+        requires room { self.old.fault_count + 1 < 2 ^ 64 }
+        ensures bytes { OnOk result
+            (IsHonest (noted_moment S.Start.files self.new.history.events) →
+            into.new ≡ take (length into.old) (drop at
+            (file_content_after S.Start.files self.old.history.events file))) }
+        ensures honest { Answers (noted_moment S.Start.files self.old.history.events)
+            (noted_moment S.Start.files self.new.history.events)
+            (λ _. into.new ≡ take (length into.old) (drop at
+            (file_content_after S.Start.files self.old.history.events file))) result }
+        ensures rest { FilesStay S.Start.files self.old.history.events self.new.history.events }
+        ensures time { GoesOn S.Start.files self.old.history.events self.new.history.events }
+        ensures count { Counts self.old.fault_count self.new.fault_count result }
+        ensures broken { StaysBroken self.old.is_broken self.old.history.events
+            self.new.is_broken self.new.history.events result }
+        ensures breaks { self.new.is_broken ≡ self.old.is_broken }
+    {
         if self.is_broken {
             return self.fail();
         }
@@ -170,7 +208,34 @@ impl<R: Files<File = File> + Drop, S: Start, P: ReadProgress + Drop> Disk for Di
     // A write that the system failed may have put any part of the bytes into the folder. It is
     // noted as if all of them stood there: no call asks for them, and no sync succeeds from then
     // on.
-    fn write_at(&mut self, file: u16, at: usize, bytes: &[u8]) -> Result<(), DiskFault> {
+    fn write_at(&mut self, file: u16, at: usize, bytes: &[u8]) -> Result<(), DiskFault>
+        requires file { file < FILE_COUNT }
+        requires room { self.old.fault_count + 1 < 2 ^ 64 }
+        ensures written { OnOk result
+            (Holds (file_content_after S.Start.files self.old.history.events file) at bytes.now
+            (file_content_after S.Start.files self.new.history.events file)) }
+        ensures failed { OnErr result (PartlyHolds at (length bytes.now)
+            (file_content_after S.Start.files self.old.history.events file)
+            (file_content_after S.Start.files self.new.history.events file)) }
+        ensures honest { is_honest S.Start.files self.new.history.events ≡
+            is_honest S.Start.files self.old.history.events }
+        ensures images { Follows (Torn at (length bytes.now))
+            (MayLeave S.Start.files self.old.history.events file)
+            (MayLeave S.Start.files self.new.history.events file) }
+        ensures no_fewer { MatchResult result (λ _. Reaches (Torn at (length bytes.now))
+            (MayLeave S.Start.files self.old.history.events file)
+            (MayLeave S.Start.files self.new.history.events file))
+            (λ _. Keeps (MayLeave S.Start.files self.old.history.events file)
+            (MayLeave S.Start.files self.new.history.events file)) }
+        ensures rest { OtherFilesStay S.Start.files file self.old.history.events
+            self.new.history.events }
+        ensures time { GoesOn S.Start.files self.old.history.events self.new.history.events }
+        ensures count { Counts self.old.fault_count self.new.fault_count result }
+        ensures broken { StaysBroken self.old.is_broken self.old.history.events
+            self.new.is_broken self.new.history.events result }
+        ensures breaks { OnErr result (self.new.is_broken ≡ true) }
+    {
+        // What a broken folder holds isn't known: nothing more is noted of it.
         if self.is_broken {
             return self.fail();
         }
@@ -181,7 +246,35 @@ impl<R: Files<File = File> + Drop, S: Start, P: ReadProgress + Drop> Disk for Di
         Ok(())
     }
 
-    fn cut(&mut self, file: u16, len: usize) -> Result<(), DiskFault> {
+    fn cut(&mut self, file: u16, len: usize) -> Result<(), DiskFault>
+        requires file { file < FILE_COUNT }
+        requires room { self.old.fault_count + 1 < 2 ^ 64 }
+        ensures cut { OnOk result
+            (file_content_after S.Start.files self.new.history.events file ≡
+            take len (file_content_after S.Start.files self.old.history.events file)) }
+        ensures failed { OnErr result
+            ((file_content_after S.Start.files self.new.history.events file ≡
+            file_content_after S.Start.files self.old.history.events file) ⊎
+            (file_content_after S.Start.files self.new.history.events file ≡
+            take len (file_content_after S.Start.files self.old.history.events file))) }
+        ensures honest { is_honest S.Start.files self.new.history.events ≡
+            is_honest S.Start.files self.old.history.events }
+        ensures images { Follows (Cut len)
+            (MayLeave S.Start.files self.old.history.events file)
+            (MayLeave S.Start.files self.new.history.events file) }
+        ensures no_fewer { MatchResult result (λ _. Reaches (Cut len)
+            (MayLeave S.Start.files self.old.history.events file)
+            (MayLeave S.Start.files self.new.history.events file))
+            (λ _. Keeps (MayLeave S.Start.files self.old.history.events file)
+            (MayLeave S.Start.files self.new.history.events file)) }
+        ensures rest { OtherFilesStay S.Start.files file self.old.history.events
+            self.new.history.events }
+        ensures time { GoesOn S.Start.files self.old.history.events self.new.history.events }
+        ensures count { Counts self.old.fault_count self.new.fault_count result }
+        ensures broken { StaysBroken self.old.is_broken self.old.history.events
+            self.new.is_broken self.new.history.events result }
+        ensures breaks { OnErr result (self.new.is_broken ≡ true) }
+    {
         if self.is_broken {
             return self.fail();
         }
@@ -192,7 +285,25 @@ impl<R: Files<File = File> + Drop, S: Start, P: ReadProgress + Drop> Disk for Di
         Ok(())
     }
 
-    fn sync(&mut self, file: u16) -> Result<(), DiskFault> {
+    fn sync(&mut self, file: u16) -> Result<(), DiskFault>
+        requires file { file < FILE_COUNT }
+        requires room { self.old.fault_count + 1 < 2 ^ 64 }
+        ensures durable { OnOk result
+            (Only (file_content_after S.Start.files self.old.history.events file)
+            (MayLeave S.Start.files self.new.history.events file)) }
+        ensures failed { OnErr result
+            (Keeps (MayLeave S.Start.files self.old.history.events file)
+            (MayLeave S.Start.files self.new.history.events file)) }
+        ensures honest { is_honest S.Start.files self.new.history.events ≡
+            is_honest S.Start.files self.old.history.events }
+        ensures rest { FileSettles S.Start.files file self.old.history.events
+            self.new.history.events }
+        ensures time { GoesOn S.Start.files self.old.history.events self.new.history.events }
+        ensures count { Counts self.old.fault_count self.new.fault_count result }
+        ensures broken { StaysBroken self.old.is_broken self.old.history.events
+            self.new.is_broken self.new.history.events result }
+        ensures breaks { OnErr result (self.new.is_broken ≡ true) }
+    {
         if self.is_broken {
             return self.fail();
         }
