@@ -1,22 +1,24 @@
 -- A reply to a world that stands after a past is justified by the past, and what it is in the trace is what its call is.
-use Rattle.std.proofs.Common.{◌≡◌, ℕ, ◌≤◌, List, [], ◌∷◌, ◌+◌, Bool, true, false, cond, Option, None, Some, length, refl, sym, ap, ◌∙◌, subst, arith}
+use Rattle.std.proofs.Common.{◌≡◌, ℕ, ◌≤◌, List, [], ◌∷◌, ◌++◌, ◌+◌, Bool, true, false, cond, not, Option, None, Some, length, refl, sym, ap, ◌∙◌, subst}
 use Rattle.std.specs.Prelude.{nat_le, ◌==◌, ⊤}
-use Rattle.std.proofs.lemmas.Bool.{leb-true, leb-false, eqb-true}
+use Rattle.std.proofs.lemmas.Bool.{leb-true, leb-false}
 use Rattle.mvo_types.specs.declared.ids.TxId.{TxId}
 use Rattle.mvo_types.specs.declared.answer.Answer.{Answer}
 use Rattle.mvo_types.specs.declared.op.Op.{Op}
 use Rattle.mvo_types.specs.declared.refusal.Refusal.{Refusal}
 use Rattle.mvo_types.specs.declared.refusal.Refusal.TheVariants.{NothingToDo}
 use Rattle.mvo_types.specs.AnswerData.{answer_data, AnswerData}
-use Rattle.std.specs.List.{AllByRecursion}
-use Rattle.mvo_model.specs.Trace.{Step, history_of}
-use Rattle.mvo_theory.proofs.Cases.{finish_none, no_ended}
-use Rattle.mvo_theory.proofs.Words.{Few}
+use Rattle.std.specs.List.{filter}
+use Rattle.mvo_model.specs.Trace.{Step, Phase, history_of, phase_of}
+use Rattle.mvo_model.specs.Trace.Phase.{Committed as IsCommittedPhase}
+use Rattle.mvo_theory.proofs.Cases.{finish_none}
 use Rattle.mvo_disk.specs.declared.disk.Disk.{Ghosts}
 use Rattle.mvo_theory.specs.Entries.{entries}
-use Rattle.mvo_theory.specs.State.{StampedTx, EndedTx, State, ended_of}
+use Rattle.mvo_theory.specs.State.{ActiveTx, StampedTx, EndedTx, State, Outcome, active_of, preparing_of, ended_of}
+use Rattle.mvo_theory.specs.State.Outcome.{Committed as WasCommitted, Aborted as WasAborted}
+use Rattle.mvo_theory.specs.Phases.{phase_by, ended_as}
 use Rattle.mvo_theory.specs.Causes.{awaited, end_of}
-use Rattle.mvo_theory.specs.Calls.{Call, Result, MayCome, steps_of, answer_in, steps_unless}
+use Rattle.mvo_theory.specs.Calls.{Call, Result, MayCome, IsKept, steps_of, answer_in, steps_unless}
 use Rattle.mvo_theory.specs.Calls.Call.{Begin as BeginCall, Precommit as PrecommitCall, Validate as ValidateCall, Settle as SettleCall, Rollback as RollbackCall, Finish as FinishCall, Do as DoCall, Trim as TrimCall}
 use Rattle.mvo_theory.specs.Calls.Result.{Accepted, Refused as RefusedCall}
 use Rattle.mvo_theory.proofs.Snapshots.{answers_traced}
@@ -30,33 +32,35 @@ use Rattle.mvo_core.specs.Steps.{settled_as, IsValidation, IsSettlement, IsFinis
 use Rattle.mvo_world.specs.WorldData.{WorldData}
 use Rattle.mvo_theory.specs.rests.Laws.{TellsSettling}
 use Rattle.mvo_theory.proofs.rests.Telling.{told_rests, told_settling}
-use Rattle.mvo_world.specs.Past.{Past, course_of, happened}
+use Rattle.mvo_world.specs.Past.{Past, course_of, happened, mores_after}
 use Rattle.mvo_world.specs.Standing.{IsAfter}
 use Rattle.mvo_world.specs.Justified.{IsJust, IsNextStamp, IsJustOperation, IsJustCheck, IsJustSettlement, IsJustFinishing, IsJustifiedBy}
 use Rattle.mvo_world.specs.Forgetting.{IsJustTrim, MayBeTrimmed}
 use Rattle.mvo_world.proofs.Forgetting.{trimmed_so, nothing_so}
 use Rattle.mvo_world.proofs.Order.{first_cause_stands}
+use Rattle.mvo_world.proofs.Finishing.{mores_with, more_is_left, none_is_left}
 use Rattle.mvo_world.specs.Replies.{IsAsked, IsOpAnswered, IsDrawn, IsReplyTo}
 use Rattle.mvo_world.specs.declared.event.Event.{Event}
 use Rattle.mvo_world.specs.declared.event.Event.TheVariants.{Begin, Do, Precommit, Validate, Settle, Rollback, Finish, Trim, CloseGroup}
 use Rattle.mvo_world.specs.declared.reply.Reply.{Reply}
 use Rattle.mvo_world.specs.declared.reply.Reply.TheVariants.{Began, Answered, Prepared, Validated, Settled, RolledBack, Finished, Trimmed, Refused}
 use Rattle.mvo_model.specs.Trace.Step.{Answers, Terminates}
-use Rattle.mvo_theory.specs.Words.{is_done, is_last_word, word_count}
+use Rattle.mvo_theory.specs.Words.{is_done}
 use Rattle.mvo_core.specs.declared.answers.Finishing.TheVariants.{More, Done}
 use Rattle.mvo_core.specs.declared.answers.Finishing as finishing
 
-some_ended : (u v : EndedTx) → ◌≡◌ {A = Option EndedTx} (Some u) (Some v) → u ≡ v
-some_ended u v q = cc
-
--- one that is found among the ended ones has few words left
-few_found : (t : ℕ) (xs : List Step) (us : List EndedTx) (u : EndedTx) → AllByRecursion (Few xs) us → ended_of t us ≡ Some u → length u.words ≤ word_count (history_of t xs)
-few_found t xs [] u h e = absurd (no_ended u e)
-few_found t xs (w ∷ ws) u h e = go (w.id == t) refl e (few_found t xs ws u h.1)
+-- one that stands as Committed ended so
+outcome_is : (a : Option ActiveTx) (b : Option StampedTx) (u : EndedTx) (e : ℕ) → phase_by a b (Some u) ≡ IsCommittedPhase e → u.outcome ≡ WasCommitted e
+outcome_is (Some r) b u e q = absurd cc
+outcome_is None (Some x) u e q = absurd cc
+outcome_is None None u e q = go u.outcome q
   where
-    go : (b : Bool) → (w.id == t) ≡ b → cond b (Some w) (ended_of t ws) ≡ Some u → (ended_of t ws ≡ Some u → length u.words ≤ word_count (history_of t xs)) → length u.words ≤ word_count (history_of t xs)
-    go true q f r = subst (λ (v : EndedTx). length v.words ≤ word_count (history_of t xs)) (some_ended w u f) (subst (λ (i : ℕ). length w.words ≤ word_count (history_of i xs)) (eqb-true w.id t q) h.0)
-    go false q f r = r f
+    same : (n m : ℕ) → ◌≡◌ {A = Phase} (IsCommittedPhase n) (IsCommittedPhase m) → n ≡ m
+    same n m f = cc
+
+    go : (o : Outcome) → ended_as o ≡ IsCommittedPhase e → o ≡ WasCommitted e
+    go (WasCommitted n) f = ap WasCommitted (same n e f)
+    go WasAborted f = absurd cc
 
 -- not the closing of a group
 abbrev pub IsNoClosing : Event → Type 0
@@ -106,15 +110,20 @@ module _ {D : Type 0} (d : Ghosts D) (p : Past) (w : WorldData D) (h : IsAfter d
   finishing_so : (t : ℕ) (a : finishing.Finishing) (w' : WorldData D) → IsAsked w (FinishCall t) Accepted w' → IsFinishing w.core t a → IsJustFinishing p t a
   finishing_so t a w' asked e = go (is_done h.state t) refl (e p.rows p.steps h.state h.core)
     where
+      kept : IsKept p.rows p.steps h.state
+      kept = h.core.versions.kept
+
       found : (u : EndedTx) × (ended_of t h.state.ended ≡ Some u)
       found = finish_none h.state t (asked.leads p.rows p.steps h.state h.core).may.0
 
+      -- who was Committed ended so
+      as_committed : (end' : ℕ) → phase_of t p.steps ≡ IsCommittedPhase end' → found.0.outcome ≡ WasCommitted end'
+      as_committed end' is = outcome_is (active_of t h.state.active) (preparing_of t h.state.stamped) found.0 end'
+          (ap (λ (v : Option EndedTx). phase_by (active_of t h.state.active) (preparing_of t h.state.stamped) v) (sym found.1) ∙ sym (kept.after_trace.phases t) ∙ is)
+
       go : (b : Bool) → is_done h.state t ≡ b → a ≡ cond b Done More → IsJustFinishing p t a
-      go true f g = subst (IsJustFinishing p t) (sym g) tt
-      go false f g =
-          let few = few_found t p.steps h.state.ended found.0 h.words found.1 in
-          let more = leb-false (length found.0.words) 1 (sym (ap is_last_word found.1) ∙ f) in
-          subst (IsJustFinishing p t) (sym g) (omega (arith, few, more))
+      go true f g = subst (IsJustFinishing p t) (sym g) (λ end' is. none_is_left p.rows p.steps h.state kept p.mores h.words t end' found.0 found.1 (as_committed end' is) f)
+      go false f g = subst (IsJustFinishing p t) (sym g) (more_is_left p.rows p.steps h.state kept p.mores h.words t found.0 found.1 f)
 
   trim : (m : ℕ) (w' : WorldData D) → IsAsked w (TrimCall m) Accepted w' → MayBeTrimmed p m
   trim m w' asked = trimmed_so p h.state h.core.versions.kept h.counted h.rests m (asked.leads p.rows p.steps h.state h.core).may
@@ -155,10 +164,17 @@ settled s t a e = ap (λ (b : Settlement). happened (Settle t) (Settled b)) e �
     go None = refl
     go (Some x) = refl
 
--- nor is a word that leaves others
+-- nor is a word that leaves others, which is one More
 pub finished : (s : State) (t : TxId) (a : finishing.Finishing) → a ≡ cond (is_done s t.0) Done More → happened (Finish t) (Finished a) ≡ steps_of s (FinishCall t.0) Accepted
 finished s t a e = ap (λ (b : finishing.Finishing). happened (Finish t) (Finished b)) e ∙ go (is_done s t.0)
   where
     go : (b : Bool) → happened (Finish t) (Finished (cond b Done More)) ≡ cond b (Terminates t.0 ∷ []) []
+    go true = refl
+    go false = refl
+
+pub counted : (s : State) (t : TxId) (a : finishing.Finishing) → a ≡ cond (is_done s t.0) Done More → (ms : List ℕ) → mores_after (Finish t) (Finished a) ms ≡ mores_with s (FinishCall t.0) Accepted ms
+counted s t a e ms = ap (λ (b : finishing.Finishing). mores_after (Finish t) (Finished b) ms) e ∙ go (is_done s t.0)
+  where
+    go : (b : Bool) → mores_after (Finish t) (Finished (cond b Done More)) ms ≡ cond b (filter (λ u. not (u == t.0)) ms) (ms ++ t.0 ∷ [])
     go true = refl
     go false = refl

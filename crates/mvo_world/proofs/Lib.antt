@@ -3,6 +3,7 @@ mod Ends
 pub mod Standing
 mod Forgetting
 mod Closing
+mod Finishing
 mod Order
 pub mod Justified
 pub mod Moves

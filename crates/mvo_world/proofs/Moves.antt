@@ -27,8 +27,6 @@ use Rattle.mvo_theory.specs.Calls.Result.{Accepted}
 use Rattle.mvo_theory.proofs.Each.{each_weaker, each_append}
 use Rattle.mvo_theory.specs.Counted.{HasCounts}
 use Rattle.mvo_theory.proofs.Stays.{stays_after_call}
-use Rattle.mvo_theory.specs.Words.{HaveFewWords}
-use Rattle.mvo_theory.proofs.Words.{words_after_call}
 use Rattle.mvo_theory.proofs.Counting.{counted_after_call, counted_closed, counted_opened}
 use Rattle.mvo_core.specs.Collection.{Collection}
 use Rattle.mvo_core.specs.declared.answers.Closed as closing
@@ -58,7 +56,8 @@ use Rattle.mvo_world.specs.WorldData.{WorldData, waiting, Follow, IsLinked, IsSo
 use Rattle.mvo_theory.specs.rests.Course.{trims_after}
 use Rattle.mvo_theory.specs.rests.Known.{KnowsRests}
 use Rattle.mvo_theory.proofs.rests.Knowing.{known_opened, known_after_call, known_closed}
-use Rattle.mvo_world.specs.Past.{Past, course_of, happened, trimmed_by, acknowledged_by, closed_by, taken_by, with_event, opened_over}
+use Rattle.mvo_world.specs.Past.{Past, course_of, happened, trimmed_by, acknowledged_by, closed_by, taken_by, mores_after, with_event, opened_over}
+use Rattle.mvo_world.specs.Finishing.{HaveCountedWords}
 use Rattle.mvo_core.specs.Groups.{HaveRecordsOf}
 use Rattle.mvo_world.specs.Standing.{IsAfter, HasHonestDisk, RecoversPrefix}
 use Rattle.mvo_world.specs.Ring.{oldest, IsClosingInto}
@@ -72,6 +71,7 @@ use Rattle.mvo_world.specs.declared.reply.Reply.{Reply}
 use Rattle.mvo_world.specs.declared.reply.Reply.TheVariants.{Answered, Collected, Closed, Taken, Durable, Polled, Refused}
 use Rattle.mvo_world.proofs.Chain.{groups_stay, group_of_next}
 use Rattle.mvo_world.proofs.Closing.{closed_so, unclosed_so}
+use Rattle.mvo_world.proofs.Finishing.{mores_with, counted_words_after_call}
 use Rattle.mvo_world.proofs.Justified.{IsNoClosing, answered, justified_reply}
 use Rattle.mvo_world.proofs.Standing.{mark_after-append, groups_front, groups_back, groups_push, marks_rise, follow_to, prefix_image}
 
@@ -100,9 +100,9 @@ nothing_taken s e = go _ _ e
 abbrev trims_with : Past → List ℕ → List (ℕ × ℕ)
 trims_with p ms = p.trims ++ map (λ m. (length p.steps, m)) ms
 
-past_is : (p : Past) (e : Event) (r : Reply) (steps : List Step) (trims : List (ℕ × ℕ)) (acked closed : List ℕ) (took : ℕ) → p.steps ++ happened e r ≡ steps → trims_with p (trimmed_by e r) ≡ trims → p.acknowledged ++ acknowledged_by e r ≡ acked → p.closed ++ closed_by e r ≡ closed → p.taken + taken_by e r ≡ took
-    → record { rows = p.rows; mark = p.mark; steps = steps; trims = trims; acknowledged = acked; closed = closed; taken = took } ≡ with_event p e r
-past_is p e r steps trims acked closed took a t b c n = cc
+past_is : (p : Past) (e : Event) (r : Reply) (steps : List Step) (trims : List (ℕ × ℕ)) (acked closed : List ℕ) (took : ℕ) (mores : List ℕ) → p.steps ++ happened e r ≡ steps → trims_with p (trimmed_by e r) ≡ trims → p.acknowledged ++ acknowledged_by e r ≡ acked → p.closed ++ closed_by e r ≡ closed → p.taken + taken_by e r ≡ took → mores_after e r p.mores ≡ mores
+    → record { rows = p.rows; mark = p.mark; steps = steps; trims = trims; acknowledged = acked; closed = closed; taken = took; mores = mores } ≡ with_event p e r
+past_is p e r steps trims acked closed took mores a t b c n m = cc
 
 none_more : (n : ℕ) → n + 0 ≡ n
 none_more n = omega arith
@@ -121,17 +121,21 @@ trims_are p c r = append-nil p.trims
 
 -- nothing that a past remembers
 abbrev pub IsSilent : Event → Reply → Type 0
-IsSilent e r = (happened e r ≡ []) × (acknowledged_by e r ≡ []) × (groups_by e r ≡ ([], 0, []))
+IsSilent e r = (happened e r ≡ []) × (acknowledged_by e r ≡ []) × (groups_by e r ≡ ([], 0, [])) × ((ms : List ℕ) → mores_after e r ms ≡ ms)
+
+-- what an event with its reply is of a call
+abbrev pub IsOfCall : Event → Reply → State → Call → CallResult → Type 0
+IsOfCall e r s c result = (happened e r ≡ steps_of s c result) × ((ms : List ℕ) → mores_after e r ms ≡ mores_with s c result ms)
 
 -- so it is with an event whose copy was refused
 pub silent_copy : (e : Event) → HasRow e → IsSilent e (Refused OutOfMemory)
-silent_copy (Do t (Insert row)) h = (refl, refl, refl)
-silent_copy (Do t (Update row)) h = (refl, refl, refl)
+silent_copy (Do t (Insert row)) h = (refl, refl, refl, λ ms. refl)
+silent_copy (Do t (Update row)) h = (refl, refl, refl, λ ms. refl)
 silent_copy (Do t op) h = absurd h
 silent_copy e h = absurd h
 
 silent_past : (p : Past) (e : Event) (r : Reply) → IsSilent e r → p ≡ with_event p e r
-silent_past p e r s = simp (s.0, s.1, ap (λ (g : List ℕ × ℕ × List ℕ). g.0) s.2, ap (λ (g : List ℕ × ℕ × List ℕ). g.1) s.2, ap (λ (g : List ℕ × ℕ × List ℕ). g.2) s.2, append-nil, none_more)
+silent_past p e r s = simp (s.0, s.1, s.3 p.mores, ap (λ (g : List ℕ × ℕ × List ℕ). g.0) s.2, ap (λ (g : List ℕ × ℕ × List ℕ). g.1) s.2, ap (λ (g : List ℕ × ℕ × List ℕ). g.2) s.2, append-nil, none_more)
 
 -- a state stays as it is
 unchanged : (s : State) → StaysBelow s s
@@ -156,10 +160,10 @@ module _ {D : Type 0} (d : Ghosts D) where
   }
 
   -- no group becomes durable and none is closed
-  goes_on : (p : Past) (w w' : WorldData D) (h : IsAfter d p w) (steps : List Step) (trims : List (ℕ × ℕ)) (s : State) → StandsFor p.rows steps s w'.core → HasCounts p.mark steps s → HaveFewWords steps s → KnowsRests (record { rows = p.rows; mark = p.mark; steps = steps; trims = trims }) s → IsClosedAt s.marks.closed s → StaysBelow h.state s
+  goes_on : (p : Past) (w w' : WorldData D) (h : IsAfter d p w) (steps : List Step) (trims : List (ℕ × ℕ)) (s : State) → StandsFor p.rows steps s w'.core → HasCounts p.mark steps s → (mores : List ℕ) → HaveCountedWords mores steps s → KnowsRests (record { rows = p.rows; mark = p.mark; steps = steps; trims = trims }) s → IsClosedAt s.marks.closed s → StaysBelow h.state s
       → waiting w' ≡ waiting w → mark_of w'.store ≡ mark_of w.store → (HasHonestDisk d w' → KeepsRows d w'.store (after_groups p.rows h.sent))
-      → (acked : List ℕ) → AllByRecursion (λ n. n ≤ mark_of w'.store) acked → (took : ℕ) → HasRoomFor took p.closed w'.ring → IsAfter d (record p { steps = steps; trims = trims; acknowledged = acked; taken = took }) w'
-  goes_on p w w' h steps trims s core counted words rests closed stays wait mark store acked covers took room = record {
+      → (acked : List ℕ) → AllByRecursion (λ n. n ≤ mark_of w'.store) acked → (took : ℕ) → HasRoomFor took p.closed w'.ring → IsAfter d (record p { steps = steps; trims = trims; acknowledged = acked; taken = took; mores = mores }) w'
+  goes_on p w w' h steps trims s core counted mores words rests closed stays wait mark store acked covers took room = record {
     sent = h.sent;
     state = s;
     core = core;
@@ -183,7 +187,7 @@ module _ {D : Type 0} (d : Ghosts D) where
       → ((p : Past) (h : IsAfter d p w) → StandsFor p.rows p.steps h.state w'.core) → w'.ring ≡ w.ring → waiting w' ≡ waiting w → mark_of w'.store ≡ mark_of w.store → (HasHonestDisk d w' → HasHonestDisk d w) → (HasHonestDisk d w' → KeepsAllRows d w.store w'.store) → IsStepBy IsReply Justifies d w e r w'
   moved IsReply Justifies w w' e r silent reply just core ring wait mark was keeps =
       stepped IsReply Justifies w w' e r (λ rows. rows) reply just was keeps (λ p h store.
-      subst (λ (q : Past). IsAfter d q w') (silent_past p e r silent) (goes_on p w w' h p.steps p.trims h.state (core p h) h.counted h.words h.rests h.closed (unchanged h.state) wait mark store p.acknowledged (subst (λ m. AllByRecursion (λ n. n ≤ m) p.acknowledged) (sym mark) h.covers) p.taken (subst (HasRoomFor p.taken p.closed) (sym ring) (h.untaken, h.room))))
+      subst (λ (q : Past). IsAfter d q w') (silent_past p e r silent) (goes_on p w w' h p.steps p.trims h.state (core p h) h.counted p.mores h.words h.rests h.closed (unchanged h.state) wait mark store p.acknowledged (subst (λ m. AllByRecursion (λ n. n ≤ m) p.acknowledged) (sym mark) h.covers) p.taken (subst (HasRoomFor p.taken p.closed) (sym ring) (h.untaken, h.room))))
 
   -- ---- a call of the store that takes no group and makes none durable
   store_moved : (w : WorldData D) (store : StoreData D) (e : Event) (r : Reply) → IsNoClosing e → IsSilent e r → IsReplyTo d w e r (record w { store = store }) → KeepsTaken w.store store → (IsHonest (d.moment (disk_of store)) → HasHonestDisk d w) → (IsHonest (d.moment (disk_of store)) → KeepsAllRows d w.store store) → IsWorldStep d w e r (record w { store = store })
@@ -198,7 +202,7 @@ module _ {D : Type 0} (d : Ghosts D) where
 
   silent : (call : StoreCall) (answer : Done) → IsQuiet (CallOf call) → IsSilent (Store call) (reply_of (Ok answer))
   silent AppendOpen answer quiet = absurd quiet
-  silent call answer quiet = (refl, refl, refl)
+  silent call answer quiet = (refl, refl, refl, λ ms. refl)
 
   -- and of one that is refused
   refused : (w : WorldData D) {store : StoreData D} (call : StoreCall) (why : Refusal) → IsStoreStep {A = Done} d w.store (CallOf call) (Err why) store → IsWorldStep d w (Store call) (Refused why) (record w { store = store })
@@ -207,8 +211,8 @@ module _ {D : Type 0} (d : Ghosts D) where
       (left_taken d (CallOf call) why w.store store h.comes.left) h.honest (refused_rows Done d w.store (CallOf call) why store h)
     where
       silent_refused : (call : StoreCall) → IsSilent (Store call) (Refused why)
-      silent_refused AppendOpen = (refl, refl, refl)
-      silent_refused call = (refl, refl, refl)
+      silent_refused AppendOpen = (refl, refl, refl, λ ms. refl)
+      silent_refused call = (refl, refl, refl, λ ms. refl)
 
   -- ---- a group is taken
   pub taken : (w : WorldData D) {ring : List GroupData} {store : StoreData D} (g : GroupData) → why_not_take w.store ≡ None → w.ring ≡ g ∷ ring → IsStoreStep {A = Unit {0}} d w.store (Take g) (Ok tt) store → IsWorldStep d w TakeGroup Taken (record w { ring = ring; store = store })
@@ -223,8 +227,8 @@ module _ {D : Type 0} (d : Ghosts D) where
       let mark = ap (λ (s : StoreData D). mark_of s) made in
       let untaken = a.untaken in
       let room = a.room in
-      subst (λ (q : Past). IsAfter d q (record w { ring = ring; store = store })) (past_is p TakeGroup Taken p.steps p.trims p.acknowledged p.closed (p.taken + 1) (append-nil p.steps) (append-nil p.trims) (append-nil p.acknowledged) (append-nil p.closed) refl)
-      (goes_on p w (record w { ring = ring; store = store }) a p.steps p.trims a.state a.core a.counted a.words a.rests a.closed (unchanged a.state) (later ∙ sym before) mark rows p.acknowledged
+      subst (λ (q : Past). IsAfter d q (record w { ring = ring; store = store })) (past_is p TakeGroup Taken p.steps p.trims p.acknowledged p.closed (p.taken + 1) p.mores (append-nil p.steps) (append-nil p.trims) (append-nil p.acknowledged) (append-nil p.closed) refl refl)
+      (goes_on p w (record w { ring = ring; store = store }) a p.steps p.trims a.state a.core a.counted p.mores a.words a.rests a.closed (unchanged a.state) (later ∙ sym before) mark rows p.acknowledged
       (subst (λ m. AllByRecursion (λ n. n ≤ m) p.acknowledged) (sym mark) a.covers) (p.taken + 1) ((omega (arith, ends, untaken)), (omega (arith, ends, room)))))
 
   -- ---- a group becomes durable
@@ -251,7 +255,7 @@ module _ {D : Type 0} (d : Ghosts D) where
           let list : b.sent ++ waiting w ≡ (b.sent ++ g ∷ []) ++ waiting w' = ap (λ gs. b.sent ++ gs) before ∙ sym (append_assoc b.sent (g ∷ []) w.ring) ∙ ap (λ gs. (b.sent ++ g ∷ []) ++ gs) (sym later) in
           let groups = subst (HaveRecordsOf b.state first) list b.groups in
           let up : mark_after first b.sent ≤ g.mark = marks_rise b.state (mark_after first b.sent) (g ∷ []) (groups_back b.state first b.sent (g ∷ []) (groups_front b.state first (b.sent ++ g ∷ []) (waiting w') groups)) in
-          subst (λ (q : Past). IsAfter d q w') (past_is p (Store AppendOpen) (Durable mark) p.steps p.trims (p.acknowledged ++ mark.0 ∷ []) p.closed p.taken (append-nil p.steps) (append-nil p.trims) refl (append-nil p.closed) (none_more p.taken)) (record {
+          subst (λ (q : Past). IsAfter d q w') (past_is p (Store AppendOpen) (Durable mark) p.steps p.trims (p.acknowledged ++ mark.0 ∷ []) p.closed p.taken p.mores (append-nil p.steps) (append-nil p.trims) refl (append-nil p.closed) (none_more p.taken) refl) (record {
             sent = b.sent ++ g ∷ [];
             state = b.state;
             core = b.core;
@@ -286,7 +290,7 @@ module _ {D : Type 0} (d : Ghosts D) where
     pub told : (w : WorldData D) {core : CoreData} {c : Call} {result : CallResult} {e : Event} {r : Reply}
         → ((opening : Map) (steps : List Step) (s : State) → StandsFor opening steps s w.core → LeadsOn opening steps s c result core)
         → (IsAsked w c result (record w { core = core }) → IsReplyTo d w e r (record w { core = core }))
-        → ((opening : Map) (steps : List Step) (s : State) → StandsFor opening steps s w.core → happened e r ≡ steps_of s c result)
+        → ((opening : Map) (steps : List Step) (s : State) → StandsFor opening steps s w.core → IsOfCall e r s c result)
         → (acknowledged_by e r ≡ []) × (groups_by e r ≡ ([], 0, trimmed_to c result)) × IsNoClosing e → IsWorldStep d w e r (record w { core = core })
     told w {core} {c} {result} {e} {r} leads reply is silent =
         stepped (IsReplyTo d) IsJustifiedBy w w' e r (λ rows. rows) (reply (record { leads = leads; rest = refl })) (λ p h. justified_reply d p w h e r w' silent.2 (reply (record { leads = leads; rest = refl }))) (λ now. now) (λ now. refused_keeps d only_now w.store) (λ p h store.
@@ -294,24 +298,24 @@ module _ {D : Type 0} (d : Ghosts D) where
         let kept = h.core.versions.kept in
         let next = after_call h.state c result in
         subst (λ (q : Past). IsAfter d q w')
-        (past_is p e r (p.steps ++ steps_of h.state c result) (trims_after (course_of p) c result) p.acknowledged p.closed p.taken (ap (λ xs. p.steps ++ xs) (is p.rows p.steps h.state h.core)) (ap (λ (g : List ℕ × ℕ × List ℕ). trims_with p g.2) silent.1 ∙ trims_are p c result) (ap (λ ms. p.acknowledged ++ ms) silent.0 ∙ append-nil p.acknowledged) (ap (λ (g : List ℕ × ℕ × List ℕ). p.closed ++ g.0) silent.1 ∙ append-nil p.closed) (ap (λ (g : List ℕ × ℕ × List ℕ). p.taken + g.1) silent.1 ∙ none_more p.taken))
-        (goes_on p w w' h (p.steps ++ steps_of h.state c result) (trims_after (course_of p) c result) next l.stands (counted_after_call p.rows p.mark p.steps h.state c result l.may kept h.counted) (words_after_call p.rows p.steps h.state c result kept.after_trace h.words) (known_after_call (course_of p) h.state c result l.may kept h.rests) (still_closed p.rows p.steps h.state c result l.may kept h.closed) (stays_after_call h.state c result kept.sound) refl refl store p.acknowledged h.covers p.taken (h.untaken, h.room)))
+        (past_is p e r (p.steps ++ steps_of h.state c result) (trims_after (course_of p) c result) p.acknowledged p.closed p.taken (mores_with h.state c result p.mores) (ap (λ xs. p.steps ++ xs) (is p.rows p.steps h.state h.core).0) (ap (λ (g : List ℕ × ℕ × List ℕ). trims_with p g.2) silent.1 ∙ trims_are p c result) (ap (λ ms. p.acknowledged ++ ms) silent.0 ∙ append-nil p.acknowledged) (ap (λ (g : List ℕ × ℕ × List ℕ). p.closed ++ g.0) silent.1 ∙ append-nil p.closed) (ap (λ (g : List ℕ × ℕ × List ℕ). p.taken + g.1) silent.1 ∙ none_more p.taken) ((is p.rows p.steps h.state h.core).1 p.mores))
+        (goes_on p w w' h (p.steps ++ steps_of h.state c result) (trims_after (course_of p) c result) next l.stands (counted_after_call p.rows p.mark p.steps h.state c result l.may kept h.counted) (mores_with h.state c result p.mores) (counted_words_after_call p.rows p.steps h.state kept p.mores h.words c result l.may) (known_after_call (course_of p) h.state c result l.may kept h.rests) (still_closed p.rows p.steps h.state c result l.may kept h.closed) (stays_after_call h.state c result kept.sound) refl refl store p.acknowledged h.covers p.taken (h.untaken, h.room)))
       where
         w' : WorldData D
         w' = record w { core = core }
 
     -- an operation is answered
     pub answered_step : (w : WorldData D) {core : CoreData} (t : TxId) (o : Op) (a : Answer) → IsStep {A = Answer} w.core (DoCall t.0 o) (Ok a) core → IsAnswered w.core t.0 o a → IsWorldStep d w (Do t o) (Answered a) (record w { core = core })
-    answered_step w t o a step answer = told w step (λ asked. (asked, answer)) (λ opening xs s h. answered s a (answer opening xs s h)) (refl, refl, tt)
+    answered_step w t o a step answer = told w step (λ asked. (asked, answer)) (λ opening xs s h. (answered s a (answer opening xs s h), λ ms. refl)) (refl, refl, tt)
 
     -- or refused
     pub unanswered_step : (w : WorldData D) {core : CoreData} (t : TxId) (o : Op) {r : Refusal} → IsStep {A = Answer} w.core (DoCall t.0 o) (Err r) core → IsWorldStep d w (Do t o) (Refused r) (record w { core = core })
-    unanswered_step w t o step = told w step (λ asked. asked) (λ opening xs s h. refl) (refl, refl, tt)
+    unanswered_step w t o step = told w step (λ asked. asked) (λ opening xs s h. (refl, λ ms. refl)) (refl, refl, tt)
 
     -- a collection, over which the state stays
     pub collected : (w : WorldData D) {core : CoreData} (c : Collection) → AreFewer w.core c core → StandsAsBefore w.core core → HasNewVersions w.core core → IsWorldStep d w Collect (Collected c) (record w { core = core })
     collected w {core} c counts stands versions =
-        moved (IsReplyTo d) IsJustifiedBy w (record w { core = core }) Collect (Collected c) (refl, refl, refl)
+        moved (IsReplyTo d) IsJustifiedBy w (record w { core = core }) Collect (Collected c) (refl, refl, refl, λ ms. refl)
         (record { counts = counts; stands = stands; versions = versions; rest = refl }) (λ p h. tt)
         (λ p h. stands p.rows p.steps h.state h.core) refl refl refl (λ now. now) (λ now. refused_keeps d only_now w.store)
 
@@ -344,7 +348,7 @@ module _ {D : Type 0} (d : Ghosts D) where
             ∙ sym (follow_to (mark_of w.store) (closed_mark_of w.core) (waiting w) linked)
             ∙ ap (λ (m : ℕ). mark_after m (waiting w)) h.mark
             ∙ sym (mark_after-append first h.sent (waiting w)) in
-            subst (λ (q : Past). IsAfter d q w') (past_is p CloseGroup (Closed c) p.steps p.trims p.acknowledged (p.closed ++ g.mark ∷ []) p.taken (append-nil p.steps) (append-nil p.trims) (append-nil p.acknowledged) (ap (λ n. p.closed ++ n ∷ []) (sym now.mark)) (none_more p.taken)) (record {
+            subst (λ (q : Past). IsAfter d q w') (past_is p CloseGroup (Closed c) p.steps p.trims p.acknowledged (p.closed ++ g.mark ∷ []) p.taken p.mores (append-nil p.steps) (append-nil p.trims) (append-nil p.acknowledged) (ap (λ n. p.closed ++ n ∷ []) (sym now.mark)) (none_more p.taken) refl) (record {
               sent = h.sent;
               state = after_close s c.mark.0;
               core = now.stands;
@@ -367,18 +371,18 @@ module _ {D : Type 0} (d : Ghosts D) where
     pub unclosed_step : (w : WorldData D) {core : CoreData} {ring : List GroupData} (r : Refusal) → IsSoundWorld w → IsClosingInto w.core w.ring (Err r) core ring → IsWorldStep d w CloseGroup (Refused r) (record w { core = core; ring = ring })
     unclosed_step w {core} {ring} r i step =
         let same = (step i.core.opening i.core.steps i.core.state i.core.stands).1 in
-        moved (IsReplyTo d) IsJustifiedBy w (record w { core = core; ring = ring }) CloseGroup (Refused r) (refl, refl, refl) (record { closing = step; store = refl })
+        moved (IsReplyTo d) IsJustifiedBy w (record w { core = core; ring = ring }) CloseGroup (Refused r) (refl, refl, refl, λ ms. refl) (record { closing = step; store = refl })
         (λ p h. unclosed_so d p w h i.linked r (record w { core = core; ring = ring }) (record { closing = step; store = refl }))
         (λ p h. (step p.rows p.steps h.state h.core).0.stands) same (ap (λ (gs : List GroupData). option_to_list (pending_of w.store) ++ gs) same) refl (λ now. now) (λ now. refused_keeps d only_now w.store)
 
     -- a poll
     pub polled_step : (w : WorldData D) (stamp : Stamp) (answer : Bool) → answer ≡ nat_le stamp.0 (mark_of w.store) → IsWorldStep d w (Poll stamp) (Polled answer) w
-    polled_step w stamp false is = still (IsReplyTo d) IsJustifiedBy w (Poll stamp) (Polled false) (refl, refl, refl) (is, refl) (λ p h. tt)
+    polled_step w stamp false is = still (IsReplyTo d) IsJustifiedBy w (Poll stamp) (Polled false) (refl, refl, refl, λ ms. refl) (is, refl) (λ p h. tt)
     polled_step w stamp true is =
         stepped (IsReplyTo d) IsJustifiedBy w w (Poll stamp) (Polled true) (λ rows. rows) (is, refl) (λ p h. tt) (λ now. now) (λ now. refused_keeps d only_now w.store) (λ p h store.
         let acked = p.acknowledged ++ stamp.0 ∷ [] in
-        subst (λ (q : Past). IsAfter d q w) (past_is p (Poll stamp) (Polled true) p.steps p.trims acked p.closed p.taken (append-nil p.steps) (append-nil p.trims) refl (append-nil p.closed) (none_more p.taken))
-        (goes_on p w w h p.steps p.trims h.state h.core h.counted h.words h.rests h.closed (unchanged h.state) refl refl store acked (each_append (λ m. m ≤ mark_of w.store) p.acknowledged (stamp.0 ∷ []) h.covers (leb-true stamp.0 (mark_of w.store) (sym is), tt)) p.taken (h.untaken, h.room)))
+        subst (λ (q : Past). IsAfter d q w) (past_is p (Poll stamp) (Polled true) p.steps p.trims acked p.closed p.taken p.mores (append-nil p.steps) (append-nil p.trims) refl (append-nil p.closed) (none_more p.taken) refl)
+        (goes_on p w w h p.steps p.trims h.state h.core h.counted p.mores h.words h.rests h.closed (unchanged h.state) refl refl store acked (each_append (λ m. m ≤ mark_of w.store) p.acknowledged (stamp.0 ∷ []) h.covers (leb-true stamp.0 (mark_of w.store) (sym is), tt)) p.taken (h.untaken, h.room)))
 
   -- ---- a world that was just opened
   pub begun : (rows : Map) (w : WorldData D) → IsJustOpened rows w → (HasHonestDisk d w → KeepsRows d w.store rows) → IsAfter d (opened_over rows (mark_of w.store)) w
@@ -390,7 +394,7 @@ module _ {D : Type 0} (d : Ghosts D) where
         state = opened rows (mark_of w.store);
         core = is.core;
         counted = counted_opened rows (mark_of w.store);
-        words = tt;
+        words = λ t. refl;
         rests = known_opened rows (mark_of w.store);
         closed = record { drawn = omega arith; above = tt };
         before = record { drawn = omega arith; above = tt };

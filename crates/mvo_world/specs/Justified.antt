@@ -5,7 +5,7 @@ use Rattle.mvo_types.specs.declared.refusal.Refusal.TheVariants.{OutOfMemory}
 use Rattle.mvo_types.specs.AnswerData.{answer_data}
 use Rattle.mvo_model.specs.Serial.{answer_to}
 use Rattle.mvo_model.specs.Trace.{history_of, phase_of}
-use Rattle.mvo_model.specs.Trace.Phase.{Preparing}
+use Rattle.mvo_model.specs.Trace.Phase.{Preparing, Committed as Commits}
 use Rattle.mvo_theory.specs.Entries.{entries}
 use Rattle.mvo_theory.specs.Snapshots.{snapshot_of}
 use Rattle.mvo_theory.specs.Calls as theory
@@ -23,6 +23,7 @@ use Rattle.mvo_core.specs.declared.answers.Finishing.TheVariants.{More, Done}
 use Rattle.mvo_core.specs.declared.answers.Settlement.{Settlement}
 use Rattle.mvo_core.specs.declared.answers.Settlement.TheVariants.{Committed, Waiting}
 use Rattle.mvo_world.specs.Past.{Past, course_of}
+use Rattle.mvo_world.specs.Finishing.{mores_of}
 use Rattle.mvo_world.specs.Replies.{HasRow}
 use Rattle.mvo_world.specs.Forgetting.{IsJustTrim}
 use Rattle.mvo_world.specs.Closing.{IsJustClosing}
@@ -61,11 +62,13 @@ IsJustSettlement p t (Committed e) =
     (phase_of t p.steps ≡ Preparing e.0) × AwaitsNone (course_of p) t
 IsJustSettlement p t (Waiting x) = IsFirstAwaited (course_of p) t x.0
 
--- More comes only where more than one word was written: one for each Inserted or Deleted that was
--- answered, and two for each Updated
+-- The words that were written are one for each Inserted or Deleted that was answered, and two for
+-- each Updated. More comes only where another is left behind it and each More before it. Done comes
+-- where none is; of an Aborted one others may have taken some over, so it may come sooner.
 abbrev pub IsJustFinishing : Past → ℕ → Finishing → Type 0
-IsJustFinishing p t More = 1 < word_count (history_of t p.steps)
-IsJustFinishing p t Done = ⊤
+IsJustFinishing p t More = mores_of t p.mores + 1 < word_count (history_of t p.steps)
+IsJustFinishing p t Done = (e : ℕ) → phase_of t p.steps ≡ Commits e →
+    word_count (history_of t p.steps) ≤ mores_of t p.mores + 1
 
 -- The reply is justified by the past. Of events that are of no transaction it says when a trim has
 -- nothing to do, and a group that is closed.

@@ -5,6 +5,7 @@ pub mod View
 pub mod Past
 pub mod Standing
 pub mod Replies
+pub mod Finishing
 pub mod Forgetting
 pub mod Closing
 pub mod Order

@@ -1,5 +1,5 @@
 -- What a world remembers of its past.
-use Rattle.std.specs.Prelude.{ℕ, ◌+◌, true, List, [], ◌∷◌, ◌++◌, length, map}
+use Rattle.std.specs.Prelude.{ℕ, ◌+◌, ◌==◌, not, true, List, [], ◌∷◌, ◌++◌, length, map, filter}
 use Rattle.mvo_model.specs.Trace.{Step, IsSerial}
 use Rattle.mvo_model.specs.Trace.Step.{Begins, Answers, Prepares, Checks, Commits, Aborts, Terminates}
 use Rattle.mvo_types.specs.Keys.{Map}
@@ -7,7 +7,7 @@ use Rattle.mvo_types.specs.AnswerData.{answer_data}
 use Rattle.mvo_theory.specs.Steps.{steps_of_refusal}
 use Rattle.mvo_theory.specs.rests.Course.{Course}
 use Rattle.mvo_core.specs.declared.answers.Settlement.TheVariants.{Committed}
-use Rattle.mvo_core.specs.declared.answers.Finishing.TheVariants.{Done}
+use Rattle.mvo_core.specs.declared.answers.Finishing.TheVariants.{More, Done}
 use Rattle.mvo_store.specs.declared.call.StoreCall.TheVariants.{AppendOpen}
 use Rattle.mvo_world.specs.declared.event.Event.{Event}
 use Rattle.mvo_world.specs.declared.event.Event.TheVariants.{Begin, Do, Precommit, Validate, Settle, Rollback, Finish, Trim, CloseGroup, TakeGroup, Store, Poll}
@@ -27,6 +27,8 @@ pub record Past : Type 0 where
   -- the marks of the groups that were closed, and how many of them the store took
   pub closed : List ℕ
   pub taken : ℕ
+  -- of the transactions that are being finished, whose each More was
+  pub mores : List ℕ
 
 -- just opened over these rows at this mark
 abbrev pub opened_over : Map → ℕ → Past
@@ -38,6 +40,7 @@ opened_over rows mark = record {
   acknowledged = mark ∷ [];
   closed = [];
   taken = 0;
+  mores = [];
 }
 
 -- what happened to its transactions, and the trims
@@ -86,6 +89,12 @@ abbrev pub taken_by : Event → Reply → ℕ
 taken_by TakeGroup Taken = 1
 taken_by e r = 0
 
+-- with the More that was answered; where it was Done, with none of that transaction
+abbrev pub mores_after : Event → Reply → List ℕ → List ℕ
+mores_after (Finish t) (Finished More) mores = mores ++ t.0 ∷ []
+mores_after (Finish t) (Finished Done) mores = filter (λ u. not (u == t.0)) mores
+mores_after e r mores = mores
+
 abbrev pub with_event : Past → Event → Reply → Past
 with_event p e r = record {
   rows = p.rows;
@@ -95,6 +104,7 @@ with_event p e r = record {
   acknowledged = p.acknowledged ++ acknowledged_by e r;
   closed = p.closed ++ closed_by e r;
   taken = p.taken + taken_by e r;
+  mores = mores_after e r p.mores;
 }
 
 -- one event with its reply after another

@@ -9,7 +9,6 @@ use Rattle.mvo_group.specs.Data.{GroupData}
 use Rattle.mvo_theory.specs.State.{State, timeline}
 use Rattle.mvo_theory.specs.Marks.{IsClosedAt, settled_to}
 use Rattle.mvo_theory.specs.Counted.{HasCounts}
-use Rattle.mvo_theory.specs.Words.{HaveFewWords}
 use Rattle.mvo_theory.specs.rests.Known.{KnowsRests}
 use Rattle.mvo_core.specs.Standing.{StandsFor}
 use Rattle.mvo_store.specs.Frames.{mark_after}
@@ -17,6 +16,7 @@ use Rattle.mvo_store.specs.Rows.{after_groups}
 use Rattle.mvo_store.specs.Seen.{disk_of, mark_of}
 use Rattle.mvo_store.specs.Standing.{Gives, KeepsRows, HasSlots}
 use Rattle.mvo_world.specs.Past.{Past, course_of}
+use Rattle.mvo_world.specs.Finishing.{HaveCountedWords}
 use Rattle.mvo_types.specs.declared.limits.TheConstants.{RING_GROUPS}
 use Rattle.mvo_world.specs.WorldData.{WorldData, waiting}
 use Rattle.mvo_core.specs.Groups.{HaveRecordsOf}
@@ -54,8 +54,8 @@ pub record IsAfter {D : Type 0} (d : Ghosts D) (p : Past) (w : WorldData D) : Ty
   pub core : StandsFor p.rows p.steps state w.core
   -- the opening mark, the clock, the unfinished and the checks are those of the steps
   pub counted : HasCounts p.mark p.steps state
-  -- those that ended have no more words left than they were answered
-  pub words : HaveFewWords p.steps state
+  -- of those that ended, the words that are left are those that no More took
+  pub words : HaveCountedWords p.mores p.steps state
   -- it knows on whom its transactions rest
   pub rests : KnowsRests (course_of p) state
   -- up to the mark of the group that was closed last all are settled

@@ -13,6 +13,6 @@ returns g c =
     elim c.match-begin_tx.branch [
       | goal.in-Ok w ↦ rw (w.result-is, ← c.self.view_is) (
           let drawn = next_stamp (world_data c.self.inside) w.in-Ok.tx.0 w.in-Ok.ensures.id in
-          told g.D.Disk g.met.D.Disk.only_now (world_data c.self.inside) w.in-Ok.ensures.step (λ asked. (asked, drawn)) (λ o xs s h. ap (λ (n : ℕ). Begins n ∷ []) (drawn o xs s h)) (refl, refl, tt))
-      | goal.in-Err w ↦ rw (w.result-is, ← c.self.view_is) (told g.D.Disk g.met.D.Disk.only_now (world_data c.self.inside) w.in-Err.ensures.step (λ asked. asked) (λ o xs s h. refl) (refl, refl, tt))
+          told g.D.Disk g.met.D.Disk.only_now (world_data c.self.inside) w.in-Ok.ensures.step (λ asked. (asked, drawn)) (λ o xs s h. (ap (λ (n : ℕ). Begins n ∷ []) (drawn o xs s h), λ ms. refl)) (refl, refl, tt))
+      | goal.in-Err w ↦ rw (w.result-is, ← c.self.view_is) (told g.D.Disk g.met.D.Disk.only_now (world_data c.self.inside) w.in-Err.ensures.step (λ asked. asked) (λ o xs s h. (refl, λ ms. refl)) (refl, refl, tt))
     ]

@@ -10,6 +10,6 @@ invariant_of-self g c = sound_asked (world_data c.self.inside) c.self.invariant 
 pub returns : goal.returns
 returns g c =
     elim c.match-validate_one.branch [
-      | goal.in-Ok w ↦ rw (w.result-is, ← c.self.view_is) (told g.D.Disk g.met.D.Disk.only_now (world_data c.self.inside) w.in-Ok.ensures.step (λ asked. (asked, w.in-Ok.ensures.answer)) (λ o xs s h. refl) (refl, refl, tt))
-      | goal.in-Err w ↦ rw (w.result-is, ← c.self.view_is) (told g.D.Disk g.met.D.Disk.only_now (world_data c.self.inside) w.in-Err.ensures.step (λ asked. asked) (λ o xs s h. refl) (refl, refl, tt))
+      | goal.in-Ok w ↦ rw (w.result-is, ← c.self.view_is) (told g.D.Disk g.met.D.Disk.only_now (world_data c.self.inside) w.in-Ok.ensures.step (λ asked. (asked, w.in-Ok.ensures.answer)) (λ o xs s h. (refl, λ ms. refl)) (refl, refl, tt))
+      | goal.in-Err w ↦ rw (w.result-is, ← c.self.view_is) (told g.D.Disk g.met.D.Disk.only_now (world_data c.self.inside) w.in-Err.ensures.step (λ asked. asked) (λ o xs s h. (refl, λ ms. refl)) (refl, refl, tt))
     ]
