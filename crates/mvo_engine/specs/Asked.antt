@@ -1,5 +1,5 @@
 -- What a session asked of the core, each time under its lock.
-use Rattle.std.specs.Prelude.{◌≡◌, ◌⊎◌, ℕ, true, false, Option, None, Some, Result, Ok, Err, IfOk, IfSome}
+use Rattle.std.specs.Prelude.{◌≡◌, ◌⊎◌, ◌≤◌, ℕ, true, false, Option, None, Some, Result, Ok, Err, IfOk, IfSome}
 use Rattle.mvo_types.specs.declared.answer.Answer.{Answer}
 use Rattle.mvo_types.specs.declared.ids.Stamp.{Stamp}
 use Rattle.mvo_types.specs.declared.op.Op.{Op}
@@ -15,9 +15,11 @@ use Rattle.mvo_core.specs.declared.answers.Settlement.{Settlement}
 use Rattle.mvo_core.specs.declared.answers.Validation.{Validation}
 use Rattle.mvo_core.specs.Holding.{HoldsJust}
 use Rattle.mvo_core.specs.Steps.{IsAnswered, IsFinishing}
+use Rattle.mvo_disk.specs.declared.disk.Disk.{Ghosts}
 use Rattle.mvo_store.specs.Causes.{why_not_take}
+use Rattle.mvo_store.specs.Seen.{mark_of}
 use Rattle.mvo_engine.specs.run.Opening.{Opening}
-use Rattle.mvo_engine.specs.Sound.{IsSoundCore}
+use Rattle.mvo_engine.specs.Sound.{IsSoundCore, IsSoundStore}
 use Rattle.mvo_engine.specs.States.{CoreState, StoreState}
 use Rattle.mvo_engine.specs.Calls.{IsCoreStep, IsAnother}
 
@@ -74,10 +76,13 @@ IsCoreAnswer o tx op (Ok a) = IfSome tx (λ t. WasAnswered o t op a)
 IsCoreAnswer o tx op (Err e) =
     (e ≡ OutOfMemory) ⊎ IfSome tx (λ t. WasAsked {A = Answer} o (Do t op) (Err e))
 
--- one session more was made under the lock of the core; or none, as many were made as may be
-abbrev pub WasMade : {A : Type 0} → Result A Refusal → Type 0
-WasMade (Ok session) = (old new : CoreState) × IsAnother old (Some session) new
-WasMade {A} (Err e) = (old new : CoreState) × IsAnother {A = A} old None new
+-- Under its lock the core lay sound, and one session more was made; or none, as many were made as
+-- may be.
+abbrev pub WasMade : {A : Type 0} → Opening → Result A Refusal → Type 0
+WasMade o (Ok session) = (old new : CoreState)
+    × IsSoundCore o old.core old.sends.sent × IsAnother old (Some session) new
+WasMade {A} o (Err e) = (old new : CoreState)
+    × IsSoundCore o old.core old.sends.sent × IsAnother {A = A} old None new
 
 -- Under its lock the core lay sound, and held other answers of the transaction than these: it was
 -- Active or Preparing there.
@@ -95,6 +100,9 @@ pub data HasRefusedToCommit (o : Opening) (t : ℕ) (told : History) (e : Refusa
   Receipt : e ≡ OutOfMemory → HasRefusedToCommit o t told e
   Unlike : WasUnlike o t told → e ≡ Busy → HasRefusedToCommit o t told e
 
--- under its lock the store was down
-abbrev pub WasDown : Type 0 → Type 0
-WasDown D = (s : StoreState D) × (why_not_take s.store ≡ Some Down)
+-- Under its lock the store lay sound and was down, at a mark at least what was seen to be durable.
+pub record WasDown {D : Type 0} (d : Ghosts D) (o : Opening) (seen : ℕ) : Type 0 where
+  pub state : StoreState D
+  pub sound : IsSoundStore d o state.store state.received
+  pub covers : seen ≤ mark_of state.store
+  pub down : why_not_take state.store ≡ Some Down

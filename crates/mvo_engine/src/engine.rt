@@ -1,8 +1,7 @@
 mod call_by_call;
 mod jobs;
 
-ghost use Rattle.std.specs.Prelude.{◌≡◌, Some, IsTrue};
-ghost use Rattle.mvo_types.specs.declared.refusal.Refusal.{Refusal};
+ghost use Rattle.std.specs.Prelude.{◌≡◌};
 ghost use Rattle.mvo_store.specs.Seen.{mark_of};
 ghost use Rattle.mvo_engine.specs.Ending.{AreSeenUpTo, HasShutDown};
 
@@ -18,7 +17,7 @@ use crate::sends::Sends;
 use crate::session::Session;
 use crate::store_guard::StoreGuard;
 use mvo_disk::Disk;
-use mvo_marks::Marks;
+use mvo_marks::{Marks, Seat};
 use mvo_types::{Refusal, Stamp};
 use std::sync::{Mutex, MutexGuard, Wait};
 use std::thread;
@@ -96,7 +95,7 @@ impl<L: Run, D: Disk, G: Gate + Drop> Engine<L, D, G> {
         ensures ok { IfOk result (λ session. session.tx ≡ None) }
         ensures receipts { IfOk result (λ session. session.receipts ≡ []) }
         ensures err { IfErr result (λ r. r ≡ Refusal.TableFull) }
-        ensures made { WasMade result }
+        ensures made { WasMade L.opening result }
     {
         let mut core = self.enter_core(rt);
         match core.another(&self.marks) {
@@ -224,11 +223,13 @@ impl<L: Run, D: Disk, G: Gate + Drop> Engine<L, D, G> {
         self.store.lock(rt)
     }
 
-    // Whether the store is down.
-    pub(crate) fn is_down<R: Wait>(&self, rt: &R) -> bool
-        ensures { IsTrue result → WasDown D }
+    // Whether the store is down, at a mark that is at least what the seat has seen.
+    pub(crate) fn is_down<R: Wait>(&self, rt: &R, seat: &mut Seat) -> bool
+        requires { seat.old.marks ≡ L.marks }
+        ensures down { IsTrue result → WasDown D.Disk L.opening seat.old.known.durable }
+        ensures seat { seat.new ≡ seat.old }
     {
-        is_of_down(self.enter_store(rt).can_take())
+        self.enter_store(rt).is_down(&self.marks, seat)
     }
 
     // The marks.
@@ -266,11 +267,4 @@ fn shut_down<L: Run, D: Disk>(core: LockedCore<L>, store: LockedStore<L, D>) -> 
     let _ = core.clock();
     core.audit(&mut store);
     store.into_disk()
-}
-
-// Whether the refusal is Down.
-fn is_of_down(refusal: Option<Refusal>) -> bool
-    ensures { IsTrue result → refusal ≡ Some Refusal.Down }
-{
-    matches!(refusal, Some(Refusal::Down))
 }

@@ -159,6 +159,7 @@ impl<L: Run> LockedCore<L> {
     /// many were made as may be.
     pub fn another(&mut self, marks: &Marks) -> Option<(Seat, Receipts<L>)>
         requires { marks.now ≡ L.marks }
+        ensures sound { IsSoundCore L.opening self.old.core self.old.sends.sent }
         ensures seat { IfSome result (λ given. given.0.marks ≡ L.marks) }
         ensures receipts { IfSome result (λ given. given.1.list ≡ []) }
         ensures made { IsAnother self.old result self.new }

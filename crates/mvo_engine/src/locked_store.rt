@@ -1,3 +1,6 @@
+ghost use Rattle.std.specs.Prelude.{◌≡◌, Some, IsTrue};
+ghost use Rattle.mvo_types.specs.declared.refusal.Refusal.{Refusal};
+
 use crate::chain::Chain;
 use crate::run::Run;
 use mvo_disk::Disk;
@@ -59,7 +62,7 @@ impl<L: Run, D: Disk> Model for LockedStore<L, D> {
 
 impl<L: Run, D: Disk> LockedStore<L, D> {
     ghost use Rattle.std.specs.Prelude.{◌≡◌, ◌≤◌, ◌++◌, List, Some};
-    ghost use Rattle.std.specs.Prelude.{OnOk, IfErr};
+    ghost use Rattle.std.specs.Prelude.{OnOk, IfErr, IsTrue};
     ghost use Rattle.rtrb.specs.Ring.{sent, received};
     ghost use Rattle.mvo_group.specs.Data.{GroupData};
     ghost use Rattle.mvo_disk.specs.Disk.{IsHonest};
@@ -69,6 +72,7 @@ impl<L: Run, D: Disk> LockedStore<L, D> {
     ghost use Rattle.mvo_engine.specs.run.Rings.{ring_of, ring_from};
     ghost use Rattle.mvo_engine.specs.Sound.{IsSoundStore, GivesReceived, LeavesReceived};
     ghost use Rattle.mvo_engine.specs.Calls.{IsLockedCall, HasTaken, IsNotTaken};
+    ghost use Rattle.mvo_engine.specs.Asked.{WasDown};
 
     /// A store with its end of the ring and the publishing seat.
     pub fn new(
@@ -139,7 +143,8 @@ impl<L: Run, D: Disk> LockedStore<L, D> {
 
     /// The refusal that `take` would give, but for an empty ring.
     pub fn can_take(&self) -> Option<Refusal>
-        ensures { result ≡ why_not_take self.now.store }
+        ensures why { result ≡ why_not_take self.now.store }
+        ensures sound { IsSoundStore D.Disk L.opening self.now.store self.now.received }
     {
         self.store.can_take()
     }
@@ -153,6 +158,17 @@ impl<L: Run, D: Disk> LockedStore<L, D> {
         ensures store { self.new ≡ self.old }
     {
         marks.confirm(&mut self.publisher, seat);
+    }
+
+    /// Whether the store is down, at a mark that is at least what the seat has seen.
+    pub fn is_down(&mut self, marks: &Marks, seat: &mut Seat) -> bool
+        requires marks { marks.now ≡ L.marks }
+        requires seat { seat.old.marks ≡ L.marks }
+        ensures down { IsTrue result → WasDown D.Disk L.opening seat.old.known.durable }
+        ensures seat { seat.new ≡ seat.old }
+    {
+        self.confirm(marks, seat);
+        is_of_down(self.can_take())
     }
 
     /// Takes the next group out of the ring, to append it. Refused: Down, Busy where a group is
@@ -187,4 +203,11 @@ impl<L: Run, D: Disk> LockedStore<L, D> {
             Err(refusal) => Err(refusal),
         }
     }
+}
+
+// Whether the refusal is Down.
+fn is_of_down(refusal: Option<Refusal>) -> bool
+    ensures { IsTrue result → refusal ≡ Some Refusal.Down }
+{
+    matches!(refusal, Some(Refusal::Down))
 }

@@ -126,17 +126,19 @@ impl<'e, L: Run, D: Disk, G: Gate + Drop> Session<'e, L, D, G> {
     }
 
     /// Waits until all commits that end up to the stamp are on the disk: until another thread, or
-    /// this one before the call, has flushed them. Refused with Down where the store is down.
+    /// this one before the call, has flushed them. Refused with Down where the store is down, at a
+    /// mark at least what the session has seen.
     pub fn wait_durable<R: Wait>(&mut self, rt: &R, stamp: Stamp) -> Result<(), Refusal>
         ensures ok { OnOk result (stamp.0 ≤ self.new.durable) }
-        ensures err { IfErr result (λ r. (r ≡ Refusal.Down) × WasDown D) }
+        ensures err { IfErr result (λ r. r ≡ Refusal.Down) }
+        ensures down { IfErr result (λ _. WasDown D.Disk L.opening self.new.durable) }
         ensures rest { self.new ≡ record self.old { durable = self.new.durable } }
     {
         for _ in rt.forever() {
             if self.poll_durable(stamp) {
                 return Ok(());
             }
-            if self.engine.is_down(rt) {
+            if self.engine.is_down(rt, &mut self.seat) {
                 return Err(Refusal::Down);
             }
             thread::yield_now();
