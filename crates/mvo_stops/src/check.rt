@@ -1,4 +1,6 @@
 //! Looks at all that stops and faults may leave at one call.
+ghost use Rattle.std.specs.Prelude.{◌≡◌, IfOk};
+
 use crate::base::Base;
 use crate::counts::Counts;
 use crate::error::StopsError;
@@ -10,8 +12,8 @@ use crate::loose::loose_after;
 use crate::moment::Moment;
 use crate::recorded::Recorded;
 use crate::wrong::Wrong;
-use mvo_disk::MemDisk;
-use mvo_types::{Refusal, Stamp};
+use mvo_disk::{Call, MemDisk};
+use mvo_types::Stamp;
 use std::thread::Threads;
 
 /// What was found at a call.
@@ -22,16 +24,16 @@ pub struct Found {
 }
 
 /// Looks at the call at this place, from 0: at what a stop before it and within it leaves, at what
-/// is left where it fails and the rest of the script runs, and behind the last call at what a stop
-/// at the script's end leaves. It ends with what is wrong first.
+/// is left where it fails, then and when the rest of the script has run, and behind the last call
+/// at what a stop at the script's end leaves. It ends with what is wrong first.
 pub fn check_call(
     rt: &(impl Threads + Sync),
     recorded: &Recorded,
     place: usize,
 ) -> Result<Found, StopsError> {
-    let (history, _) = recorded.run_failing(rt, place)?.into_history();
+    let (history, _, left) = recorded.run_failing(rt, place)?.into_parts();
     let mut judge = Judge::new(history);
-    let ended = check_moments(rt, &mut judge, recorded, place);
+    let ended = check_run(rt, &mut judge, recorded, place, left);
     let found = found_by(&judge, ended)?;
     if place.saturating_add(1) < recorded.calls().len() || found.wrong.is_some() {
         return Ok(found);
@@ -53,42 +55,93 @@ fn check_end(rt: &(impl Threads + Sync), recorded: &Recorded) -> Result<Found, S
     found_by(&judge, ended)
 }
 
-/// What was found up to here.
-fn found_by(judge: &Judge, ended: Result<(), LookEnd>) -> Result<Found, StopsError> {
-    let counts = judge.counts();
+/// What was found up to here: what the judge has found wrong is.
+fn found_by(judge: &Judge, ended: Result<(), LookEnd>) -> Result<Found, StopsError>
+    ensures counts { IfOk result (λ found. found.counts ≡ judge.now.counts) }
+    ensures wrong { IfOk result (λ found. found.wrong ≡ judge.now.wrong) }
+{
     match ended {
-        Ok(()) => Ok(Found {
-            counts,
-            wrong: None,
-        }),
-        Err(LookEnd::Wrong(wrong)) => Ok(Found {
-            counts,
-            wrong: Some(wrong),
+        Ok(()) | Err(LookEnd::Wrong(_)) => Ok(Found {
+            counts: judge.counts(),
+            wrong: judge.wrong(),
         }),
         Err(LookEnd::Error(error)) => Err(error),
     }
 }
 
-fn check_moments(
+/// Looks at a call, by the disk that is left where it fails and the rest of the script runs.
+fn check_run(
     rt: &(impl Threads + Sync),
     judge: &mut Judge,
     recorded: &Recorded,
     place: usize,
+    left: MemDisk,
 ) -> Result<(), LookEnd> {
     let base = Base::before(recorded, place)?;
-    check_stopped(rt, judge, &Moment::before(recorded, &base, place))?;
-    if let Some(moment) = Moment::within(recorded, &base, place)? {
+    check_stops_at(rt, judge, recorded, &base, place)?;
+    check_faults_at(
+        rt,
+        judge,
+        recorded,
+        &base,
+        place,
+        recorded.rest_of(&left, place),
+    )?;
+    let acknowledged = judge.acknowledged();
+    open_again(rt, judge, recorded, left, acknowledged)?;
+    Ok(())
+}
+
+/// Looks at what a stop before the call and within it leaves.
+fn check_stops_at(
+    rt: &(impl Threads + Sync),
+    judge: &mut Judge,
+    recorded: &Recorded,
+    base: &Base,
+    place: usize,
+) -> Result<(), LookEnd> {
+    check_stopped(rt, judge, &Moment::before(recorded, base, place))?;
+    if let Some(moment) = Moment::within(recorded, base, place)? {
         check_stopped(rt, judge, &moment)?;
     }
-    check_standing(rt, judge, &Moment::before(recorded, &base, place))?;
+    Ok(())
+}
+
+/// Looks at what is left where the call fails, and has done nothing, or has done something.
+fn check_faults_at(
+    rt: &(impl Threads + Sync),
+    judge: &mut Judge,
+    recorded: &Recorded,
+    base: &Base,
+    place: usize,
+    rest: &[Call],
+) -> Result<(), LookEnd> {
+    check_fault(rt, judge, Moment::before(recorded, base, place), rest)?;
     for fill in Fill::ALL {
         for length in Length::ALL {
-            if let Some(moment) = Moment::failed(recorded, &base, place, fill, length)? {
-                check_standing(rt, judge, &moment)?;
+            if let Some(moment) = Moment::failed(recorded, base, place, fill, length)? {
+                check_fault(rt, judge, moment, rest)?;
             }
         }
     }
     Ok(())
+}
+
+/// Looks at the disk as a fault left it, and as it is behind the calls of the rest of the script,
+/// and at what a stop leaves there. Where the rest makes no call, that was looked at already.
+fn check_fault<'a>(
+    rt: &(impl Threads + Sync),
+    judge: &mut Judge,
+    moment: Moment<'a>,
+    rest: &'a [Call],
+) -> Result<(), LookEnd> {
+    check_standing(rt, judge, &moment)?;
+    if rest.is_empty() {
+        return Ok(());
+    }
+    let moment = moment.with_rest(rest);
+    check_stopped(rt, judge, &moment)?;
+    check_standing(rt, judge, &moment)
 }
 
 /// What a stop may leave of a disk.
@@ -159,12 +212,9 @@ fn cut_short(
 ) -> Result<MemDisk, LookEnd> {
     let mut disk = disk;
     disk.fail_at(place as u64);
-    match judge.open(rt, recorded, disk) {
-        (Err(Refusal::DiskFault), disk) => Ok(disk),
-        (Err(Refusal::OutOfMemory), _) => Err(LookEnd::Error(StopsError::OutOfMemory)),
-        (Err(refusal), _) => Err(LookEnd::Wrong(Wrong::NotOpened(refusal))),
-        (Ok(_), _) => Err(LookEnd::Wrong(Wrong::FaultMissed)),
-    }
+    let (opened, disk) = judge.open(rt, recorded, disk);
+    judge.judge_cut(opened)?;
+    Ok(disk)
 }
 
 /// An opening that is compared with what was promised.

@@ -72,14 +72,32 @@ fn write_all(
     place: usize,
     text: &mut String,
 ) -> Result<(), StopsError> {
-    let (history, fault) = recorded.run_failing(rt, place)?.into_history();
+    let (history, fault, left) = recorded.run_failing(rt, place)?.into_parts();
     if let Some(line) = fault {
         write_line(rt, recorded, place, line, text)?;
     }
     let mut judge = Judge::new(history);
     let acknowledged = judge.acknowledged();
     writeln!(text, "acknowledged {acknowledged}")?;
-    write_images(rt, &mut judge, recorded, place, text)
+    write_run(rt, &mut judge, recorded, place, left, text)
+}
+
+/// What each image at a call opens as, and the disk that is left where it fails and the rest of the
+/// script runs.
+fn write_run(
+    rt: &(impl Threads + Sync),
+    judge: &mut Judge,
+    recorded: &Recorded,
+    place: usize,
+    left: MemDisk,
+    text: &mut String,
+) -> Result<(), StopsError> {
+    let base = Base::before(recorded, place)?;
+    write_stops(rt, judge, recorded, &base, place, text)?;
+    let rest = recorded.rest_of(&left, place);
+    write_faults(rt, judge, recorded, &base, place, rest, text)?;
+    write!(text, "failed, at the script's end")?;
+    write_one(rt, judge, recorded, left, text)
 }
 
 /// Which line makes the call, and in which of its steps.
@@ -103,41 +121,66 @@ fn write_line(
     Ok(())
 }
 
-fn write_images(
+/// What is left by a stop before the call and within it.
+fn write_stops(
     rt: &(impl Threads + Sync),
     judge: &mut Judge,
     recorded: &Recorded,
+    base: &Base,
     place: usize,
     text: &mut String,
 ) -> Result<(), StopsError> {
-    let base = Base::before(recorded, place)?;
-    write_stopped(
-        rt,
-        judge,
-        &Moment::before(recorded, &base, place),
-        "stopped before it",
-        text,
-    )?;
-    if let Some(moment) = Moment::within(recorded, &base, place)? {
+    let moment = Moment::before(recorded, base, place);
+    write_stopped(rt, judge, &moment, "stopped before it", text)?;
+    if let Some(moment) = Moment::within(recorded, base, place)? {
         write_stopped(rt, judge, &moment, "stopped within it", text)?;
     }
-    write!(text, "failed")?;
-    write_one(
-        rt,
-        judge,
-        recorded,
-        Moment::before(recorded, &base, place).disk()?,
-        text,
-    )?;
+    Ok(())
+}
+
+/// What is left where the call fails, and has done nothing, or has done something.
+fn write_faults(
+    rt: &(impl Threads + Sync),
+    judge: &mut Judge,
+    recorded: &Recorded,
+    base: &Base,
+    place: usize,
+    rest: &[Call],
+    text: &mut String,
+) -> Result<(), StopsError> {
+    let moment = Moment::before(recorded, base, place);
+    write_fault(rt, judge, moment, rest, "failed", text)?;
     for fill in Fill::ALL {
         for length in Length::ALL {
-            if let Some(moment) = Moment::failed(recorded, &base, place, fill, length)? {
-                write!(text, "failed, {fill} {length}")?;
-                write_one(rt, judge, recorded, moment.disk()?, text)?;
+            if let Some(moment) = Moment::failed(recorded, base, place, fill, length)? {
+                let when = format!(in recorded.alloc; "failed, {fill} {length}")?;
+                write_fault(rt, judge, moment, rest, &when, text)?;
             }
         }
     }
     Ok(())
+}
+
+/// What a fault leaves, and, where calls are made behind it, what these leave, and a stop there.
+fn write_fault<'a>(
+    rt: &(impl Threads + Sync),
+    judge: &mut Judge,
+    moment: Moment<'a>,
+    rest: &'a [Call],
+    when: &str,
+    text: &mut String,
+) -> Result<(), StopsError> {
+    let recorded = moment.recorded;
+    write!(text, "{when}")?;
+    write_one(rt, judge, recorded, moment.disk()?, text)?;
+    if rest.is_empty() {
+        return Ok(());
+    }
+    let moment = moment.with_rest(rest);
+    write!(text, "{when}, and calls behind it")?;
+    write_one(rt, judge, recorded, moment.disk()?, text)?;
+    let stopped = format!(in recorded.alloc; "{when}, and calls behind it, stopped")?;
+    write_stopped(rt, judge, &moment, &stopped, text)
 }
 
 /// What each image of a stop opens as.

@@ -1,7 +1,8 @@
 //! Whether what an opening answers is what was promised.
-ghost use Rattle.std.specs.Prelude.{◌≡◌, ◌↔◌, IsTrue, IfOk};
+ghost use Rattle.std.specs.Prelude.{◌≡◌, ◌↔◌, IsTrue, IfOk, OnOk, Err};
 ghost use Rattle.std.specs.FinMap as map;
 ghost use Rattle.mvo_types.specs.RowLists.{rows_by_key};
+ghost use Rattle.mvo_stops.specs.Judging.{wrong_in};
 ghost use Rattle.mvo_stops.specs.Promise.{rows_of_commits, with_rows};
 
 use crate::commit::Commit;
@@ -18,10 +19,12 @@ use mvo_types::{Refusal, Row, Rows, Stamp};
 use std::alloc::{AllocError, Global};
 use std::thread::Threads;
 
-/// What a run promised, with a fault or without, and how much was looked at.
+/// What a run promised, with a fault or without, how much was looked at, and what was found wrong
+/// first. That stays: who drops what it answers loses nothing.
 pub struct Judge {
     history: History,
     counts: Counts,
+    wrong: Option<Wrong>,
 }
 
 impl Drop for Judge {
@@ -29,14 +32,15 @@ impl Drop for Judge {
         let Judge {
             history: _,
             counts: _,
+            wrong: _,
         } = self;
     }
 }
 
 impl Judge {
-    ghost use Rattle.std.specs.Prelude.{◌≡◌, Ok, Err, IfOk};
+    ghost use Rattle.std.specs.Prelude.{◌≡◌, Ok, Err, IfOk, OnOk};
     ghost use Rattle.mvo_types.specs.Keys.{Map};
-    ghost use Rattle.mvo_stops.specs.Judging.{Promises, LooksAtOne, KeepsHistory};
+    ghost use Rattle.mvo_stops.specs.Judging.{Promises, LooksAtOne, OnlyOpens, NotesWrong};
     ghost use Rattle.mvo_stops.specs.declared.wrong.Wrong.{Wrong};
 
     /// What the replies of a run promised.
@@ -44,6 +48,7 @@ impl Judge {
         Judge {
             history,
             counts: Counts::new(),
+            wrong: None,
         }
     }
 
@@ -52,6 +57,13 @@ impl Judge {
         ensures { result ≡ self.now.counts }
     {
         self.counts
+    }
+
+    /// What was found wrong first.
+    pub fn wrong(&self) -> Option<Wrong>
+        ensures { result ≡ self.now.wrong }
+    {
+        self.wrong
     }
 
     /// The greatest timestamp that was acknowledged.
@@ -68,7 +80,7 @@ impl Judge {
         recorded: &Recorded,
         disk: MemDisk,
     ) -> (Opened, MemDisk)
-        ensures { KeepsHistory self.old self.new }
+        ensures { OnlyOpens self.old self.new }
     {
         self.counts.openings = self.counts.openings.saturating_add(1);
         open(rt, recorded.alloc, recorded.seed, disk)
@@ -87,8 +99,47 @@ impl Judge {
         ensures wrong { (w : Wrong) → result ≡ Err (LookEnd.Wrong w) → IfOk opened (λ o.
             ¬ Promises self.old recorded.now acknowledged.0 o.0 o.1.0) }
         ensures looked { LooksAtOne self.old self.new }
+        ensures noted { NotesWrong result self.old self.new }
     {
         self.counts.images = self.counts.images.saturating_add(1);
+        let judged = self.judge_opened(recorded, opened, acknowledged);
+        self.note(&judged);
+        judged
+    }
+
+    /// Compares what an opening answered of which a call was made to fail: that is a fault of the
+    /// disk.
+    pub fn judge_cut(&mut self, opened: Opened) -> Result<(), LookEnd>
+        ensures fault { OnOk result (opened ≡ Err Refusal.DiskFault) }
+        ensures answered { IfOk opened (λ _. result ≡ Err (LookEnd.Wrong Wrong.FaultMissed)) }
+        ensures rest { (self.new.history ≡ self.old.history) × (self.new.counts ≡ self.old.counts) }
+        ensures noted { NotesWrong result self.old self.new }
+    {
+        let judged = is_cut(opened);
+        self.note(&judged);
+        judged
+    }
+
+    /// Keeps what was found wrong, if nothing was before.
+    fn note<T>(&mut self, judged: &Result<T, LookEnd>)
+        ensures rest { (self.new.history ≡ self.old.history) × (self.new.counts ≡ self.old.counts) }
+        ensures noted { NotesWrong judged.now self.old self.new }
+    {
+        self.wrong = self.wrong.or(wrong_in(judged));
+    }
+
+    /// Compares what an opening answered with what was promised.
+    fn judge_opened(
+        &self,
+        recorded: &Recorded,
+        opened: Opened,
+        acknowledged: Stamp,
+    ) -> Result<Stamp, LookEnd>
+        ensures promised { IfOk result (λ m. (rows : Map) × (opened ≡ Ok (rows, m)) ×
+            Promises self.now recorded.now acknowledged.0 rows m.0) }
+        ensures wrong { (w : Wrong) → result ≡ Err (LookEnd.Wrong w) → IfOk opened (λ o.
+            ¬ Promises self.now recorded.now acknowledged.0 o.0 o.1.0) }
+    {
         match opened {
             Ok((rows, mark)) => self.judge_rows(recorded, rows, mark, acknowledged),
             // No call was made to fail.
@@ -125,6 +176,29 @@ impl Judge {
         } else {
             Err(LookEnd::Wrong(Wrong::OtherRows(mark)))
         }
+    }
+}
+
+/// Whether an opening of which a call failed is refused as a fault of the disk.
+fn is_cut(opened: Opened) -> Result<(), LookEnd>
+    ensures fault { OnOk result (opened ≡ Err Refusal.DiskFault) }
+    ensures answered { IfOk opened (λ _. result ≡ Err (LookEnd.Wrong Wrong.FaultMissed)) }
+{
+    match opened {
+        Err(Refusal::DiskFault) => Ok(()),
+        Err(Refusal::OutOfMemory) => Err(LookEnd::Error(StopsError::OutOfMemory)),
+        Err(refusal) => Err(LookEnd::Wrong(Wrong::NotOpened(refusal))),
+        Ok(_) => Err(LookEnd::Wrong(Wrong::FaultMissed)),
+    }
+}
+
+/// What is wrong, if that's why no more is looked at.
+fn wrong_in<T>(judged: &Result<T, LookEnd>) -> Option<Wrong>
+    ensures { result ≡ wrong_in judged.now }
+{
+    match judged {
+        Ok(_) | Err(LookEnd::Error(_)) => None,
+        Err(LookEnd::Wrong(wrong)) => Some(*wrong),
     }
 }
 

@@ -6,7 +6,8 @@ use crate::replay::make;
 use mvo_disk::{Call, DeviceWork, FILE_COUNT, MemDisk};
 use std::alloc::{AllocError, Global};
 
-/// A moment of a script's run: the calls before one of them are made, and that one in part or not.
+/// A moment of a script's run: the calls before one of them are made, that one in part or not, and
+/// those that were made behind it where it failed.
 pub struct Moment<'a> {
     pub recorded: &'a Recorded,
     pub base: &'a Base,
@@ -14,6 +15,8 @@ pub struct Moment<'a> {
     before: usize,
     /// What the next one has done, without a sync.
     part: Option<Call>,
+    /// What is made behind that one.
+    rest: &'a [Call],
 }
 
 impl Drop for Moment<'_> {
@@ -23,6 +26,7 @@ impl Drop for Moment<'_> {
             base: _,
             before: _,
             part: _,
+            rest: _,
         } = self;
     }
 }
@@ -35,6 +39,7 @@ impl<'a> Moment<'a> {
             base,
             before: place,
             part: None,
+            rest: &[],
         }
     }
 
@@ -85,6 +90,7 @@ impl<'a> Moment<'a> {
             base,
             before,
             part: _,
+            rest,
         } = self;
         match part {
             Some(part) => Some(Moment {
@@ -92,8 +98,27 @@ impl<'a> Moment<'a> {
                 base,
                 before,
                 part: Some(part),
+                rest,
             }),
             None => None,
+        }
+    }
+
+    /// The moment at which these calls are made too, behind that one.
+    pub fn with_rest(self, rest: &'a [Call]) -> Moment<'a> {
+        let Moment {
+            recorded,
+            base,
+            before,
+            part,
+            rest: _,
+        } = self;
+        Moment {
+            recorded,
+            base,
+            before,
+            part,
+            rest,
         }
     }
 
@@ -114,6 +139,9 @@ impl<'a> Moment<'a> {
             .make_between(&mut disk, self.base.made, self.before)?;
         if let Some(part) = &self.part {
             make(&mut disk, part)?;
+        }
+        for call in self.rest {
+            make(&mut disk, call)?;
         }
         Ok(disk)
     }

@@ -25,6 +25,8 @@ pub struct Recorded {
     forgotten: Vec<usize>,
     /// Whether the syncs of openings are left out.
     openings_forget: bool,
+    /// Whether calls are made behind one that failed as if it hadn't.
+    faults_forgotten: bool,
 }
 
 impl Drop for Recorded {
@@ -39,6 +41,7 @@ impl Drop for Recorded {
             disk: _,
             forgotten: _,
             openings_forget: _,
+            faults_forgotten: _,
         } = self;
     }
 }
@@ -67,6 +70,7 @@ impl Recorded {
             disk,
             forgotten: Vec::new(alloc),
             openings_forget: false,
+            faults_forgotten: false,
         })
     }
 
@@ -103,10 +107,19 @@ impl Recorded {
         self.openings_forget = true;
     }
 
-    /// Leaves no sync out any more.
+    /// Has the calls behind one that fails made as if it hadn't: what is looked at from here on is
+    /// what a store leaves that goes on after a fault, though it answers that it is down.
+    pub fn forget_faults(&mut self)
+        ensures { self.new ≡ record self.old { faults_forgotten = true } }
+    {
+        self.faults_forgotten = true;
+    }
+
+    /// Leaves no sync out any more, and no fault.
     pub fn forget_none(&mut self) {
         self.forgotten.clear();
         self.openings_forget = false;
+        self.faults_forgotten = false;
     }
 
     /// Whether the syncs of openings are left out.
@@ -119,6 +132,21 @@ impl Recorded {
     /// Whether the call at this place, from 0, is a sync that is left out.
     pub(crate) fn is_forgotten(&self, place: usize) -> bool {
         self.forgotten.contains(&place)
+    }
+
+    /// The calls behind the one at this place, from 0, that a run makes in which that one fails, by
+    /// the disk that the run left.
+    pub(crate) fn rest_of<'a>(&'a self, left: &'a MemDisk, place: usize) -> &'a [Call] {
+        let rest = if self.faults_forgotten {
+            self.calls().get(place.saturating_add(1)..)
+        } else {
+            // The one that failed isn't in the disk's record.
+            left.calls().get(self.opening.saturating_add(place)..)
+        };
+        match rest {
+            Some(calls) => calls,
+            None => &[],
+        }
     }
 
     /// Makes the calls from one place up to another, from 0, but for the syncs that are left out.

@@ -37,6 +37,16 @@ impl Ran {
         (history, fault)
     }
 
+    /// The same, and the disk as it stands.
+    pub fn into_parts(self) -> (History, Option<usize>, MemDisk) {
+        let Ran {
+            disk,
+            history,
+            fault,
+        } = self;
+        (history, fault, disk)
+    }
+
     /// The disk as it stands.
     pub fn into_disk(self) -> MemDisk {
         let Ran {

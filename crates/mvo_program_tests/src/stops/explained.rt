@@ -17,6 +17,7 @@ failed: mark 0 rows 0
 failed, 00 full: mark 0 rows 0
 failed, ff full: mark 0 rows 0
 failed, written full: mark 2 rows 1
+failed, at the script's end: mark 0 rows 0
 ";
 
 #[test]

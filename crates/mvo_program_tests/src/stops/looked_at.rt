@@ -56,11 +56,12 @@ fn a_script_without_calls_is_ok(rt: HostRuntime) -> Result<(), Fail> {
 //   image fewer differs) and 1 with 5: 16 + 35 * 9;
 // - its sync 5 images, and 1 disk with 5: 7 + 16 * 9;
 // - the gate 1 and 3 images, then 1 disk with 1 image and 3 with 3: 12 + 22 * 9;
-// - its sync 3 images and 1 disk with 3, and 1 image at the script's end: 6 + 12 * 9.
+// - its sync 3 images and 1 disk with 3, and 1 image at the script's end: 6 + 12 * 9;
+// - each of the four 1 disk more, where it failed and the rest of the script ran: 4.
 #[test]
 fn a_flush_is_ok(rt: HostRuntime) -> Result<(), Fail> {
     let report = is_ok(&rt, &recorded(&rt, rt.alloc(), FLUSHED)?, 4)?;
-    same(&rt, &report.counts.images, &(41 + 85 * 9));
+    same(&rt, &report.counts.images, &(45 + 85 * 9));
     holds(&rt, report.counts.openings > report.counts.images);
     Ok(())
 }
@@ -91,6 +92,23 @@ fn an_opening_that_forgets_its_syncs_is_found(rt: HostRuntime) -> Result<(), Fai
     };
     let found = check_stops(&rt, &recorded, &mut Quiet)?.failed;
     same(&rt, &found, &Some(trusted));
+    recorded.forget_none();
+    is_ok(&rt, &recorded, 4)?;
+    Ok(())
+}
+
+// A store that goes on opens the gate though the write of the body failed. At the fault nothing is
+// wrong there: it is behind the rest of the script.
+#[test]
+fn a_store_that_goes_on_after_a_fault_is_found(rt: HostRuntime) -> Result<(), Fail> {
+    let mut recorded = recorded(&rt, rt.alloc(), FLUSHED)?;
+    recorded.forget_faults();
+    let opened = Failed {
+        call: 1,
+        wrong: Wrong::NotOpened(Refusal::Corrupt(2)),
+    };
+    let found = check_stops(&rt, &recorded, &mut Quiet)?.failed;
+    same(&rt, &found, &Some(opened));
     recorded.forget_none();
     is_ok(&rt, &recorded, 4)?;
     Ok(())

@@ -1,7 +1,7 @@
 use Rattle.std.proofs.Common.{◌∙◌, ap, subst, sym, Ok}
 use Rattle.std.proofs.lemmas.Result.{IfOk-weaker}
 use Rattle.mvo_stops.specs.Judging.{Promises}
-use Rattle.mvo_stops.proofs.judge.Judge.judge.Goals as goal
+use Rattle.mvo_stops.proofs.judge.Judge.judge_opened.Goals as goal
 
 pub returns-in-Ok-clause-promised : goal.returns-in-Ok-clause-promised
 returns-in-Ok-clause-promised c =
