@@ -8,7 +8,7 @@ use crate::stops::{print_call, print_stops};
 use crate::task::Task;
 use crate::work::work_in;
 use mvo_disk::Disk;
-use mvo_script::{run_over, run_script};
+use mvo_script::{Driver, run_over};
 use mvo_world::World;
 use std::fs::{File, Files};
 use std::io::Write;
@@ -142,14 +142,15 @@ where
     writeln!(io::writer(rt), "formatted").map_err(Fault::Print)
 }
 
-/// Runs the script of standard input over a fresh store in memory.
+/// Runs the script of standard input over a fresh store in memory. Where memory is refused to that
+/// store, it isn't opened, as one in a folder.
 fn run_fresh(
     rt: &(impl AllocGlobal + Input + Print + RandomSource + Threads + Sync),
 ) -> Result<(), Fault> {
     let seed = draw_seed(rt)?;
-    match run_script(rt, rt.alloc(), seed, rt.reader(), io::writer(rt)) {
-        Ok(()) => Ok(()),
-        Err(error) => Err(Fault::Script(error)),
+    match Driver::new(rt, rt.alloc(), seed) {
+        Ok(driver) => run_world(rt, driver.into_world()),
+        Err(refusal) => Err(Fault::Refused(refusal)),
     }
 }
 
