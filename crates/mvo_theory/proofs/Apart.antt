@@ -110,14 +110,14 @@ range_alone t lo hi b ds base stamped x m d c n s begun lt f =
 abbrev pub IsFreeToSettle : List StampedTx → List ℕ → Type 0
 IsFreeToSettle stamped ds = AllByRecursion (λ x. x.settled ≡ false → has_end ds x.end ≡ false) stamped
 
-abbrev IsEarlier : StampedTx → ℕ → Entry → Type 0
+abbrev pub IsEarlier : StampedTx → ℕ → Entry → Type 0
 IsEarlier x e d = x.settled ≡ false → x.end < e → LeavesAlone x d
 
 still_alone : (x : StampedTx) (e : Entry) → changes e x ≡ false → LeavesAlone x e
 still_alone x (Key k) h = none_unless (net_write k x.history) h
 still_alone x (Range t lo hi) h = λ _. h
 
-below_alone : (e : Entry) (b : ℕ) (ds : List ℕ) (base : Map) (stamped : List StampedTx) (clock : ℕ) (x : StampedTx) → IsIn x stamped → IsDecidedOn e b ds base stamped → IsClear stamped → IsFreeToSettle stamped ds →
+pub below_alone : (e : Entry) (b : ℕ) (ds : List ℕ) (base : Map) (stamped : List StampedTx) (clock : ℕ) (x : StampedTx) → IsIn x stamped → IsDecidedOn e b ds base stamped → IsClear stamped → IsFreeToSettle stamped ds →
     AllByRecursion (IsPlaced stamped clock) stamped → AllByRecursion (λ y. y.settled ≡ false → IsPreparing base stamped y) stamped → x.settled ≡ false → x.end < b → LeavesAlone x e
 below_alone (Key k) b ds base stamped clock x m d c n pl pr s lt = m (λ y. y.settled ≡ false → y.end < b → net_write k y.history ≡ None) (free_key k b ds stamped (d k (key_is k)) c n) s lt
 below_alone (Range t lo hi) b ds base stamped clock x m d c n pl pr s lt = λ o.
@@ -141,7 +141,7 @@ each_swap P ys (x ∷ xs) h = (
   each_swap P ys xs (each_weaker (λ y. P y x × AllByRecursion (P y) xs) (λ y. AllByRecursion (P y) xs) (λ y p. p.1) ys h),
 )
 
-each_under : {A B X : Type 0} (P : X → Type 0) (xs : List X) → AllByRecursion (λ x. A → B → P x) xs → A → B → AllByRecursion P xs
+pub each_under : {A B X : Type 0} (P : X → Type 0) (xs : List X) → AllByRecursion (λ x. A → B → P x) xs → A → B → AllByRecursion P xs
 each_under P [] h a b = tt
 each_under P (x ∷ xs) h a b = (h.0 a b, each_under P xs h.1 a b)
 

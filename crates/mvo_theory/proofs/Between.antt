@@ -106,7 +106,7 @@ same_seen k b (x ∷ xs) f =
     gone c true q d = absurd (true≢false (sym c ∙ d))
 
 -- what the entry shows at the begin, the settled ones below the begin leave
-at_begin : (e : Entry) (b : ℕ) (ds : List ℕ) (base : Map) (stamped : List StampedTx) → IsDecidedOn e b ds base stamped → IsClear stamped → AllByRecursion (λ x. x.settled ≡ false → has_end ds x.end ≡ false) stamped → AgreeOn e (seen_by base stamped b) (after_history (settled_below b stamped) base)
+pub at_begin : (e : Entry) (b : ℕ) (ds : List ℕ) (base : Map) (stamped : List StampedTx) → IsDecidedOn e b ds base stamped → IsClear stamped → AllByRecursion (λ x. x.settled ≡ false → has_end ds x.end ≡ false) stamped → AgreeOn e (seen_by base stamped b) (after_history (settled_below b stamped) base)
 at_begin e b ds base stamped d c n q = go (counts_for e q b base stamped) refl
   where
     go : (w : Bool) → counts_for e q b base stamped ≡ w → pass (shows e) q (fin.get (seen_by base stamped b) q) ≡ pass (shows e) q (fin.get (after_history (settled_below b stamped) base) q)

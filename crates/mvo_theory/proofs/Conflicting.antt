@@ -71,7 +71,7 @@ active_phase s r m = go (active_of r.id s.active) refl
     go None e = absurd (m (λ (q : ActiveTx). q.id ≡ r.id → active_of r.id s.active ≡ None → ⊥) (none_there s.active) refl e)
 
 -- ---- whom the refusal names
-named : (opening : Map) (steps : List Step) (s : State) (t : ℕ) (k : RowKey) (c : Cause) → claimed_by s t k ≡ Some c → IsKept opening steps s → IsNamed s.marks.opening steps t k c
+pub named : (opening : Map) (steps : List Step) (s : State) (t : ℕ) (k : RowKey) (c : Cause) → claimed_by s t k ≡ Some c → IsKept opening steps s → IsNamed s.marks.opening steps t k c
 named opening steps s t k c e h = elim (claimed_is s t k c e) [
   | inl a ↦ one_of (λ (r : ActiveTx). (r.id ≢ t) × (has_claim r.claims k (origin s t k) ≡ true) × (c ≡ Active (record { 0 = r.id }))) (IsNamed s.marks.opening steps t k c) s.active active a
   | inr b ↦ one_of (λ (x : StampedTx). (has_claim x.claims k (origin s t k) ≡ true) × (c ≡ Stamped (record { 0 = x.end }))) (IsNamed s.marks.opening steps t k c) s.stamped stamped b

@@ -18,7 +18,7 @@ use Rattle.mvo_theory.specs.Words.{words_without, words_left, is_done, words_now
 use Rattle.mvo_theory.specs.Changes.{new_active, after_begin, with_answer, after_operation, with_words, taken_over, without_id, to_stamped, after_prepare, with_check, after_check, with_settled, committed_tx, after_commit, with_flag, active_with_flag, not_at, aborted_tx, after_abort_of_active, after_abort_of_preparing, after_termination, after_finish, is_to, after_trim, after_close}
 use Rattle.mvo_theory.specs.Causes.{unsettled, unfinished, why_not_precommit, why_not_validate, why_not_settle, why_not_finish, awaited, end_of, is_failure}
 use Rattle.mvo_theory.specs.Steps.{after_precommit_of, after_precommit, after_validate_of, after_validate, after_commit_of, after_commit_now, after_settle_unless, after_settle, after_abort_of, after_abort, after_refusal, steps_of_refusal}
-use Rattle.mvo_theory.specs.Sound.{IsPlaced, IsRising, how_many}
+use Rattle.mvo_theory.specs.Sound.{IsActive, IsPlaced, IsRising, how_many}
 use Rattle.mvo_theory.specs.Calls.{Call, Result, why_not, takes_memory, IsRefusal, MayCome, answer_in, after_accepted, after_refused, after_call, steps_unless, steps_of_accepted, steps_of_refused, steps_of, IsKept}
 use Rattle.mvo_theory.specs.Calls.Call.{Begin, Do, Precommit, Validate, Settle, Rollback, Finish, Trim, Close}
 use Rattle.mvo_theory.specs.Calls.Result.{Accepted, Refused}
@@ -114,10 +114,12 @@ counted_prepared opening mark xs s t w k h =
     let e = s.clock + 1 in
     let is = id_of t s.active r found.1 in
     let mine = (active_holds (NoChecks xs) t s.active r found.1 h.active).0 in
+    let begun = (active_holds (IsActive s.base s.stamped s.clock) t s.active r found.1 k.sound.active).0.drawn in
+    let drawn : is_draw (Prepares t e) ≡ true = ap not (ne_eqb e t (λ q. absurd (omega (arith, begun, is, q)))) in
     let fewer : length (without_id r.id s.active) + 1 ≡ length s.active = subst (λ (u : ℕ). length (without_id u s.active) + 1 ≡ length s.active) (sym is) (without_one t s.active r found.1 k.numbered.distinct) in
     let more : unsettled (s.stamped ++ to_stamped e r ∷ []) ≡ unsettled s.stamped + unsettled (to_stamped e r ∷ []) = unsettled_append s.stamped (to_stamped e r ∷ []) in
     subst (HasCounts mark (xs ++ Prepares t e ∷ [])) (sym (ap (after_precommit_of s) found.1))
-    (counted_with mark xs (Prepares t e) s (after_prepare s r e) (λ u. refl) refl refl (omega (arith, fewer, more))
+    (counted_with mark xs (Prepares t e) s (after_prepare s r e) (λ u. refl) refl (ap (λ (b : Bool). s.clock + cond b 1 0) (sym drawn)) (omega (arith, fewer, more))
     (each_part (λ q. not (q.id == r.id)) (NoChecks xs) s.active h.active)
     (each_append (OpenChecks xs) s.stamped (to_stamped e r ∷ []) h.preparing (
       (λ _. record {

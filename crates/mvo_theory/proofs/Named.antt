@@ -25,7 +25,7 @@ use Rattle.mvo_theory.proofs.Stamped.{no_stamped}
 use Rattle.mvo_theory.proofs.Depends.{same_stamped}
 
 -- ---- Waiting names one that it depends on and that is Preparing
-waiting_in : (ds : List ℕ) (xs : List StampedTx) (y : StampedTx) → waiting_for ds xs ≡ Some y → IsIn y xs
+pub waiting_in : (ds : List ℕ) (xs : List StampedTx) (y : StampedTx) → waiting_for ds xs ≡ Some y → IsIn y xs
 waiting_in ds [] y e = absurd (no_stamped y e)
 waiting_in ds (x ∷ xs) y e = go (not x.settled && has_end ds x.end) e (λ g. waiting_in ds xs y g)
   where

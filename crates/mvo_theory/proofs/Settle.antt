@@ -77,7 +77,7 @@ left_settled e (x ∷ xs) ys m f g =
     one true = lt-ltb x.end e f.0
     one false = refl
 
-changes_not : (t : StampedTx) (e : Entry) → t.aborted_dependency ≡ None → LeavesAlone t e → changes e t ≡ false
+pub changes_not : (t : StampedTx) (e : Entry) → t.aborted_dependency ≡ None → LeavesAlone t e → changes e t ≡ false
 changes_not t (Key k) d h = ap is_some h
 changes_not t (Range a lo hi) d h = h d
 
@@ -102,7 +102,7 @@ alone_settled : (e : ℕ) (x : StampedTx) (d : Entry) → LeavesAlone x d → Le
 alone_settled e x (Key k) h = h
 alone_settled e x (Range t lo hi) h = h
 
-apart_settled : (e : ℕ) (x : StampedTx) (ts : History) → IsApart x ts → IsApart (with_settled e x) ts
+pub apart_settled : (e : ℕ) (x : StampedTx) (ts : History) → IsApart x ts → IsApart (with_settled e x) ts
 apart_settled e x ts h = each_weaker (λ o. LeavesAlone x (entry_of o.0)) (λ o. LeavesAlone (with_settled e x) (entry_of o.0)) (λ o. alone_settled e x (entry_of o.0)) ts h
 
 pub clear_settled : (e : ℕ) (ts : History) (stamped : List StampedTx) → IsRising stamped → AllByRecursion (λ u. u.end ≡ e → u.history ≡ ts) stamped → AllByRecursion (λ x. x.settled ≡ false → x.end < e → IsApart x ts) stamped → IsClear stamped → IsClear (map (with_settled e) stamped)

@@ -33,7 +33,7 @@ pairs-append (x ∷ xs) ys = ap (λ ts. cond x.settled ((x.end, x.id) ∷ ts) ts
     go true = refl
     go false = refl
 
-each_pair : (P : ℕ → Type 0) (xs : List StampedTx) → AllByRecursion (λ x. P x.end) xs → AllByRecursion (λ (c : ℕ × ℕ). P c.0) (pairs xs)
+pub each_pair : (P : ℕ → Type 0) (xs : List StampedTx) → AllByRecursion (λ x. P x.end) xs → AllByRecursion (λ (c : ℕ × ℕ). P c.0) (pairs xs)
 each_pair P [] h = tt
 each_pair P (x ∷ xs) h = go x.settled (each_pair P xs h.1)
   where
@@ -51,7 +51,7 @@ pairs_others e (x ∷ xs) h =
 below_pairs : (x : StampedTx) (xs : List StampedTx) → AllByRecursion (λ y. x.end < y.end) xs → AllByRecursion (λ (c : ℕ × ℕ). end_cmp (x.end, x.id) c ≡ Less) (pairs xs)
 below_pairs x xs h = each_pair (λ n. nat_cmp x.end n ≡ Less) xs (each_weaker (λ y. x.end < y.end) (λ y. nat_cmp x.end y.end ≡ Less) (λ y l. ap (λ (b : Bool). cond b Less (cond (x.end == y.end) Equal Greater)) (lt-ltb x.end y.end l)) xs h)
 
-pairs_rise : (xs : List StampedTx) → IsRising xs → IsStrictlySortedBy end_cmp (pairs xs)
+pub pairs_rise : (xs : List StampedTx) → IsRising xs → IsStrictlySortedBy end_cmp (pairs xs)
 unfolding IsStrictlySortedBy
 pairs_rise [] h = tt
 pairs_rise (x ∷ xs) h = go x.settled (pairs_rise xs h.1)
@@ -98,7 +98,7 @@ committed_between steps before after x r o h =
         (subst (IsPermutation (commits steps ++ d ∷ [])) (sym new)
         (push_between (commits steps) (pairs before) (pairs after) d (subst (IsPermutation (commits steps)) (h ∙ old) (in_order_same end_total (commits steps)))))
 
-history_settled : (steps : List Step) (xs : List StampedTx) → AllByRecursion (λ x. history_of x.id steps ≡ x.history) xs → map (λ (c : ℕ × ℕ). history_of c.1 steps) (pairs xs) ≡ tale xs
+pub history_settled : (steps : List Step) (xs : List StampedTx) → AllByRecursion (λ x. history_of x.id steps ≡ x.history) xs → map (λ (c : ℕ × ℕ). history_of c.1 steps) (pairs xs) ≡ tale xs
 history_settled steps [] h = refl
 history_settled steps (x ∷ xs) h = go x.settled (history_settled steps xs h.1)
   where

@@ -1,14 +1,15 @@
 -- How many timestamps were drawn, transactions are unfinished and checks passed, by the trace.
-use Rattle.std.specs.Prelude.{ℕ, ◌-◌, ◌==◌, nat_lt, nat_le, Bool, true, false, ◌&&◌, List, length}
+use Rattle.std.specs.Prelude.{ℕ, ◌-◌, ◌==◌, nat_lt, nat_le, Bool, true, false, not, ◌&&◌, List, length}
 use Rattle.mvo_model.specs.Trace.{Step, history_of}
 use Rattle.mvo_model.specs.Trace.Step.{Begins, Answers, Prepares, Checks, Commits, Aborts, Terminates}
 use Rattle.mvo_theory.specs.Entries.{entries}
 use Rattle.mvo_theory.specs.Sound.{how_many}
 
--- a begin and a precommit draw a timestamp each
+-- a begin draws a timestamp, and so does a precommit, unless the end is the begin: one that is
+-- read-only gets no other
 abbrev pub is_draw : Step → Bool
 is_draw (Begins t) = true
-is_draw (Prepares t e) = true
+is_draw (Prepares t e) = not (e == t)
 is_draw (Answers t op s) = false
 is_draw (Checks t) = false
 is_draw (Commits t e) = false

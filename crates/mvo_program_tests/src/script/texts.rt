@@ -11,7 +11,7 @@ use std::test::Fail;
 
 const GREATEST: u64 = 1 << 62;
 
-const REFUSALS: [(Refusal, &str); 31] = [
+const REFUSALS: [(Refusal, &str); 32] = [
     (Refusal::NoSuchTransaction, "refused 10"),
     (Refusal::Ended, "refused 11"),
     (Refusal::NotActive, "refused 12"),
@@ -48,6 +48,7 @@ const REFUSALS: [(Refusal, &str); 31] = [
     (Refusal::BadVersion, "refused 55"),
     (Refusal::NothingToDo, "refused 56"),
     (Refusal::AlreadyFormatted, "refused 57"),
+    (Refusal::ReadOnly, "refused 60"),
     (Refusal::OutOfMemory, "refused 90"),
 ];
 

@@ -116,7 +116,7 @@ start_later mark n k (d ∷ ds) le h =
     ∙ start_later d.1 n k ds le h.1
     ∙ ap (λ (b : Bool). cond b (start_behind d.1 ds n) mark) (sym (le-leb d.0 n h.0))
 
-start_then : (c : Course) (m : ℕ) (before after : List Step) (z : Step) → c.steps ≡ before ++ (z ∷ after) → start_behind c.mark (c.trims ++ (length c.steps, m) ∷ []) (length before) ≡ start_behind c.mark c.trims (length before)
+pub start_then : (c : Course) (m : ℕ) (before after : List Step) (z : Step) → c.steps ≡ before ++ (z ∷ after) → start_behind c.mark (c.trims ++ (length c.steps, m) ∷ []) (length before) ≡ start_behind c.mark c.trims (length before)
 start_then c m before after z e =
     let l = ap length e ∙ length-append before (z ∷ after) in
     start_kept c.mark (length c.steps) m (length before) c.trims (omega (arith, l))

@@ -37,7 +37,7 @@ use Rattle.mvo_theory.specs.rests.Laws.{TellsAborted, TellsRests, TellsSettling}
 use Rattle.mvo_theory.proofs.rests.Reached.{reached, in_timeline, its_id}
 
 -- ---- which causes name an aborted one
-abbrev names_aborted : Refusal → Bool
+abbrev pub names_aborted : Refusal → Bool
 names_aborted (DependencyAborted x) = true
 names_aborted r = false
 
@@ -75,7 +75,7 @@ none_stamped : (z : StampedTx) → ◌≡◌ {A = Option StampedTx} None (Some z
 none_stamped z q = cc
 
 -- what any other refusal tells
-other_tells : (c : Course) (t : ℕ) (r : Refusal) → names_aborted r ≡ false → RestsOnNoAborted c t → TellsAborted c t (Refused r)
+pub other_tells : (c : Course) (t : ℕ) (r : Refusal) → names_aborted r ≡ false → RestsOnNoAborted c t → TellsAborted c t (Refused r)
 other_tells c t NoSuchTransaction n h = tt
 other_tells c t Ended n h = tt
 other_tells c t NotActive n h = tt
@@ -100,7 +100,7 @@ module _ (c : Course) (s : State) (k : IsKept c.rows c.steps s) (h : KnowsRests 
   Tells t r = TellsAborted c t (Refused r)
 
   -- ---- what the state knows of one that is Active, and of one that is Preparing
-  active_known : (t : ℕ) (r : ActiveTx) → active_of t s.active ≡ Some r → KnowsOne c t r.depends_on r.aborted_dependency
+  pub active_known : (t : ℕ) (r : ActiveTx) → active_of t s.active ≡ Some r → KnowsOne c t r.depends_on r.aborted_dependency
   active_known t r f = let q = active_holds (λ (v : ActiveTx). KnowsOne c v.id v.depends_on v.aborted_dependency) t s.active r f h.active in subst (λ (i : ℕ). KnowsOne c i r.depends_on r.aborted_dependency) q.1 q.0
 
   open_known : (t : ℕ) (x : StampedTx) → preparing_of t s.stamped ≡ Some x → KnowsOne c t x.depends_on x.aborted_dependency
@@ -224,28 +224,20 @@ module _ (c : Course) (s : State) (k : IsKept c.rows c.steps s) (h : KnowsRests 
   open_there : (x e : ℕ) → phase_of x c.steps ≡ Preparing e → (y : StampedTx) × (preparing_of x s.stamped ≡ Some y) × (y.end ≡ e)
   open_there x e p = preparing_there (active_of x s.active) (preparing_of x s.stamped) (ended_of x s.ended) e (sym (k.after_trace.phases x) ∙ p)
 
-  pub told_settling : (t : ℕ) → MayCome s (Settle t) Accepted → TellsSettling c t (awaited s t)
-  told_settling t m = subst (TellsSettling c t) (sym (ap (awaited_by s.stamped) found.1)) (go (waiting_for found.0.depends_on s.stamped) refl)
+  -- whom one waits for, of those with these ends, on whom it rests
+  pub told_waiting : (t : ℕ) (ds : List ℕ) (f : Option ℕ) → KnowsOne c t ds f → RestsOnNoAborted c t → TellsSettling c t (waiting_for ds s.stamped)
+  told_waiting t ds f known none = go (waiting_for ds s.stamped) refl
     where
-      found : (x : StampedTx) × (preparing_of t s.stamped ≡ Some x)
-      found = preparing_settled s t m.0
-
-      known : KnowsOne c t found.0.depends_on found.0.aborted_dependency
-      known = open_known t found.0 found.1
-
-      none : RestsOnNoAborted c t
-      none = (all_free (Settle t) m.0).0
-
-      go : (v : Option StampedTx) → waiting_for found.0.depends_on s.stamped ≡ v → TellsSettling c t v
+      go : (v : Option StampedTx) → waiting_for ds s.stamped ≡ v → TellsSettling c t v
       go None w = λ x e a.
           let y = open_there x e a.preparing in
           let open' = (split_at x s.stamped y.0 y.1).4 in
-          let free = (found_in x s.stamped y.0 y.1).0 (λ v. v.settled ≡ false → has_end found.0.depends_on v.end ≡ false) (waiting_none found.0.depends_on s.stamped w) open' in
-          true≢false (sym (subst (λ (n : ℕ). has_end found.0.depends_on n ≡ true) (sym y.2) (known.all x e a.rests)) ∙ free)
+          let free = (found_in x s.stamped y.0 y.1).0 (λ v. v.settled ≡ false → has_end ds v.end ≡ false) (waiting_none ds s.stamped w) open' in
+          true≢false (sym (subst (λ (n : ℕ). has_end ds n ≡ true) (sym y.2) (known.all x e a.rests)) ∙ free)
       go (Some y) w =
-          let is = waiting_is found.0.depends_on s.stamped y w in
+          let is = waiting_is ds s.stamped y w in
           let r = known.only y.end is.1 in
-          let among : IsIn y s.stamped = waiting_in found.0.depends_on s.stamped y w in
+          let among : IsIn y s.stamped = waiting_in ds s.stamped y w in
           let same = its_id c.rows c.steps s y r.0 k (in_timeline s y among) (reached c s t r.0 y.end k r.1 (none r.0 y.end r.1)) in
           record {
             end' = y.end;
@@ -254,5 +246,11 @@ module _ (c : Course) (s : State) (k : IsKept c.rows c.steps s) (h : KnowsRests 
                 let v = open_there z e a.preparing in
                 let open' = (split_at z s.stamped v.0 v.1).4 in
                 subst (λ (n : ℕ). y.end ≤ n) v.2
-                ((found_in z s.stamped v.0 v.1).0 (λ q. q.settled ≡ false → has_end found.0.depends_on q.end ≡ true → y.end ≤ q.end) (waiting_least found.0.depends_on s.stamped y k.sound.rising w) open' (subst (λ (n : ℕ). has_end found.0.depends_on n ≡ true) (sym v.2) (known.all z e a.rests)));
+                ((found_in z s.stamped v.0 v.1).0 (λ q. q.settled ≡ false → has_end ds q.end ≡ true → y.end ≤ q.end) (waiting_least ds s.stamped y k.sound.rising w) open' (subst (λ (n : ℕ). has_end ds n ≡ true) (sym v.2) (known.all z e a.rests)));
           }
+
+  pub told_settling : (t : ℕ) → MayCome s (Settle t) Accepted → TellsSettling c t (awaited s t)
+  told_settling t m =
+      let found : (x : StampedTx) × (preparing_of t s.stamped ≡ Some x) = preparing_settled s t m.0 in
+      subst (TellsSettling c t) (sym (ap (awaited_by s.stamped) found.1))
+      (told_waiting t found.0.depends_on found.0.aborted_dependency (open_known t found.0 found.1) (all_free (Settle t) m.0).0)
