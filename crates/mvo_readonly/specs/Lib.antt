@@ -1,0 +1,11 @@
+pub mod ReadAt
+pub mod Whole
+pub mod WholeCauses
+pub mod WholeCalls
+pub mod WholeKept
+pub mod WholeTale
+pub mod BothTraces
+pub mod WholeCounts
+pub mod WholeJustified
+pub mod Laws
+pub mod rests

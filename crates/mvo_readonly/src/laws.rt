@@ -1,0 +1,30 @@
+ghost use Rattle.mvo_readonly.specs.Laws.{RepliesAreSerial, ReadsAtBegin, MarkedRowsAreOthers, WholeTaleIsLegal, TaleLeavesRows, GroupsAreOthers, TrimIsLookedUp, OpensWhole, EachCallKeepsWhole, WholePhasesAreTraced, CoreGoesByRun};
+
+/// The laws of replies with read-only transactions. The replies of all are serial, a read-only one
+/// standing at its begin; it is told what one map shows there; and the rows up to a mark are those
+/// that the others leave. The call does nothing.
+pub fn laws_of_read_only_replies()
+    ensures serial { RepliesAreSerial }
+    ensures reads { ReadsAtBegin }
+    ensures marked { MarkedRowsAreOthers }
+{}
+
+/// The laws of the stored commits with read-only ones. They are legal from the start of the tale,
+/// leave the rows that the others leave, and give groups nothing; and a trim is refused for a
+/// read-only transaction just where it would go up to its begin. The call does nothing.
+pub fn laws_of_read_only_tale()
+    ensures legal { WholeTaleIsLegal }
+    ensures leaves { TaleLeavesRows }
+    ensures groups { GroupsAreOthers }
+    ensures trims { TrimIsLookedUp }
+{}
+
+/// The laws of the calls of a state with its read-only transactions. Each keeps the state as its
+/// whole trace says; and the core of the others goes by calls of its own, so that what is known of
+/// a core without read-only transactions is known of it. The call does nothing.
+pub fn laws_of_read_only_calls()
+    ensures opens { OpensWhole }
+    ensures keeps { EachCallKeepsWhole }
+    ensures phases { WholePhasesAreTraced }
+    ensures core { CoreGoesByRun }
+{}
