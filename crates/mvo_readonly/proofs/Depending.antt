@@ -181,7 +181,7 @@ longer opening ws us before t op a h = record {
   looks = h.looks;
 }
 
-remembered_more : (opening : Map) (ws xs us vs : List Step) (w : WholeState) → Adds us vs → IsWholeKept opening ws xs w → IsRemembered opening ws xs → IsRemembered opening (ws ++ us) (xs ++ vs)
+pub remembered_more : (opening : Map) (ws xs us vs : List Step) (w : WholeState) → Adds us vs → IsWholeKept opening ws xs w → IsRemembered opening ws xs → IsRemembered opening (ws ++ us) (xs ++ vs)
 remembered_more opening ws xs us vs w d h m = record {
   looks = λ p q. any_both (puts_row p q) ws us ∙ ap (λ (b : Bool). b || list_any (puts_row p q) us) (m.looks p q) ∙ ap (λ (b : Bool). list_any (puts_row p q) xs || b) (same p q d) ∙ sym (any_both (puts_row p q) xs vs);
   at = λ before after t op a e. found before after t op a d (splits xs vs before after (Answers t op a) e);

@@ -327,7 +327,7 @@ module _ (opening : Map) (ws xs : List Step) (w : WholeState) (h : IsWholeKept o
   other_refused : (c : Call) (r : Refusal) → stage_named w.readers (id_named c) ≡ None → MayCome w.core c (Refused r) → IsJustRefusal opening mark xs c r → IsJustRefusal opening mark ws c r
   other_refused c r o k f = refusal_whole c r o (λ t i j. not_settled t r (subst (λ (d : Call). MayCome w.core d (Refused r)) i k) j) f
 
-  other_justified : (c : Call) (r : Result) → stage_named w.readers (id_named c) ≡ None → MayComeAtStage w c None r → IsJustified opening mark ws c r
+  pub other_justified : (c : Call) (r : Result) → stage_named w.readers (id_named c) ≡ None → MayComeAtStage w c None r → IsJustified opening mark ws c r
   other_justified (Trim j) r o k = tt
   other_justified (Close fits j full) r o k = tt
   other_justified Begin Accepted o k = free Begin o (justified opening mark xs w.core Begin Accepted h.kept n.core (may_come w Begin Accepted (λ j i. absurd cc) k))
@@ -345,7 +345,7 @@ module _ (opening : Map) (ws xs : List Step) (w : WholeState) (h : IsWholeKept o
   other_justified (Rollback t) (Refused r) o k = let l = may_come w (Rollback t) (Refused r) (λ j i. absurd cc) k in other_refused (Rollback t) r o l (justified opening mark xs w.core (Rollback t) (Refused r) h.kept n.core l)
   other_justified (Finish t) (Refused r) o k = let l = may_come w (Finish t) (Refused r) (λ j i. absurd cc) k in other_refused (Finish t) r o l (justified opening mark xs w.core (Finish t) (Refused r) h.kept n.core l)
 
-  begin_justified : (r : Result) → MayCome w.core Begin r → IsJustified opening mark ws Begin r
+  pub begin_justified : (r : Result) → MayCome w.core Begin r → IsJustified opening mark ws Begin r
   begin_justified Accepted k = free Begin refl (justified opening mark xs w.core Begin Accepted h.kept n.core k)
   begin_justified (Refused r) k = other_refused Begin r refl k (justified opening mark xs w.core Begin (Refused r) h.kept n.core k)
 

@@ -1,4 +1,5 @@
 ghost use Rattle.mvo_readonly.specs.Laws.{RepliesAreSerial, ReadsAtBegin, MarkedRowsAreOthers, WholeTaleIsLegal, TaleLeavesRows, GroupsAreOthers, TrimIsLookedUp, OpensWhole, EachCallKeepsWhole, WholePhasesAreTraced, CoreGoesByRun};
+ghost use Rattle.mvo_readonly.specs.rests.Laws.{WholeTraceJustifies, SnapshotsAreWhole, EachWholeCallTells, EachWholeSettlingTells, OpensFollowed, EachWholeCallFollows};
 
 /// The laws of replies with read-only transactions. The replies of all are serial, a read-only one
 /// standing at its begin; it is told what one map shows there; and the rows up to a mark are those
@@ -27,4 +28,24 @@ pub fn laws_of_read_only_calls()
     ensures keeps { EachCallKeepsWhole }
     ensures phases { WholePhasesAreTraced }
     ensures core { CoreGoesByRun }
+{}
+
+/// The laws of the whole trace. A state with its read-only transactions is followed by two courses,
+/// the whole one and the core's own, from its opening on and over each call; what a call comes to
+/// is justified by the whole trace, and what an Active transaction sees is read off it. The call
+/// does nothing.
+pub fn laws_of_read_only_trace()
+    ensures opens { OpensFollowed }
+    ensures keeps { EachWholeCallFollows }
+    ensures justified { WholeTraceJustifies }
+    ensures snapshots { SnapshotsAreWhole }
+{}
+
+/// The laws of resting, by the whole course: of read-only transactions, and of the others beside
+/// them. DependencyAborted is answered exactly where one on whom the transaction rests was aborted,
+/// and names the first; settling waits exactly while one of them is Preparing, for the one with the
+/// least end. The call does nothing.
+pub fn laws_of_read_only_rests()
+    ensures tells { EachWholeCallTells }
+    ensures settles { EachWholeSettlingTells }
 {}
