@@ -1,5 +1,5 @@
 -- Whom the whole trace names as the first writer, the core's own names too: each prefix of the whole trace that an answer follows has its prefix of the core's own.
-use Rattle.std.proofs.Common.{◌≡◌, ◌≢◌, ℕ, ◌<◌, Bool, true, false, cond, ◌||◌, ◌⊎◌, inl, inr, List, [], ◌∷◌, ◌++◌, Option, None, Some, refl, sym, ap, ◌∙◌, subst, append_assoc}
+use Rattle.std.proofs.Common.{◌≡◌, ℕ, ◌<◌, Bool, true, ◌||◌, ◌⊎◌, inl, inr, List, [], ◌∷◌, ◌++◌, Option, None, Some, refl, sym, ap, ◌∙◌, subst, append_assoc}
 use Rattle.std.specs.Prelude.{◌==◌, ◌&&◌, is_some}
 use Rattle.std.specs.FinMap as fin
 use Rattle.std.specs.List.{AllByRecursion, list_any}
@@ -15,14 +15,13 @@ use Rattle.mvo_model.specs.Trace.{Step, committed, history_of, phase_of}
 use Rattle.mvo_model.specs.Trace.Step.{Answers}
 use Rattle.mvo_model.specs.Trace.Phase.{Active as IsActive, Preparing as IsPreparing}
 use Rattle.mvo_theory.specs.State.{Claim}
-use Rattle.mvo_theory.specs.Snapshots.{snapshot_of}
 use Rattle.mvo_theory.specs.Claimed.{IsWrittenAt, IsOrigin, IsClaimed}
 use Rattle.mvo_theory.specs.Conflicts.{IsFirstWriter, IsNamed, IsInTheWay}
 use Rattle.mvo_theory.specs.Calls.{trace_of}
 use Rattle.mvo_theory.proofs.Each.{each_weaker}
 use Rattle.mvo_theory.proofs.Footprints.{or_left, or_right}
 use Rattle.mvo_readonly.specs.ReadAt.{WritesNothing}
-use Rattle.mvo_readonly.specs.Whole.{ReaderStage, WholeState, opened_whole, stage_of}
+use Rattle.mvo_readonly.specs.Whole.{ReaderStage, WholeState, stage_of}
 use Rattle.mvo_readonly.specs.WholeCalls.{own_trace, steps_of_whole_call, core_calls, after_whole_call, WholeRun, MayRunWhole, whole_trace}
 use Rattle.mvo_readonly.specs.WholeKept.{IsWholeKept}
 use Rattle.mvo_readonly.specs.BothTraces.{IsMatched, AreGiven, HasOwnPlace, IsRecalled}

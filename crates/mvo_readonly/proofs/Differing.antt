@@ -1,18 +1,17 @@
 -- Whom the whole trace names as one that has changed an entry, the core's own names too.
-use Rattle.std.proofs.Common.{◌≡◌, ℕ, ◌<◌, Bool, true, false, cond, ◌||◌, ◌⊎◌, inl, inr, List, [], ◌∷◌, ◌++◌, Option, None, Some, refl, sym, ap, ◌∙◌, subst, append_assoc}
+use Rattle.std.proofs.Common.{◌≡◌, ℕ, Bool, true, false, cond, ◌||◌, inl, inr, List, [], ◌∷◌, ◌++◌, Option, None, Some, refl, sym, ap, ◌∙◌, subst}
 use Rattle.std.specs.Prelude.{◌==◌, ◌&&◌, is_some}
 use Rattle.std.specs.List.{AllByRecursion, list_any}
-use Rattle.std.proofs.lemmas.Bool.{false≢true, true≢false, eqb-true, and_parts}
+use Rattle.std.proofs.lemmas.Bool.{false≢true, eqb-true, and_parts}
 use Rattle.mvo_types.specs.Keys.{Map}
-use Rattle.mvo_model.specs.History.{History, write_of, net_write}
-use Rattle.mvo_model.specs.Order.{in_order}
-use Rattle.mvo_model.specs.Trace.{Step, committed, end_cmp, history_of, history_by, phase_of}
+use Rattle.mvo_model.specs.History.{write_of, net_write}
+use Rattle.mvo_model.specs.Trace.{Step, committed, history_of, history_by, phase_of}
 use Rattle.mvo_model.specs.Trace.Step.{Begins, Answers, Prepares, Checks, Commits, Aborts, Terminates}
 use Rattle.mvo_model.specs.Trace.Phase.{Preparing as IsPreparing}
 use Rattle.mvo_types.specs.declared.entry.Entry.{Entry}
 use Rattle.mvo_types.specs.declared.entry.Entry.TheVariants.{Key, Range}
-use Rattle.mvo_theory.specs.Ranges.{Row, shows, changed_by}
-use Rattle.mvo_theory.specs.Snapshots.{snapshot_of, changed_in, footprint_since, footprint_in}
+use Rattle.mvo_theory.specs.Ranges.{shows, changed_by}
+use Rattle.mvo_theory.specs.Snapshots.{snapshot_of, changed_in, footprint_since}
 use Rattle.mvo_theory.specs.AfterTrace.{pairs}
 use Rattle.mvo_theory.specs.State.{timeline}
 use Rattle.mvo_theory.specs.Differences.{HasChanged, DiffersBy}

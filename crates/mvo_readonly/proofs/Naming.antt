@@ -1,5 +1,5 @@
 -- Whom each cause names, read off the whole trace.
-use Rattle.std.proofs.Common.{◌≡◌, ℕ, Bool, true, false, cond, ◌⊎◌, inl, inr, List, [], ◌∷◌, ◌++◌, Option, None, Some, refl, sym, ap, ◌∙◌, subst}
+use Rattle.std.proofs.Common.{◌≡◌, ℕ, Bool, true, false, cond, inl, inr, List, [], ◌∷◌, ◌++◌, Option, None, Some, refl, sym, ap, ◌∙◌, subst}
 use Rattle.std.specs.Prelude.{◌==◌, ◌&&◌, not, is_some}
 use Rattle.std.specs.List.{list_any}
 use Rattle.std.proofs.lemmas.Bool.{eq-eqb}
@@ -13,7 +13,7 @@ use Rattle.mvo_types.specs.Write.{Write}
 use Rattle.mvo_types.specs.AnswerData.{AnswerData}
 use Rattle.mvo_types.specs.AnswerData.AnswerData.{Updated, Deleted}
 use Rattle.mvo_model.specs.History.{net_write, write_of}
-use Rattle.mvo_model.specs.Trace.{Step, committed, history_of, phase_of}
+use Rattle.mvo_model.specs.Trace.{Step, history_of, phase_of}
 use Rattle.mvo_model.specs.Trace.Step.{Answers}
 use Rattle.mvo_model.specs.Trace.Phase.{Active as IsActive, Preparing as IsPreparing}
 use Rattle.mvo_types.specs.declared.entry.Entry.{Entry}

@@ -10,7 +10,7 @@ use Rattle.mvo_types.specs.Keys.{Map}
 use Rattle.mvo_model.specs.Trace.{Step, history_of}
 use Rattle.mvo_theory.specs.State.{State}
 use Rattle.mvo_theory.specs.Snapshots.{is_aborted}
-use Rattle.mvo_theory.specs.Causes.{is_trim, why_not_trim}
+use Rattle.mvo_theory.specs.Causes.{is_trim}
 use Rattle.mvo_theory.specs.Calls.{Call, Result, Run, why_not, MayCome, after_call, after_run, steps_of, trace_of, IsKept}
 use Rattle.mvo_theory.specs.Calls.Call.{Begin, Do, Precommit, Validate, Settle, Rollback, Finish, Trim, Close}
 use Rattle.mvo_theory.specs.Calls.Result.{Accepted, Refused}

@@ -17,7 +17,7 @@ use Rattle.mvo_theory.specs.Calls.Call.{Begin, Do, Precommit, Validate}
 use Rattle.mvo_theory.specs.Calls.Result.{Accepted, Refused}
 use Rattle.mvo_theory.proofs.Causes.{waiting_is, waiting_least}
 use Rattle.mvo_readonly.specs.Whole.{WholeState, stage_named, id_named}
-use Rattle.mvo_readonly.specs.WholeCauses.{WholeCall, flag_of_reader, why_not_reader, why_not_at_stage, MayComeAtStage, MayComeWhole, depends_of_active, awaited_by_reader}
+use Rattle.mvo_readonly.specs.WholeCauses.{WholeCall, flag_of_reader, why_not_reader, why_not_at_stage, MayComeAtStage, MayComeWhole, depends_of_active, awaited_by_reader, IsWholeCallInOrder}
 use Rattle.mvo_readonly.specs.Whole.ReaderStage.{Reading, Preparing}
 use Rattle.mvo_readonly.specs.WholeCauses.WholeCall.{CoreCall, BeginReadOnly}
 use Rattle.mvo_readonly.specs.WholeKept.{IsWholeKept}
@@ -51,10 +51,6 @@ waits_for_least opening ws xs w t y h e =
     (is.0, is.1, waiting_least ds w.core.stamped y h.kept.sound.rising e)
 
 -- ---- each call comes to something
-abbrev IsWholeCallInOrder : WholeState → WholeCall → Type 0
-IsWholeCallInOrder w BeginReadOnly = ⊤
-IsWholeCallInOrder w (CoreCall c) = IsCallInOrder w.core c
-
 pub some_result : (w : WholeState) (a : WholeCall) → IsWholeCallInOrder w a → (r : Result) × MayComeWhole w a r
 some_result w BeginReadOnly o = go (why_not w.core Begin) refl
   where

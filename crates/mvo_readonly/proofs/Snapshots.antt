@@ -318,7 +318,7 @@ pub given_opened : (rows : Map) (mark : ℕ) → AreGiven rows [] [] (opened_who
 given_opened rows mark = record { order = refl; each = tt; aborts = λ u e. e; prints = λ u. refl }
 
 -- FOOTPRINTS of the whole trace
-prints_whole : (opening : Map) (ws xs : List Step) (w : WholeState) → IsWholeKept opening ws xs w → AreGiven opening ws xs w → HasFootprints opening ws w.core
+pub prints_whole : (opening : Map) (ws xs : List Step) (w : WholeState) → IsWholeKept opening ws xs w → AreGiven opening ws xs w → HasFootprints opening ws w.core
 prints_whole opening ws xs w h g = record {
   active = each_weaker (λ r. footprint_in opening xs r.id ≡ r.footprint) (λ r. footprint_in opening ws r.id ≡ r.footprint) (λ r e. g.prints r.id ∙ e) w.core.active h.kept.prints.active;
   stamped = each_weaker (λ x. footprint_in opening xs x.id ≡ x.footprint) (λ x. footprint_in opening ws x.id ≡ x.footprint) (λ x e. g.prints x.id ∙ e) w.core.stamped h.kept.prints.stamped;

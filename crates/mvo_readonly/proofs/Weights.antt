@@ -18,13 +18,9 @@ use Rattle.mvo_theory.proofs.Each.{each_weaker}
 use Rattle.mvo_theory.proofs.Tales.{each_pair}
 use Rattle.mvo_readonly.specs.Whole.{CommittedReader, WholeState}
 use Rattle.mvo_readonly.specs.WholeKept.{IsWholeKept, reader_commits}
-use Rattle.mvo_readonly.specs.WholeTale.{stored_readers, whole_tale, told_in}
+use Rattle.mvo_readonly.specs.WholeTale.{stored_readers, whole_tale, told_in, weight_above}
 use Rattle.mvo_readonly.proofs.Ordered.{Pairs, below, rows_of, rows_many}
 use Rattle.mvo_readonly.proofs.Serials.{rows_before, told_here, committed_told, idle_pairs, rise, order_is}
-
--- a weight of the commits that end above the start
-abbrev pub above : ℕ → (ℕ × ℕ → ℕ) → ℕ × ℕ → ℕ
-above start h c = cond (nat_lt start c.0) (h c) 0
 
 sum_cons : (h : ℕ × ℕ → ℕ) (c : ℕ × ℕ) (cs : Pairs) → sum_by h (c ∷ cs) ≡ h c + sum_by h cs
 sum_cons h c cs = let r = sum_by-append h (c ∷ []) cs in omega arith
@@ -32,35 +28,35 @@ sum_cons h c cs = let r = sum_by-append h (c ∷ []) cs in omega arith
 zero_plus : (n : ℕ) → 0 + n ≡ n
 zero_plus n = omega arith
 
-none_above : (start : ℕ) (h : ℕ × ℕ → ℕ) (cs : Pairs) → AllByRecursion (λ c. c.0 ≤ start) cs → sum_by (above start h) cs ≡ 0
+none_above : (start : ℕ) (h : ℕ × ℕ → ℕ) (cs : Pairs) → AllByRecursion (λ c. c.0 ≤ start) cs → sum_by (weight_above start h) cs ≡ 0
 none_above start h [] a = refl
 none_above start h (c ∷ cs) a =
-    sum_cons (above start h) c cs
-    ∙ ap (λ (b : Bool). cond b (h c) 0 + sum_by (above start h) cs) (le-ltb start c.0 a.0)
-    ∙ zero_plus (sum_by (above start h) cs)
+    sum_cons (weight_above start h) c cs
+    ∙ ap (λ (b : Bool). cond b (h c) 0 + sum_by (weight_above start h) cs) (le-ltb start c.0 a.0)
+    ∙ zero_plus (sum_by (weight_above start h) cs)
     ∙ none_above start h cs a.1
 
-all_above : (start : ℕ) (h : ℕ × ℕ → ℕ) (cs : Pairs) → AllByRecursion (λ c. start < c.0) cs → sum_by (above start h) cs ≡ sum_by h cs
+all_above : (start : ℕ) (h : ℕ × ℕ → ℕ) (cs : Pairs) → AllByRecursion (λ c. start < c.0) cs → sum_by (weight_above start h) cs ≡ sum_by h cs
 all_above start h [] a = refl
 all_above start h (c ∷ cs) a =
-    sum_cons (above start h) c cs
-    ∙ ap (λ (b : Bool). cond b (h c) 0 + sum_by (above start h) cs) (lt-ltb start c.0 a.0)
+    sum_cons (weight_above start h) c cs
+    ∙ ap (λ (b : Bool). cond b (h c) 0 + sum_by (weight_above start h) cs) (lt-ltb start c.0 a.0)
     ∙ ap (λ (n : ℕ). h c + n) (all_above start h cs a.1)
     ∙ sym (sum_cons h c cs)
 
-stored_sum : (start : ℕ) (h : ℕ × ℕ → ℕ) (ys : List CommittedReader) → sum_by (above start h) (reader_commits ys) ≡ sum_by h (reader_commits (stored_readers start ys))
+stored_sum : (start : ℕ) (h : ℕ × ℕ → ℕ) (ys : List CommittedReader) → sum_by (weight_above start h) (reader_commits ys) ≡ sum_by h (reader_commits (stored_readers start ys))
 stored_sum start h [] = refl
-stored_sum start h (y ∷ ys) = sum_cons (above start h) (y.id, y.id) (reader_commits ys) ∙ go (nat_lt start y.id) (stored_sum start h ys)
+stored_sum start h (y ∷ ys) = sum_cons (weight_above start h) (y.id, y.id) (reader_commits ys) ∙ go (nat_lt start y.id) (stored_sum start h ys)
   where
-    go : (b : Bool) → sum_by (above start h) (reader_commits ys) ≡ sum_by h (reader_commits (stored_readers start ys)) → cond b (h (y.id, y.id)) 0 + sum_by (above start h) (reader_commits ys) ≡ sum_by h (reader_commits (cond b (y ∷ stored_readers start ys) (stored_readers start ys)))
+    go : (b : Bool) → sum_by (weight_above start h) (reader_commits ys) ≡ sum_by h (reader_commits (stored_readers start ys)) → cond b (h (y.id, y.id)) 0 + sum_by (weight_above start h) (reader_commits ys) ≡ sum_by h (reader_commits (cond b (y ∷ stored_readers start ys) (stored_readers start ys)))
     go true e = ap (λ (n : ℕ). h (y.id, y.id) + n) e ∙ sym (sum_cons h (y.id, y.id) (reader_commits (stored_readers start ys)))
-    go false e = zero_plus (sum_by (above start h) (reader_commits ys)) ∙ e
+    go false e = zero_plus (sum_by (weight_above start h) (reader_commits ys)) ∙ e
 
 -- whatever is weighed
-pub tale_weighs : (opening : Map) (ws xs : List Step) (w : WholeState) (h : ℕ × ℕ → ℕ) → IsWholeKept opening ws xs w → sum_by h (whole_tale w) ≡ sum_by (above w.core.start h) (commits ws)
+pub tale_weighs : (opening : Map) (ws xs : List Step) (w : WholeState) (h : ℕ × ℕ → ℕ) → IsWholeKept opening ws xs w → sum_by h (whole_tale w) ≡ sum_by (weight_above w.core.start h) (commits ws)
 tale_weighs opening ws xs w h k =
     let start = w.core.start in
-    let f = above start h in
+    let f = weight_above start h in
     let old = reader_commits (stored_readers start w.committed_readers) in
     let line = pairs w.core.stamped in
     let past = pairs w.core.past in

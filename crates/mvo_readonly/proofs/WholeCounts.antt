@@ -1,8 +1,8 @@
 -- What the whole trace counts is what the core's own does, but for the checks of the read-only ones.
-use Rattle.std.proofs.Common.{◌≡◌, ◌≢◌, ℕ, ◌+◌, ◌<◌, ◌≤◌, Bool, true, false, cond, not, ◌||◌, ◌⊎◌, inl, inr, List, [], ◌∷◌, ◌++◌, Option, None, Some, length, refl, sym, ap, ◌∙◌, subst, arith, append_assoc}
+use Rattle.std.proofs.Common.{◌≡◌, ◌≢◌, ℕ, ◌+◌, ◌<◌, Bool, true, false, cond, not, ◌||◌, ◌⊎◌, inl, inr, List, [], ◌∷◌, ◌++◌, Option, None, Some, length, refl, sym, ap, ◌∙◌, subst, arith, append_assoc}
 use Rattle.std.specs.Prelude.{◌==◌, ◌&&◌, nat_lt, nat_le}
 use Rattle.std.specs.List.{AllByRecursion}
-use Rattle.std.proofs.lemmas.Bool.{true≢false, false≢true, ne_eqb, eq-eqb, eqb-true, and_parts, and_from, lt-ltb, leb-true, le-leb, cases_eq}
+use Rattle.std.proofs.lemmas.Bool.{true≢false, ne_eqb, eq-eqb, and_parts, lt-ltb, leb-true, le-leb, cases_eq}
 use Rattle.mvo_types.specs.declared.op.Op.{Op}
 use Rattle.mvo_types.specs.declared.refusal.Refusal.{Refusal}
 use Rattle.mvo_types.specs.declared.refusal.Refusal.TheVariants.{NoSuchTransaction, Ended, NotActive, NotPreparing, NotEnded}
@@ -12,18 +12,18 @@ use Rattle.mvo_model.specs.Trace.{Step, Phase, owner_of, phase_after, phase_from
 use Rattle.mvo_model.specs.Trace.Step.{Begins, Answers, Prepares, Checks, Commits, Aborts, Terminates}
 use Rattle.mvo_model.specs.Trace.Phase.{Absent, Active as IsActive, Aborted as IsAborted}
 use Rattle.mvo_theory.specs.Entries.{entries}
-use Rattle.mvo_theory.specs.State.{State, StampedTx, ActiveTx, active_of, history_of_active}
+use Rattle.mvo_theory.specs.State.{State, StampedTx, history_of_active}
 use Rattle.mvo_theory.specs.Phases.{phase_in, is_absent, is_active, is_preparing}
-use Rattle.mvo_theory.specs.Causes.{awaited, end_of, is_failure, why_not_finish}
+use Rattle.mvo_theory.specs.Causes.{is_failure, why_not_finish}
 use Rattle.mvo_theory.specs.Snapshots.{is_aborted}
 use Rattle.mvo_theory.specs.Sound.{how_many}
 use Rattle.mvo_theory.specs.Traced.{is_abort_of}
 use Rattle.mvo_theory.specs.Words.{is_done}
 use Rattle.mvo_theory.specs.Steps.{steps_of_refusal}
-use Rattle.mvo_theory.specs.Calls.{Call, Result, Run, MayCome, MayRun, after_call, after_run, answer_in, steps_of, trace_of, IsKept}
+use Rattle.mvo_theory.specs.Calls.{Call, Result, Run, MayRun, after_call, after_run, answer_in, steps_of, trace_of, IsKept}
 use Rattle.mvo_theory.specs.Calls.Call.{Begin, Do, Precommit, Validate, Settle, Rollback, Finish, Trim, Close}
 use Rattle.mvo_theory.specs.Calls.Result.{Accepted, Refused}
-use Rattle.mvo_theory.specs.Counts.{is_draw, draws, is_begin, is_finish, is_check_of, checks_in, is_validated}
+use Rattle.mvo_theory.specs.Counts.{is_draw, is_begin, is_finish, is_check_of, checks_in, is_validated}
 use Rattle.mvo_theory.specs.Counted.{HasCounts}
 use Rattle.mvo_theory.proofs.Each.{each_weaker, each_append}
 use Rattle.mvo_theory.proofs.Footprints.{or_left, or_right}
@@ -32,12 +32,12 @@ use Rattle.mvo_theory.proofs.Conflicting.{told_so}
 use Rattle.mvo_theory.proofs.Runs.{kept_after_call}
 use Rattle.mvo_readonly.specs.Whole.{ReaderStage, UnfinishedReader, WholeState, opened_whole, stage_of, phase_at_stage, id_named, stage_named}
 use Rattle.mvo_readonly.specs.Whole.ReaderStage.{Reading, Preparing, Committed, Aborted}
-use Rattle.mvo_readonly.specs.WholeCauses.{WholeCall, flag_of_reader, why_not_reader, MayComeAtStage, MayComeWhole, awaited_by_reader}
+use Rattle.mvo_readonly.specs.WholeCauses.{WholeCall, why_not_reader, MayComeAtStage, MayComeWhole, awaited_by_reader}
 use Rattle.mvo_readonly.specs.WholeCauses.WholeCall.{CoreCall, BeginReadOnly}
 use Rattle.mvo_readonly.specs.WholeCalls.{rolled_back, unless_awaited, core_failed, core_reader, core_other, core_at_stage, core_calls, with_stage, without_reader, checked_more, settled_unless, readers_failed, readers_reader, readers_at_stage, readers_after, after_whole_call, commits_unless, reader_steps, steps_at_stage, steps_of_whole_call}
-use Rattle.mvo_readonly.specs.WholeKept.{core_phase, IsUnfinishedReader, IsWholeKept}
+use Rattle.mvo_readonly.specs.WholeKept.{IsUnfinishedReader, IsWholeKept}
 use Rattle.mvo_readonly.specs.WholeCounts.{HasReaderChecks, HasStageChecks, HasWholeCounts}
-use Rattle.mvo_readonly.proofs.Traces.{append-none, aborted_still, AreOthers, history_both, history_from_others, history_quiet, steps_of_others}
+use Rattle.mvo_readonly.proofs.Traces.{append-none, aborted_still, AreOthers, history_from_others, history_quiet, steps_of_others}
 use Rattle.mvo_readonly.proofs.Others.{not_named}
 use Rattle.mvo_readonly.proofs.Stages.{staged, core_stands, found_active, not_it, each_staged, unstaged_before}
 use Rattle.mvo_readonly.proofs.ReaderCalls.{in_core, unstaged_without}

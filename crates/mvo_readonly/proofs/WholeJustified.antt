@@ -1,5 +1,5 @@
 -- Each call's answer or refusal is justified by the whole trace.
-use Rattle.std.proofs.Common.{◌≡◌, ℕ, ◌+◌, ◌-◌, ◌<◌, ◌≤◌, Bool, true, false, cond, not, ◌||◌, ◌⊎◌, inl, inr, List, [], ◌∷◌, ◌++◌, Option, None, Some, length, refl, sym, ap, ◌∙◌, subst, arith}
+use Rattle.std.proofs.Common.{◌≡◌, ℕ, ◌+◌, ◌-◌, ◌≤◌, Bool, true, false, cond, not, ◌||◌, inl, inr, List, [], ◌∷◌, ◌++◌, Option, None, Some, length, refl, sym, ap, ◌∙◌, subst}
 use Rattle.std.specs.Prelude.{nat_lt, nat_le, ◌&&◌, is_some, slice_get}
 use Rattle.std.specs.FinMap as fin
 use Rattle.std.specs.List.{AllByRecursion}
@@ -20,12 +20,12 @@ use Rattle.mvo_model.specs.History.{net_write}
 use Rattle.mvo_model.specs.Trace.{Step, Phase, history_of, phase_of}
 use Rattle.mvo_model.specs.Trace.Phase.{Absent, Active as IsActive, Preparing as IsPreparing, Committed as IsCommitted, Aborted as IsAborted}
 use Rattle.mvo_theory.specs.Entries.{entry_of, entries}
-use Rattle.mvo_theory.specs.State.{State, ActiveTx, StampedTx, EndedTx, active_of, preparing_of, ended_of, history_of_active, timeline}
-use Rattle.mvo_theory.specs.Phases.{phase_in, is_absent, is_active, is_preparing, is_ended}
+use Rattle.mvo_theory.specs.State.{State, ActiveTx, StampedTx, EndedTx, active_of, preparing_of, ended_of, history_of_active}
+use Rattle.mvo_theory.specs.Phases.{is_absent, is_active, is_preparing, is_ended}
 use Rattle.mvo_theory.specs.Causes.{flagged, flag_of_active, is_entry_too_many, why_not_settle, why_not_rollback, why_not_finish}
 use Rattle.mvo_theory.specs.Snapshots.{is_aborted}
 use Rattle.mvo_theory.specs.Traced.{HasAbortedDependency}
-use Rattle.mvo_theory.specs.Calls.{Call, Result, why_not, takes_memory, IsRefusal, MayCome}
+use Rattle.mvo_theory.specs.Calls.{Call, Result, IsRefusal, MayCome}
 use Rattle.mvo_theory.specs.Calls.Call.{Begin, Do, Precommit, Validate, Settle, Rollback, Finish, Trim, Close}
 use Rattle.mvo_theory.specs.Calls.Result.{Accepted, Refused}
 use Rattle.mvo_theory.specs.Counts.{draws, is_begin, is_finish, unfinished_in, checks_in, is_validated}
@@ -45,7 +45,7 @@ use Rattle.mvo_readonly.specs.Whole.ReaderStage.{Reading, Preparing, Committed, 
 use Rattle.mvo_readonly.specs.WholeCauses.{flag_of_reader, unless_reading, unless_prepared, unless_read_only, is_valid_stage, why_not_reader, MayComeAtStage}
 use Rattle.mvo_readonly.specs.WholeKept.{core_phase, IsWholeKept}
 use Rattle.mvo_readonly.specs.BothTraces.{IsMatched, AreGiven, IsRemembered, IsRecalled}
-use Rattle.mvo_readonly.specs.WholeCounts.{HasReaderChecks, HasStageChecks, HasWholeCounts}
+use Rattle.mvo_readonly.specs.WholeCounts.{HasStageChecks, HasWholeCounts}
 use Rattle.mvo_readonly.specs.WholeJustified.{asks_to_write, ReaderStandsAgainst, ReaderCauseStands, NoReaderCauseStands, IsJustReaderRefusal, IsReaderJustified}
 use Rattle.mvo_readonly.proofs.Stages.{core_stands, found_active}
 use Rattle.mvo_readonly.proofs.Others.{may_come}

@@ -1,19 +1,20 @@
 -- The laws of read-only transactions: of replies, of the stored commits, and of calls.
-use Rattle.std.specs.Prelude.{ℕ, ◌≡◌, nat_lt, true, is_some, List, ◌∷◌, [], ◌++◌, map, filter}
+use Rattle.std.specs.Prelude.{ℕ, ◌≡◌, nat_lt, true, is_some, List, [], ◌++◌, map, filter, sum_by}
 use Rattle.std.specs.List.{AllByRecursion}
 use Rattle.mvo_types.specs.Keys.{Map}
 use Rattle.mvo_model.specs.History.{AreSerial, Legal, after_histories}
-use Rattle.mvo_model.specs.Trace.{Step, history_of, committed, phase_of, rows_up_to, IsSerial}
-use Rattle.mvo_theory.specs.State.{State, StampedTx, after_settled, timeline}
+use Rattle.mvo_model.specs.Trace.{Step, history_of, committed, phase_of, rows_up_to, IsSerial, commits}
+use Rattle.mvo_theory.specs.State.{after_settled, timeline}
 use Rattle.mvo_theory.specs.AfterTrace.{pairs}
 use Rattle.mvo_theory.specs.Causes.{is_trim}
 use Rattle.mvo_theory.specs.Groups.{AreGroupsOf}
+use Rattle.mvo_theory.specs.Marks.{StaysBelow}
 use Rattle.mvo_theory.specs.Calls.{Result, MayRun, after_run, groups_of, trace_of}
 use Rattle.mvo_readonly.specs.Whole.{WholeState, opened_whole, stage_of, phase_in_whole}
-use Rattle.mvo_readonly.specs.WholeCauses.{WholeCall, MayComeWhole, has_reader_to}
+use Rattle.mvo_readonly.specs.WholeCauses.{WholeCall, MayComeWhole, has_reader_to, IsWholeCallInOrder}
 use Rattle.mvo_readonly.specs.WholeCalls.{core_calls, steps_of_whole_call, after_whole_call, WholeRun, MayRunWhole, after_whole_run, whole_trace, core_run}
 use Rattle.mvo_readonly.specs.WholeKept.{IsWholeKept}
-use Rattle.mvo_readonly.specs.WholeTale.{whole_tale, told_in, is_in_group}
+use Rattle.mvo_readonly.specs.WholeTale.{whole_tale, told_in, is_in_group, weight_above}
 
 -- ---- replies
 -- For every list of calls the answers of the committed transactions are those of one map that runs
@@ -59,6 +60,13 @@ GroupsAreOthers = (opening : Map) (steps own : List Step) (w : WholeState) (prev
     → filter (is_in_group steps prev m) (committed steps)
     ≡ filter (is_in_group steps prev m) (pairs (timeline w.core))
 
+-- Each commit that ends above the start is stored once: whatever is weighed, the stored ones weigh
+-- what those of the trace weigh.
+abbrev pub TaleWeighs : Type 0
+TaleWeighs = (opening : Map) (steps own : List Step) (w : WholeState) (weight : ℕ × ℕ → ℕ)
+    → IsWholeKept opening steps own w
+    → sum_by weight (whole_tale w) ≡ sum_by (weight_above w.core.start weight) (commits steps)
+
 -- Where the others let a trim up to m pass, a read-only transaction stands in the way exactly where
 -- m is the id of an unfinished one.
 abbrev pub TrimIsLookedUp : Type 0
@@ -89,3 +97,14 @@ CoreGoesByRun = (rows : Map) (mark : ℕ) (run : WholeRun) → MayRunWhole (open
     → let w = opened_whole rows mark in let cs = core_run w run
     in MayRun w.core cs × ((after_whole_run w run).core ≡ after_run w.core cs)
     × AreGroupsOf (after_whole_run w run).core mark (groups_of cs)
+
+-- What the others committed up to a closed mark stays, whatever read-only transactions do.
+abbrev pub CoreStaysBelow : Type 0
+CoreStaysBelow = (opening : Map) (steps own : List Step) (w : WholeState) (run : WholeRun)
+    → MayRunWhole w run → IsWholeKept opening steps own w
+    → StaysBelow w.core (after_whole_run w run).core
+
+-- Each call comes to something.
+abbrev pub EachCallComes : Type 0
+EachCallComes = (w : WholeState) (c : WholeCall)
+    → IsWholeCallInOrder w c → (r : Result) × MayComeWhole w c r

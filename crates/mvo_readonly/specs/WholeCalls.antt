@@ -1,16 +1,15 @@
 -- What a call is to the core of the others, what it leaves of the read-only transactions, and what
 -- it is in the whole trace; and lists of calls.
-use Rattle.std.specs.Prelude.{ℕ, ◌+◌, ◌==◌, nat_le, Bool, false, not, if◌then◌else◌, List, [], ◌∷◌, ◌++◌, length, map, filter, Option, None, Some, ⊤}
-use Rattle.mvo_types.specs.declared.op.Op.{Op}
+use Rattle.std.specs.Prelude.{ℕ, ◌+◌, ◌==◌, nat_le, false, not, if◌then◌else◌, List, [], ◌∷◌, ◌++◌, length, map, filter, Option, None, Some, ⊤}
 use Rattle.mvo_types.specs.declared.refusal.Refusal.{Refusal}
 use Rattle.mvo_model.specs.Trace.{Step}
 use Rattle.mvo_model.specs.Trace.Step.{Prepares, Checks, Commits}
 use Rattle.mvo_theory.specs.Entries.{entries}
-use Rattle.mvo_theory.specs.State.{State, StampedTx, active_of, history_of_active}
+use Rattle.mvo_theory.specs.State.{State, StampedTx, history_of_active}
 use Rattle.mvo_theory.specs.Causes.{is_failure}
 use Rattle.mvo_theory.specs.Words.{is_done}
 use Rattle.mvo_theory.specs.Calls.{Call, Result, Run, after_run, steps_of, trace_of}
-use Rattle.mvo_theory.specs.Calls.Call.{Begin, Do, Precommit, Validate, Settle, Rollback, Finish, Trim, Close}
+use Rattle.mvo_theory.specs.Calls.Call.{Begin, Do, Precommit, Validate, Settle, Rollback, Finish, Trim}
 use Rattle.mvo_theory.specs.Calls.Result.{Accepted, Refused}
 use Rattle.mvo_readonly.specs.Whole.{ReaderStage, UnfinishedReader, CommittedReader, WholeState, id_named, stage_named}
 use Rattle.mvo_readonly.specs.Whole.ReaderStage.{Reading, Preparing, Committed, Aborted}

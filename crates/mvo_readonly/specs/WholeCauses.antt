@@ -1,5 +1,5 @@
 -- The calls of a state with its read-only transactions, and what each may come to.
-use Rattle.std.specs.Prelude.{ℕ, ◌≡◌, nat_lt, nat_le, Bool, false, not, List, [], ◌∷◌, ◌++◌, Option, None, Some}
+use Rattle.std.specs.Prelude.{ℕ, ◌≡◌, nat_lt, nat_le, Bool, false, not, List, [], ◌∷◌, ◌++◌, Option, None, Some, ⊤}
 use Rattle.std.specs.List.{list_any}
 use Rattle.mvo_types.specs.declared.limits.TheConstants.{MAX_TABLE}
 use Rattle.mvo_types.specs.declared.op.Op.{Op}
@@ -98,6 +98,11 @@ MayComeAtStage w c p (Refused r) = IsRefusal (takes_memory c) (why_not_at_stage 
 abbrev pub MayComeWhole : WholeState → WholeCall → Result → Type 0
 MayComeWhole w BeginReadOnly r = MayCome w.core Begin r
 MayComeWhole w (CoreCall c) r = MayComeAtStage w c (stage_named w.readers (id_named c)) r
+
+-- a group that a call closes is the next one
+abbrev pub IsWholeCallInOrder : WholeState → WholeCall → Type 0
+IsWholeCallInOrder w BeginReadOnly = ⊤
+IsWholeCallInOrder w (CoreCall c) = IsCallInOrder w.core c
 
 -- ---- whom a read-only transaction waits for
 abbrev pub depends_of_active : Option ActiveTx → List ℕ

@@ -1,5 +1,5 @@
 -- What a state with its read-only transactions counts, read off the whole trace.
-use Rattle.std.specs.Prelude.{ℕ, ◌≡◌, Bool, true, false, List, None, ⊤}
+use Rattle.std.specs.Prelude.{ℕ, ◌≡◌, Bool, false, List, None, ⊤}
 use Rattle.std.specs.List.{AllByRecursion}
 use Rattle.mvo_model.specs.Trace.{Step}
 use Rattle.mvo_theory.specs.Sound.{how_many}

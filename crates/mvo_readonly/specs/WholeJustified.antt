@@ -1,5 +1,5 @@
 -- What justifies the answer or the refusal of a read-only transaction's call, by the whole trace.
-use Rattle.std.specs.Prelude.{ℕ, ◌≡◌, ◌<◌, Bool, true, false, ◌||◌, List, ⊤}
+use Rattle.std.specs.Prelude.{ℕ, ◌≡◌, ◌<◌, Bool, true, false, ◌||◌, List}
 use Rattle.mvo_types.specs.declared.limits.TheConstants.{MAX_TABLE}
 use Rattle.mvo_types.specs.declared.op.Op.{Op}
 use Rattle.mvo_types.specs.declared.op.Op.TheVariants.{Read, Scan, Insert, Update, Delete}
@@ -14,7 +14,7 @@ use Rattle.mvo_theory.specs.Causes.{is_entry_too_many}
 use Rattle.mvo_theory.specs.Counts.{is_validated}
 use Rattle.mvo_theory.specs.Justified.{table_asked, FlaggedBy}
 use Rattle.mvo_theory.specs.Calls.{Call, Result}
-use Rattle.mvo_theory.specs.Calls.Call.{Begin, Do, Precommit, Validate, Settle, Rollback, Finish, Trim, Close}
+use Rattle.mvo_theory.specs.Calls.Call.{Do, Precommit, Validate, Settle, Rollback, Finish}
 use Rattle.mvo_theory.specs.Calls.Result.{Accepted, Refused}
 
 -- the operation is an insert, an update or a delete

@@ -1,5 +1,5 @@
 -- The stored commits with the read-only ones, and the groups of them.
-use Rattle.std.specs.Prelude.{ℕ, nat_lt, nat_le, ◌&&◌, Bool, List, ◌++◌, filter}
+use Rattle.std.specs.Prelude.{ℕ, nat_lt, nat_le, ◌&&◌, Bool, List, ◌++◌, filter, if◌then◌else◌}
 use Rattle.mvo_model.specs.History.{History}
 use Rattle.mvo_model.specs.Order.{in_order}
 use Rattle.mvo_model.specs.Trace.{Step, end_cmp, history_of}
@@ -25,3 +25,7 @@ told_in steps c = history_of c.1 steps
 -- whether a group above prev and up to m takes the commit
 abbrev pub is_in_group : List Step → ℕ → ℕ → ℕ × ℕ → Bool
 is_in_group steps prev m c = nat_le c.0 m && is_due prev (c.0, told_in steps c)
+
+-- what a commit weighs that ends above the start; one up to it weighs nothing
+abbrev pub weight_above : ℕ → (ℕ × ℕ → ℕ) → ℕ × ℕ → ℕ
+weight_above start weight c = if nat_lt start c.0 then weight c else 0

@@ -1,5 +1,5 @@
-ghost use Rattle.mvo_readonly.specs.Laws.{RepliesAreSerial, ReadsAtBegin, MarkedRowsAreOthers, WholeTaleIsLegal, TaleLeavesRows, GroupsAreOthers, TrimIsLookedUp, OpensWhole, EachCallKeepsWhole, WholePhasesAreTraced, CoreGoesByRun};
-ghost use Rattle.mvo_readonly.specs.rests.Laws.{WholeTraceJustifies, SnapshotsAreWhole, EachWholeCallTells, EachWholeSettlingTells, OpensFollowed, EachWholeCallFollows};
+ghost use Rattle.mvo_readonly.specs.Laws.{RepliesAreSerial, ReadsAtBegin, MarkedRowsAreOthers, WholeTaleIsLegal, TaleLeavesRows, GroupsAreOthers, TaleWeighs, TrimIsLookedUp, OpensWhole, EachCallKeepsWhole, WholePhasesAreTraced, CoreGoesByRun, CoreStaysBelow, EachCallComes};
+ghost use Rattle.mvo_readonly.specs.rests.Laws.{WholeTraceJustifies, SnapshotsAreWhole, CoreIsTraced, EachWholeCallTells, EachWholeSettlingTells, OpensFollowed, EachWholeCallFollows};
 
 /// The laws of replies with read-only transactions. The replies of all are serial, a read-only one
 /// standing at its begin; it is told what one map shows there; and the rows up to a mark are those
@@ -11,12 +11,14 @@ pub fn laws_of_read_only_replies()
 {}
 
 /// The laws of the stored commits with read-only ones. They are legal from the start of the tale,
-/// leave the rows that the others leave, and give groups nothing; and a trim is refused for a
-/// read-only transaction just where it would go up to its begin. The call does nothing.
+/// leave the rows that the others leave, and give groups nothing; each commit above the start is
+/// stored once; and a trim is refused for a read-only transaction just where it would go up to its
+/// begin. The call does nothing.
 pub fn laws_of_read_only_tale()
     ensures legal { WholeTaleIsLegal }
     ensures leaves { TaleLeavesRows }
     ensures groups { GroupsAreOthers }
+    ensures weighs { TaleWeighs }
     ensures trims { TrimIsLookedUp }
 {}
 
@@ -28,6 +30,8 @@ pub fn laws_of_read_only_calls()
     ensures keeps { EachCallKeepsWhole }
     ensures phases { WholePhasesAreTraced }
     ensures core { CoreGoesByRun }
+    ensures stays { CoreStaysBelow }
+    ensures comes { EachCallComes }
 {}
 
 /// The laws of the whole trace. A state with its read-only transactions is followed by two courses,
@@ -39,6 +43,7 @@ pub fn laws_of_read_only_trace()
     ensures keeps { EachWholeCallFollows }
     ensures justified { WholeTraceJustifies }
     ensures snapshots { SnapshotsAreWhole }
+    ensures traced { CoreIsTraced }
 {}
 
 /// The laws of resting, by the whole course: of read-only transactions, and of the others beside

@@ -1,9 +1,8 @@
 -- The aborts that each call adds to the whole trace and to the core's own.
-use Rattle.std.proofs.Common.{◌≡◌, ℕ, Bool, true, false, cond, ◌⊎◌, inl, inr, List, [], ◌∷◌, ◌++◌, Option, None, Some, refl, subst}
-use Rattle.std.specs.Prelude.{⊤}
+use Rattle.std.proofs.Common.{◌≡◌, ℕ, Bool, true, false, cond, inl, inr, List, [], ◌∷◌, ◌++◌, Option, None, Some, refl, subst}
 use Rattle.mvo_types.specs.declared.refusal.Refusal.{Refusal}
 use Rattle.mvo_model.specs.Trace.{Step}
-use Rattle.mvo_model.specs.Trace.Step.{Aborts, Commits, Terminates}
+use Rattle.mvo_model.specs.Trace.Step.{Aborts, Terminates}
 use Rattle.mvo_theory.specs.State.{State, StampedTx}
 use Rattle.mvo_theory.specs.Causes.{awaited, end_of, is_failure}
 use Rattle.mvo_theory.specs.Words.{is_done}
@@ -11,7 +10,7 @@ use Rattle.mvo_theory.specs.Steps.{steps_of_refusal}
 use Rattle.mvo_theory.specs.Calls.{Call, Result, steps_unless, steps_of, trace_of}
 use Rattle.mvo_theory.specs.Calls.Call.{Begin, Do, Precommit, Validate, Settle, Rollback, Finish, Trim, Close}
 use Rattle.mvo_theory.specs.Calls.Result.{Accepted, Refused}
-use Rattle.mvo_readonly.specs.Whole.{ReaderStage, WholeState, stage_of, id_named, stage_named}
+use Rattle.mvo_readonly.specs.Whole.{ReaderStage, WholeState, id_named, stage_named}
 use Rattle.mvo_readonly.specs.WholeCauses.{WholeCall, awaited_by_reader}
 use Rattle.mvo_readonly.specs.WholeCauses.WholeCall.{CoreCall, BeginReadOnly}
 use Rattle.mvo_readonly.specs.WholeCalls.{rolled_back, unless_awaited, core_failed, core_reader, core_other, core_at_stage, core_calls, commits_unless, reader_steps, steps_at_stage, steps_of_whole_call}

@@ -1,6 +1,5 @@
 -- Each call keeps all that is kept of a state with its read-only transactions.
-use Rattle.std.proofs.Common.{◌≡◌, ℕ, Bool, true, false, cond, inl, inr, List, [], ◌∷◌, ◌++◌, Option, None, Some, refl, sym, ap, ◌∙◌, subst}
-use Rattle.std.specs.List.{AllByRecursion}
+use Rattle.std.proofs.Common.{◌≡◌, ℕ, Bool, true, false, cond, inl, List, [], ◌∷◌, ◌++◌, Option, None, Some, refl, sym, subst}
 use Rattle.mvo_types.specs.declared.refusal.Refusal.{Refusal}
 use Rattle.mvo_types.specs.Keys.{Map}
 use Rattle.mvo_model.specs.Trace.{Step}
@@ -11,14 +10,14 @@ use Rattle.mvo_theory.specs.Snapshots.{is_aborted}
 use Rattle.mvo_theory.specs.Calls.{Call, Result, Run, MayCome, MayRun, after_call, after_run, steps_of, trace_of, IsKept}
 use Rattle.mvo_theory.specs.Calls.Call.{Begin, Do, Precommit, Validate, Settle, Rollback, Finish, Trim, Close}
 use Rattle.mvo_theory.specs.Calls.Result.{Accepted, Refused}
-use Rattle.mvo_theory.specs.rests.Course.{Course, trims_after, with_steps, with_trim}
+use Rattle.mvo_theory.specs.rests.Course.{Course, trims_after, with_trim}
 use Rattle.mvo_theory.specs.rests.Known.{KnowsRests}
 use Rattle.mvo_theory.proofs.Each.{each_append}
 use Rattle.mvo_theory.proofs.rests.Knowing.{known_opened, known_after_call}
-use Rattle.mvo_readonly.specs.Whole.{ReaderStage, WholeState, opened_whole, stage_of, id_named, stage_named}
-use Rattle.mvo_readonly.specs.WholeCauses.{WholeCall, MayComeAtStage, MayComeWhole, awaited_by_reader}
+use Rattle.mvo_readonly.specs.Whole.{ReaderStage, WholeState, opened_whole, id_named, stage_named}
+use Rattle.mvo_readonly.specs.WholeCauses.{WholeCall, MayComeWhole, awaited_by_reader}
 use Rattle.mvo_readonly.specs.WholeCauses.WholeCall.{CoreCall, BeginReadOnly}
-use Rattle.mvo_readonly.specs.WholeCalls.{rolled_back, unless_awaited, core_failed, core_reader, core_other, core_at_stage, core_calls, steps_at_stage, steps_of_whole_call, after_whole_call}
+use Rattle.mvo_readonly.specs.WholeCalls.{rolled_back, unless_awaited, core_failed, core_reader, core_other, core_at_stage, core_calls, steps_of_whole_call, after_whole_call}
 use Rattle.mvo_readonly.specs.WholeKept.{IsWholeKept}
 use Rattle.mvo_readonly.specs.BothTraces.{is_prepare_of, NoPrepare, IsMatched, AreGiven}
 use Rattle.mvo_readonly.specs.rests.Joint.{AreJoint, whole_trims_after, course_after}

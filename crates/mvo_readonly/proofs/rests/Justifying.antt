@@ -1,11 +1,13 @@
 -- What a call came to is justified by the whole trace, and tells on whom its transaction rests.
-use Rattle.std.proofs.Common.{◌≡◌, ℕ, List, Option, None, Some, refl, sym, ◌∙◌, subst}
+use Rattle.std.proofs.Common.{◌≡◌, ℕ, Option, None, Some, refl, sym, ◌∙◌, subst}
 use Rattle.std.specs.List.{AllByRecursion}
 use Rattle.mvo_types.specs.Keys.{Map}
 use Rattle.mvo_theory.specs.State.{ActiveTx, snapshot}
-use Rattle.mvo_theory.specs.Snapshots.{snapshot_of}
+use Rattle.mvo_theory.specs.Snapshots.{snapshot_of, HasFootprints}
+use Rattle.mvo_theory.specs.Traced.{AreTraced}
+use Rattle.mvo_theory.specs.Claimed.{AreClaimed}
 use Rattle.mvo_theory.specs.Justified.{IsJustified}
-use Rattle.mvo_theory.specs.Calls.{Call, Result, MayCome}
+use Rattle.mvo_theory.specs.Calls.{Call, Result}
 use Rattle.mvo_theory.specs.Calls.Call.{Begin, Settle}
 use Rattle.mvo_theory.specs.Calls.Result.{Accepted}
 use Rattle.mvo_theory.specs.rests.Course.{Course}
@@ -17,7 +19,9 @@ use Rattle.mvo_readonly.specs.WholeCounts.{HasWholeCounts}
 use Rattle.mvo_readonly.specs.WholeJustified.{IsReaderJustified}
 use Rattle.mvo_readonly.specs.rests.Followed.{IsFollowed}
 use Rattle.mvo_readonly.specs.rests.Laws.{IsJustifiedAtStage, IsWholeJustified, TellsWholeRests, awaited_at_stage}
-use Rattle.mvo_readonly.proofs.Snapshots.{snapshots_whole}
+use Rattle.mvo_readonly.proofs.Snapshots.{snapshots_whole, prints_whole}
+use Rattle.mvo_readonly.proofs.Flags.{are_traced}
+use Rattle.mvo_readonly.proofs.Claims.{are_claimed}
 use Rattle.mvo_readonly.proofs.WholeJustified.{other_justified, begin_justified, reader_justified}
 use Rattle.mvo_readonly.proofs.rests.Telling.{other_tells, other_settles, reader_tells, reader_settles}
 
@@ -42,6 +46,13 @@ module _ (a o : Course) (w : WholeState) (f : IsFollowed a o w) where
 
   pub snapshots_followed : AllByRecursion (λ (r : ActiveTx). snapshot w.core r.id ≡ snapshot_of o.rows a.steps r.id) w.core.active
   snapshots_followed = snapshots_whole o.rows a.steps o.steps w f.kept f.matched f.given
+
+  pub core_traced : AreTraced o.rows a.steps w.core × AreClaimed a.steps w.core × HasFootprints o.rows a.steps w.core
+  core_traced = (
+    are_traced o.rows a.steps o.steps w f.kept f.remembered f.matched,
+    are_claimed o.rows a.steps o.steps w f.kept f.remembered,
+    prints_whole o.rows a.steps o.steps w f.kept f.given,
+  )
 
   pub whole_tells : (c : WholeCall) (r : Result) → MayComeWhole w c r → TellsWholeRests a c r
   whole_tells BeginReadOnly r m = tt

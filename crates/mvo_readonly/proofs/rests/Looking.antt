@@ -3,18 +3,18 @@ use Rattle.std.proofs.Common.{◌≡◌, ℕ, ◌<◌, Bool, true, false, cond, 
 use Rattle.std.specs.Prelude.{◌==◌, ◌&&◌, nat_lt, is_some}
 use Rattle.std.specs.FinMap as fin
 use Rattle.std.specs.List.{AllByRecursion, filter, list_any}
-use Rattle.std.proofs.lemmas.Bool.{true≢false, false≢true, eqb-true, and_parts}
+use Rattle.std.proofs.lemmas.Bool.{true≢false, eqb-true, and_parts}
 use Rattle.mvo_types.specs.declared.row.RowKey.{RowKey}
 use Rattle.mvo_types.specs.declared.op.Op.{Op}
 use Rattle.mvo_types.specs.Keys.{Map}
-use Rattle.mvo_model.specs.History.{History, write_of, net_write}
+use Rattle.mvo_model.specs.History.{History, net_write}
 use Rattle.mvo_model.specs.Trace.{Step, committed, history_of, phase_of}
 use Rattle.mvo_model.specs.Trace.Phase.{Preparing as IsPreparing}
 use Rattle.mvo_types.specs.declared.entry.Entry.{Entry}
 use Rattle.mvo_types.specs.declared.entry.Entry.TheVariants.{Key, Range}
 use Rattle.mvo_theory.specs.Entries.{entry_of}
 use Rattle.mvo_theory.specs.Ranges.{Row, shows, pass, puts, put_by, is_row_of}
-use Rattle.mvo_theory.specs.Snapshots.{prepares, is_aborted, ended_in}
+use Rattle.mvo_theory.specs.Snapshots.{prepares, is_aborted}
 use Rattle.mvo_theory.specs.Traced.{IsLastWriter}
 use Rattle.mvo_theory.proofs.Each.{each_weaker}
 use Rattle.mvo_theory.specs.rests.Resting.{is_put_between, LooksAt, DependsNow}

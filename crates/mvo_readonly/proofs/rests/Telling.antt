@@ -1,37 +1,37 @@
 -- What a call comes to tells on whom its transaction rests, by the whole course.
 use Rattle.std.proofs.Common.{◌≡◌, ℕ, Bool, true, false, ◌⊎◌, inl, inr, List, [], ◌∷◌, ◌++◌, Option, None, Some, refl, sym, ap, ◌∙◌, subst}
-use Rattle.std.specs.Prelude.{nat_lt, not, ⊤}
+use Rattle.std.specs.Prelude.{nat_lt, not}
 use Rattle.std.specs.List.{AllByRecursion}
-use Rattle.std.proofs.lemmas.Bool.{true≢false, false≢true}
+use Rattle.std.proofs.lemmas.Bool.{true≢false}
 use Rattle.mvo_types.specs.declared.limits.TheConstants.{MAX_TABLE}
 use Rattle.mvo_types.specs.declared.op.Op.{Op}
 use Rattle.mvo_types.specs.declared.op.Op.TheVariants.{Read, Scan, Insert, Update, Delete}
 use Rattle.mvo_types.specs.declared.entry.Entry.TheVariants.{Key, Range}
 use Rattle.mvo_types.specs.declared.refusal.Refusal.{Refusal}
-use Rattle.mvo_types.specs.declared.refusal.Refusal.TheVariants.{NoSuchTransaction, Ended, NotActive, NotPreparing, NotValidated, DependencyAborted, TooManyReads, BadTable, ReadOnly, OutOfMemory}
-use Rattle.mvo_types.specs.Causes.{first_cause, when}
+use Rattle.mvo_types.specs.declared.refusal.Refusal.TheVariants.{NoSuchTransaction, Ended, NotActive, NotPreparing, NotValidated, DependencyAborted, TooManyReads, BadTable, ReadOnly}
+use Rattle.mvo_types.specs.Causes.{when}
 use Rattle.mvo_model.specs.Trace.{Step}
 use Rattle.mvo_model.specs.Trace.Step.{Aborts}
 use Rattle.mvo_model.specs.Trace.Phase.{Active as IsActive}
-use Rattle.mvo_theory.specs.State.{State, StampedTx, ActiveTx, active_of, history_of_active}
+use Rattle.mvo_theory.specs.State.{State, StampedTx, ActiveTx, history_of_active}
 use Rattle.mvo_theory.specs.Phases.{is_active, is_preparing, is_ended}
 use Rattle.mvo_theory.specs.Causes.{flagged, flag_of_active, is_entry_too_many, awaited, waiting_for}
 use Rattle.mvo_theory.specs.Snapshots.{is_aborted}
-use Rattle.mvo_theory.specs.Calls.{Call, Result, IsRefusal, MayCome}
+use Rattle.mvo_theory.specs.Calls.{Call, Result}
 use Rattle.mvo_theory.specs.Calls.Call.{Begin, Do, Precommit, Validate, Settle, Rollback, Finish, Trim, Close}
 use Rattle.mvo_theory.specs.Calls.Result.{Accepted, Refused}
 use Rattle.mvo_theory.specs.rests.Course.{Course}
-use Rattle.mvo_theory.specs.rests.Resting.{RestsOn, RestsOnNoAborted, IsFirstAborted, IsFirstAwaited, AwaitsNone}
-use Rattle.mvo_theory.specs.rests.Known.{IsFlag, KnowsRests}
+use Rattle.mvo_theory.specs.rests.Resting.{RestsOn, RestsOnNoAborted, IsFirstAborted}
+use Rattle.mvo_theory.specs.rests.Known.{IsFlag}
 use Rattle.mvo_theory.specs.rests.Laws.{TellsAborted, TellsRests, TellsSettling}
 use Rattle.mvo_theory.proofs.Firsts.{IsFirst, first_is, none_is, when_none}
 use Rattle.mvo_theory.proofs.rests.Telling.{active_known, told_rests, told_waiting, told_settling}
 use Rattle.mvo_readonly.specs.Whole.{ReaderStage, WholeState, stage_of, phase_at_stage, id_named, stage_named}
 use Rattle.mvo_readonly.specs.Whole.ReaderStage.{Reading, Preparing, Committed, Aborted}
 use Rattle.mvo_readonly.specs.WholeCauses.{flag_of_reader, unless_reading, unless_prepared, unless_read_only, is_valid_stage, why_not_reader, MayComeAtStage, depends_of_active, awaited_by_reader}
-use Rattle.mvo_readonly.specs.WholeKept.{core_phase, IsWholeKept}
+use Rattle.mvo_readonly.specs.WholeKept.{core_phase}
 use Rattle.mvo_readonly.specs.BothTraces.{NoPrepare, AreGiven}
-use Rattle.mvo_readonly.specs.rests.Joint.{PlacedWhole, AreJoint}
+use Rattle.mvo_readonly.specs.rests.Joint.{PlacedWhole}
 use Rattle.mvo_readonly.specs.rests.Followed.{IsFollowed}
 use Rattle.mvo_readonly.proofs.Others.{may_come}
 use Rattle.mvo_readonly.proofs.Stages.{found_active, may_settle}

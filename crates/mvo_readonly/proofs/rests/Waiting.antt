@@ -1,12 +1,10 @@
 -- For whom a transaction waits, and that it rests on none that was aborted, is the same by both courses.
-use Rattle.std.proofs.Common.{◌≡◌, ℕ, Bool, true, false, ◌⊎◌, inl, inr, List, [], ◌∷◌, ◌++◌, Option, None, Some, refl, sym, ap, ◌∙◌, subst}
+use Rattle.std.proofs.Common.{◌≡◌, ℕ, Bool, true, false, ◌⊎◌, inl, inr, ◌∷◌, ◌++◌, Option, None, Some, refl, sym, ap, ◌∙◌, subst}
 use Rattle.std.specs.Prelude.{is_some}
-use Rattle.std.specs.List.{AllByRecursion}
 use Rattle.std.proofs.lemmas.Bool.{true≢false, false≢true}
-use Rattle.mvo_model.specs.History.{write_of, net_write}
-use Rattle.mvo_model.specs.Trace.{Step, history_of, phase_of}
+use Rattle.mvo_model.specs.History.{write_of}
+use Rattle.mvo_model.specs.Trace.{history_of, phase_of}
 use Rattle.mvo_model.specs.Trace.Step.{Answers}
-use Rattle.mvo_model.specs.Trace.Phase.{Preparing as IsPreparing}
 use Rattle.mvo_theory.specs.Snapshots.{is_aborted}
 use Rattle.mvo_theory.proofs.Each.{each_front}
 use Rattle.mvo_theory.specs.rests.Course.{Course}

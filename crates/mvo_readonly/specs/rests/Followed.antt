@@ -1,5 +1,5 @@
 -- All that each call keeps of a state with its read-only transactions, after what happened.
-use Rattle.std.specs.Prelude.{List, [], Option, None, Some}
+use Rattle.std.specs.Prelude.{[]}
 use Rattle.std.specs.Prelude.{ℕ}
 use Rattle.mvo_types.specs.Keys.{Map}
 use Rattle.mvo_theory.specs.rests.Course.{Course}

@@ -5,7 +5,9 @@ use Rattle.std.specs.List.{AllByRecursion}
 use Rattle.mvo_types.specs.Keys.{Map}
 use Rattle.mvo_theory.specs.State.{State, StampedTx, ActiveTx, snapshot}
 use Rattle.mvo_theory.specs.Causes.{awaited}
-use Rattle.mvo_theory.specs.Snapshots.{snapshot_of}
+use Rattle.mvo_theory.specs.Snapshots.{snapshot_of, HasFootprints}
+use Rattle.mvo_theory.specs.Traced.{AreTraced}
+use Rattle.mvo_theory.specs.Claimed.{AreClaimed}
 use Rattle.mvo_theory.specs.Justified.{IsJustified}
 use Rattle.mvo_theory.specs.Calls.{Call, Result, trace_of}
 use Rattle.mvo_theory.specs.Calls.Call.{Begin, Settle}
@@ -41,6 +43,12 @@ abbrev pub SnapshotsAreWhole : Type 0
 SnapshotsAreWhole = (whole own : Course) (w : WholeState) → IsFollowed whole own w
     → AllByRecursion
     (λ (r : ActiveTx). snapshot w.core r.id ≡ snapshot_of own.rows whole.steps r.id) w.core.active
+
+-- What the core keeps of dependencies, flags, claims and footprints is what the whole trace says.
+abbrev pub CoreIsTraced : Type 0
+CoreIsTraced = (whole own : Course) (w : WholeState) → IsFollowed whole own w
+    → AreTraced own.rows whole.steps w.core × AreClaimed whole.steps w.core
+    × HasFootprints own.rows whole.steps w.core
 
 -- ---- on whom a transaction rests
 abbrev pub TellsWholeRests : Course → WholeCall → Result → Type 0
