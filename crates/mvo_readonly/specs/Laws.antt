@@ -41,12 +41,13 @@ MarkedRowsAreOthers = (opening : Map) (steps own : List Step) (w : WholeState) (
     → IsWholeKept opening steps own w → rows_up_to m opening steps ≡ rows_up_to m opening own
 
 -- ---- the stored commits
--- With the read-only ones at their begins they are legal from the rows at the start.
+-- The stored commits, with the read-only ones at their begins, are legal from the rows at the
+-- start.
 abbrev pub WholeTaleIsLegal : Type 0
 WholeTaleIsLegal = (opening : Map) (steps own : List Step) (w : WholeState)
     → IsWholeKept opening steps own w → Legal w.core.base (map (told_in steps) (whole_tale w))
 
--- They leave the rows that the others leave.
+-- The stored commits, read-only ones among them, leave the rows that the others leave.
 abbrev pub TaleLeavesRows : Type 0
 TaleLeavesRows = (opening : Map) (steps own : List Step) (w : WholeState)
     → IsWholeKept opening steps own w
@@ -75,7 +76,7 @@ TrimIsLookedUp = (opening : Map) (steps own : List Step) (w : WholeState) (m : �
     → has_reader_to m w.readers ≡ is_some (stage_of m w.readers)
 
 -- ---- calls
--- A state that was just opened is kept whole, and so it is after each call.
+-- A state that was just opened stands as both traces say, and so it does after each call.
 abbrev pub OpensWhole : Type 0
 OpensWhole = (rows : Map) (mark : ℕ) → IsWholeKept rows [] [] (opened_whole rows mark)
 

@@ -66,14 +66,14 @@ abbrev pub awaited_at_stage : State → ℕ → Option ReaderStage → Option St
 awaited_at_stage s t None = awaited s t
 awaited_at_stage s t (Some p) = awaited_by_reader s t
 
--- So does a settling that isn't refused, by whom it waits for.
+-- A settling that isn't refused tells that too, by whom it waits for.
 abbrev pub EachWholeSettlingTells : Type 0
 EachWholeSettlingTells = (whole own : Course) (w : WholeState) (t : ℕ)
     → IsFollowed whole own w → MayComeWhole w (CoreCall (Settle t)) Accepted
     → TellsSettling whole t (awaited_at_stage w.core t (stage_of t w.readers))
 
 -- ---- what is kept of both courses
--- A state that was just opened is followed, and so it is after each call.
+-- A state that was just opened is followed by both courses, and so it is after each call.
 abbrev pub OpensFollowed : Type 0
 OpensFollowed = (rows : Map) (mark : ℕ)
     → IsFollowed (opened_course rows mark) (opened_course rows mark) (opened_whole rows mark)
