@@ -17,11 +17,11 @@ use Rattle.mvo_theory.specs.Calls.Call.{Begin, Do, Precommit, Validate}
 use Rattle.mvo_theory.specs.Calls.Result.{Accepted, Refused}
 use Rattle.mvo_theory.proofs.Causes.{waiting_is, waiting_least}
 use Rattle.mvo_readonly.specs.Whole.{WholeState, stage_named, id_named}
-use Rattle.mvo_readonly.specs.WholeCauses.{WholeCall, flag_of_reader, why_not_reader, why_not_at_stage, MayComeAtStage, MayComeWhole, depends_of_active, awaited_by_reader, IsWholeCallInOrder}
+use Rattle.mvo_readonly.specs.WholeCauses.{WholeCall, flag_of_reader, why_not_reader, why_not_at_stage, MayComeAtStage, MayComeWhole, depends_of_active, awaited_by_reader, IsWholeCallInOrder, takes_memory_at_stage}
 use Rattle.mvo_readonly.specs.Whole.ReaderStage.{Reading, Preparing}
 use Rattle.mvo_readonly.specs.WholeCauses.WholeCall.{CoreCall, BeginReadOnly}
 use Rattle.mvo_readonly.specs.WholeKept.{IsWholeKept}
-use Rattle.mvo_theory.specs.Calls.{why_not, takes_memory, IsCallInOrder}
+use Rattle.mvo_theory.specs.Calls.{why_not}
 
 flag_is : (f : Option ℕ) (r : Refusal) → or_next (flagged f) None ≡ Some r → (x : ℕ) × (r ≡ DependencyAborted (record { 0 = x }))
 flag_is None r e = absurd cc
@@ -65,4 +65,4 @@ some_result w (CoreCall c) o = go (why_not_at_stage w c (stage_named w.readers (
 
     go : (v : Option Refusal) → why_not_at_stage w c (stage_named w.readers (id_named c)) ≡ v → (r : Result) × MayComeAtStage w c (stage_named w.readers (id_named c)) r
     go None e = (Accepted, (e, o))
-    go (Some why) e = (Refused why, subst (λ (v : Option Refusal). IsRefusal (takes_memory c) v why) (sym e) (refusal (takes_memory c) why))
+    go (Some why) e = (Refused why, subst (λ (v : Option Refusal). IsRefusal (takes_memory_at_stage c (stage_named w.readers (id_named c))) v why) (sym e) (refusal (takes_memory_at_stage c (stage_named w.readers (id_named c))) why))

@@ -636,10 +636,13 @@ module _ (opening : Map) (ws xs : List Step) (w : WholeState) (h : IsWholeKept o
       go r i = i
 
 -- ---- each call of a read-only transaction
-pub by_refusal : (b : Bool) (v : Option Refusal) (r : Refusal) (P : Refusal → Type 0) → IsRefusal b v r → ((q : Refusal) → v ≡ Some q → P q) → (v ≡ None → P OutOfMemory) → P r
-by_refusal b (Some why) r P i f g = subst P (sym i) (f why refl)
-by_refusal true None r P i f g = subst P (sym i) (g refl)
-by_refusal false None r P i f g = absurd i
+pub by_memory : (v : Option Refusal) (r : Refusal) (P : Refusal → Type 0) → IsRefusal true v r → ((q : Refusal) → v ≡ Some q → P q) → (v ≡ None → P OutOfMemory) → P r
+by_memory (Some why) r P i f g = subst P (sym i) (f why refl)
+by_memory None r P i f g = subst P (sym i) (g refl)
+
+pub by_cause : (v : Option Refusal) (r : Refusal) (P : Refusal → Type 0) → IsRefusal false v r → ((q : Refusal) → v ≡ Some q → P q) → P r
+by_cause (Some why) r P i f = subst P (sym i) (f why refl)
+by_cause None r P i f = absurd i
 
 no_stage : (p : ReaderStage) → ◌≡◌ {A = Option ReaderStage} None (Some p) → ⊥
 no_stage p e = cc
@@ -654,9 +657,9 @@ reader_justified opening ws xs w h m k n (Validate t) Accepted p o i = validate_
 reader_justified opening ws xs w h m k n (Settle t) Accepted p o i = settle_free opening ws xs w h m k n t p o i.0
 reader_justified opening ws xs w h m k n (Rollback t) Accepted p o i = rollback_free opening ws xs w h m k n t p o i.0
 reader_justified opening ws xs w h m k n (Finish t) Accepted p o i = finish_free opening ws xs w h m k n t p o i.0
-reader_justified opening ws xs w h m k n (Do t op) (Refused r) p o i = by_refusal true (why_not_reader w.core p (Do t op)) r (IsJustReaderRefusal opening ws (Do t op)) i (operation_refused opening ws xs w h m k n t p o op) (operation_free opening ws xs w h m k n t p o op)
-reader_justified opening ws xs w h m k n (Precommit t) (Refused r) p o i = by_refusal true (why_not_reader w.core p (Precommit t)) r (IsJustReaderRefusal opening ws (Precommit t)) i (precommit_refused opening ws xs w h m k n t p o) (precommit_free opening ws xs w h m k n t p o)
-reader_justified opening ws xs w h m k n (Validate t) (Refused r) p o i = by_refusal false (why_not_reader w.core p (Validate t)) r (IsJustReaderRefusal opening ws (Validate t)) i (validate_refused opening ws xs w h m k n t p o) (validate_free opening ws xs w h m k n t p o)
-reader_justified opening ws xs w h m k n (Settle t) (Refused r) p o i = by_refusal false (why_not_reader w.core p (Settle t)) r (IsJustReaderRefusal opening ws (Settle t)) i (settle_refused opening ws xs w h m k n t p o) (settle_free opening ws xs w h m k n t p o)
-reader_justified opening ws xs w h m k n (Rollback t) (Refused r) p o i = by_refusal false (why_not_rollback w.core t) r (IsJustReaderRefusal opening ws (Rollback t)) i (rollback_refused opening ws xs w h m k n t p o) (rollback_free opening ws xs w h m k n t p o)
-reader_justified opening ws xs w h m k n (Finish t) (Refused r) p o i = by_refusal false (why_not_finish w.core t) r (IsJustReaderRefusal opening ws (Finish t)) i (finish_refused opening ws xs w h m k n t p o) (finish_free opening ws xs w h m k n t p o)
+reader_justified opening ws xs w h m k n (Do t op) (Refused r) p o i = by_memory (why_not_reader w.core p (Do t op)) r (IsJustReaderRefusal opening ws (Do t op)) i (operation_refused opening ws xs w h m k n t p o op) (operation_free opening ws xs w h m k n t p o op)
+reader_justified opening ws xs w h m k n (Precommit t) (Refused r) p o i = by_cause (why_not_reader w.core p (Precommit t)) r (IsJustReaderRefusal opening ws (Precommit t)) i (precommit_refused opening ws xs w h m k n t p o)
+reader_justified opening ws xs w h m k n (Validate t) (Refused r) p o i = by_cause (why_not_reader w.core p (Validate t)) r (IsJustReaderRefusal opening ws (Validate t)) i (validate_refused opening ws xs w h m k n t p o)
+reader_justified opening ws xs w h m k n (Settle t) (Refused r) p o i = by_cause (why_not_reader w.core p (Settle t)) r (IsJustReaderRefusal opening ws (Settle t)) i (settle_refused opening ws xs w h m k n t p o)
+reader_justified opening ws xs w h m k n (Rollback t) (Refused r) p o i = by_cause (why_not_rollback w.core t) r (IsJustReaderRefusal opening ws (Rollback t)) i (rollback_refused opening ws xs w h m k n t p o)
+reader_justified opening ws xs w h m k n (Finish t) (Refused r) p o i = by_cause (why_not_finish w.core t) r (IsJustReaderRefusal opening ws (Finish t)) i (finish_refused opening ws xs w h m k n t p o)

@@ -1,5 +1,5 @@
 -- The calls of a state with its read-only transactions, and what each may come to.
-use Rattle.std.specs.Prelude.{ℕ, ◌≡◌, nat_lt, nat_le, Bool, false, not, List, [], ◌∷◌, ◌++◌, Option, None, Some, ⊤}
+use Rattle.std.specs.Prelude.{ℕ, ◌≡◌, nat_lt, nat_le, Bool, true, false, not, List, [], ◌∷◌, ◌++◌, Option, None, Some, ⊤}
 use Rattle.std.specs.List.{list_any}
 use Rattle.mvo_types.specs.declared.limits.TheConstants.{MAX_TABLE}
 use Rattle.mvo_types.specs.declared.op.Op.{Op}
@@ -91,9 +91,20 @@ abbrev pub why_not_at_stage : WholeState → Call → Option ReaderStage → Opt
 why_not_at_stage w c None = why_not_other w c
 why_not_at_stage w c (Some p) = why_not_reader w.core p c
 
+-- of the calls of a read-only transaction an operation alone may need memory: the room for its
+-- commit was taken as it began
+abbrev pub reader_takes_memory : Call → Bool
+reader_takes_memory (Do t op) = true
+reader_takes_memory c = false
+
+abbrev pub takes_memory_at_stage : Call → Option ReaderStage → Bool
+takes_memory_at_stage c None = takes_memory c
+takes_memory_at_stage c (Some p) = reader_takes_memory c
+
 abbrev pub MayComeAtStage : WholeState → Call → Option ReaderStage → Result → Type 0
 MayComeAtStage w c p Accepted = (why_not_at_stage w c p ≡ None) × IsCallInOrder w.core c
-MayComeAtStage w c p (Refused r) = IsRefusal (takes_memory c) (why_not_at_stage w c p) r
+MayComeAtStage w c p (Refused r) =
+    IsRefusal (takes_memory_at_stage c p) (why_not_at_stage w c p) r
 
 abbrev pub MayComeWhole : WholeState → WholeCall → Result → Type 0
 MayComeWhole w BeginReadOnly r = MayCome w.core Begin r

@@ -65,11 +65,11 @@ NoReaderCauseStands steps c = (r : Refusal) → ReaderCauseStands steps c r → 
 -- ---- the answer or the refusal
 abbrev pub IsJustReaderRefusal : Map → List Step → Call → Refusal → Type 0
 IsJustReaderRefusal opening steps c (DependencyAborted x) = FlaggedBy opening steps c x.0
-IsJustReaderRefusal opening steps c OutOfMemory = NoReaderCauseStands steps c
+IsJustReaderRefusal opening steps (Do t op) OutOfMemory = NoReaderCauseStands steps (Do t op)
 IsJustReaderRefusal opening steps c r = ReaderCauseStands steps c r
 
--- A refusal's cause stands, and where a call of a read-only transaction is accepted, or is refused
--- memory, none stands.
+-- A refusal's cause stands, and where a call of a read-only transaction is accepted, or an
+-- operation is refused memory, none stands. No other call of it is refused memory.
 abbrev pub IsReaderJustified : Map → List Step → Call → Result → Type 0
 IsReaderJustified opening steps c Accepted = NoReaderCauseStands steps c
 IsReaderJustified opening steps c (Refused r) = IsJustReaderRefusal opening steps c r

@@ -36,7 +36,7 @@ use Rattle.mvo_readonly.specs.rests.Followed.{IsFollowed}
 use Rattle.mvo_readonly.proofs.Others.{may_come}
 use Rattle.mvo_readonly.proofs.Stages.{found_active, may_settle}
 use Rattle.mvo_readonly.proofs.ReaderCalls.{in_core}
-use Rattle.mvo_readonly.proofs.WholeJustified.{at_when, at_flag, at_end, by_refusal, reads_alone}
+use Rattle.mvo_readonly.proofs.WholeJustified.{at_when, at_flag, at_end, by_memory, by_cause, reads_alone}
 use Rattle.mvo_readonly.proofs.rests.Joint.{rests_own, rests_whole}
 use Rattle.mvo_readonly.proofs.rests.Waiting.{rested_prepared, first_awaited_whole, awaits_none_whole, none_aborted_whole}
 
@@ -223,10 +223,10 @@ module _ (a o : Course) (w : WholeState) (f : IsFollowed a o w) where
   own_tells (Precommit t) Accepted p e m = precommit_free t p e m.0
   own_tells (Validate t) Accepted p e m = validate_free t p e m.0
   own_tells (Settle t) Accepted p e m = settle_free t p e m.0
-  own_tells (Do t op) (Refused r) p e m = by_refusal true (why_not_reader w.core p (Do t op)) r (λ v. TellsAborted o t (Refused v)) m (do_refused t p e op) (do_free t p e op)
-  own_tells (Precommit t) (Refused r) p e m = by_refusal true (why_not_reader w.core p (Precommit t)) r (λ v. TellsAborted o t (Refused v)) m (precommit_refused t p e) (precommit_free t p e)
-  own_tells (Validate t) (Refused r) p e m = by_refusal false (why_not_reader w.core p (Validate t)) r (λ v. TellsAborted o t (Refused v)) m (validate_refused t p e) (validate_free t p e)
-  own_tells (Settle t) (Refused r) p e m = by_refusal false (why_not_reader w.core p (Settle t)) r (λ v. TellsAborted o t (Refused v)) m (settle_refused t p e) (settle_free t p e)
+  own_tells (Do t op) (Refused r) p e m = by_memory (why_not_reader w.core p (Do t op)) r (λ v. TellsAborted o t (Refused v)) m (do_refused t p e op) (do_free t p e op)
+  own_tells (Precommit t) (Refused r) p e m = by_cause (why_not_reader w.core p (Precommit t)) r (λ v. TellsAborted o t (Refused v)) m (precommit_refused t p e)
+  own_tells (Validate t) (Refused r) p e m = by_cause (why_not_reader w.core p (Validate t)) r (λ v. TellsAborted o t (Refused v)) m (validate_refused t p e)
+  own_tells (Settle t) (Refused r) p e m = by_cause (why_not_reader w.core p (Settle t)) r (λ v. TellsAborted o t (Refused v)) m (settle_refused t p e)
 
   pub reader_tells : (c : Call) (r : Result) (p : ReaderStage) → stage_named w.readers (id_named c) ≡ Some p → MayComeAtStage w c (Some p) r → TellsRests a c r
   reader_tells c r p e m = tells_whole c r (own_tells c r p e m)
