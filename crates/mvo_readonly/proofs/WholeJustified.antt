@@ -78,7 +78,7 @@ module _ (opening : Map) (ws xs : List Step) (w : WholeState) (h : IsWholeKept o
   abbrev mark : ℕ
   mark = w.core.marks.opening
 
-  open_alive : (t : ℕ) (x : StampedTx) → preparing_of t w.core.stamped ≡ Some x → is_aborted t xs ≡ false
+  pub open_alive : (t : ℕ) (x : StampedTx) → preparing_of t w.core.stamped ≡ Some x → is_aborted t xs ≡ false
   open_alive t x f =
       let i = found_in t w.core.stamped x f in
       subst (λ (u : ℕ). is_aborted u xs ≡ false) i.1 (i.0 (λ y. is_aborted y.id xs ≡ false) (each_back (λ y. is_aborted y.id xs ≡ false) w.core.past w.core.stamped h.kept.has_ends.stamped))

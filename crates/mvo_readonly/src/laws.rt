@@ -1,4 +1,5 @@
 ghost use Rattle.mvo_readonly.specs.Laws.{RepliesAreSerial, ReadsAtBegin, MarkedRowsAreOthers, WholeTaleIsLegal, TaleLeavesRows, GroupsAreOthers, TaleWeighs, TrimIsLookedUp, OpensWhole, EachCallKeepsWhole, WholePhasesAreTraced, CoreGoesByRun, CoreStaysBelow, EachCallComes};
+ghost use Rattle.mvo_readonly.specs.rests.Answers.{ClockIsDrawn, AnswersAreWhole, ChecksAreWhole, SettlesAtEnd};
 ghost use Rattle.mvo_readonly.specs.rests.Laws.{WholeTraceJustifies, SnapshotsAreWhole, CoreIsTraced, EachWholeCallTells, EachWholeSettlingTells, OpensFollowed, EachWholeCallFollows};
 
 /// The laws of replies with read-only transactions. The replies of all are serial, a read-only one
@@ -44,6 +45,17 @@ pub fn laws_of_read_only_trace()
     ensures justified { WholeTraceJustifies }
     ensures snapshots { SnapshotsAreWhole }
     ensures traced { CoreIsTraced }
+{}
+
+/// The laws of answers, by the whole trace, of read-only transactions and of the others beside them:
+/// the clock is what was drawn, an operation is answered on what its transaction sees, a check is
+/// Valid where no entry is left behind it, and one that is settled is Preparing with its end. The
+/// call does nothing.
+pub fn laws_of_read_only_answers()
+    ensures clock { ClockIsDrawn }
+    ensures answers { AnswersAreWhole }
+    ensures checks { ChecksAreWhole }
+    ensures ends { SettlesAtEnd }
 {}
 
 /// The laws of resting, by the whole course: of read-only transactions, and of the others beside

@@ -5,6 +5,6 @@
 mod laws;
 
 pub use laws::{
-    laws_of_read_only_calls, laws_of_read_only_replies, laws_of_read_only_rests,
-    laws_of_read_only_tale, laws_of_read_only_trace,
+    laws_of_read_only_answers, laws_of_read_only_calls, laws_of_read_only_replies,
+    laws_of_read_only_rests, laws_of_read_only_tale, laws_of_read_only_trace,
 };

@@ -30,7 +30,7 @@ module _ (a o : Course) (w : WholeState) (f : IsFollowed a o w) where
   mark_is : w.core.marks.opening ≡ a.mark
   mark_is = f.counts.core.opening ∙ sym f.joint.mark
 
-  counts : HasWholeCounts w.core.marks.opening a.steps o.steps w
+  pub counts : HasWholeCounts w.core.marks.opening a.steps o.steps w
   counts = subst (λ (n : ℕ). HasWholeCounts n a.steps o.steps w) (sym f.counts.core.opening) f.counts
 
   moved : (c : Call) (r : Result) → IsJustified o.rows w.core.marks.opening a.steps c r → IsJustified a.rows a.mark a.steps c r
