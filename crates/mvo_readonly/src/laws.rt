@@ -47,10 +47,10 @@ pub fn laws_of_read_only_trace()
     ensures traced { CoreIsTraced }
 {}
 
-/// The laws of answers, by the whole trace, of read-only transactions and of the others beside them:
-/// the clock is what was drawn, an operation is answered on what its transaction sees, a check is
-/// Valid where no entry is left behind it, and one that is settled is Preparing with its end. The
-/// call does nothing.
+/// The laws of answers, by the whole trace, of read-only transactions and of the others beside
+/// them: the clock is what was drawn, an operation is answered on what its transaction sees, a
+/// check is Valid where no entry is left behind it, and one that is settled is Preparing with its
+/// end. The call does nothing.
 pub fn laws_of_read_only_answers()
     ensures clock { ClockIsDrawn }
     ensures answers { AnswersAreWhole }
