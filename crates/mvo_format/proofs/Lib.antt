@@ -1,3 +1,4 @@
+pub mod Versions
 pub mod Said
 pub mod Headers
 pub mod Fronts
