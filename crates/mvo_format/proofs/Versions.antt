@@ -1,9 +1,18 @@
 -- What is known of versions.
-use Rattle.std.proofs.Common.{◌≡◌, ℕ, ◌<◌, ◌≤◌, ◌^◌, Bool, true, false, cond, eqb, leb, Option, Some, None, refl, sym, ap, subst, ◌∙◌, arith}
+use Rattle.std.proofs.Common.{◌≡◌, ◌⊎◌, inl, inr, ℕ, ◌<◌, ◌≤◌, ◌^◌, Bool, true, false, cond, eqb, leb, Option, Some, None, eq-eqb, refl, sym, ap, subst, ◌∙◌, arith}
+use Rattle.std.specs.Prelude.{◌||◌}
 use Rattle.std.proofs.lemmas.Bool.{eqb-true, leb-true, le-leb}
 use Rattle.mvo_format.specs.declared.format.Format.{Format}
 use Rattle.mvo_format.specs.declared.format.TheConstants.{FIRST_FORMAT, LAST_FORMAT}
-use Rattle.mvo_format.specs.Formats.{format_of, format_up_to, IsFormatUpTo, AllowsNoMore, KnownLater, LaterAllows}
+use Rattle.mvo_format.specs.Formats.{format_of, format_up_to, IsFormatUpTo, IsVersion, is_version, AllowsNoMore, KnownLater, LaterAllows}
+
+first_is : format_of FIRST_FORMAT.version ≡ Some FIRST_FORMAT
+unfolding format_of
+first_is = refl
+
+last_is : format_of LAST_FORMAT.version ≡ Some LAST_FORMAT
+unfolding format_of
+last_is = refl
 
 -- one of the two, by a value of each
 by_format : (P : Format → Type 0) → P FIRST_FORMAT → P LAST_FORMAT → (version : ℕ) (f : Format) → format_of version ≡ Some f → P f
@@ -49,6 +58,41 @@ found_known upto version f e = go (leb version upto) refl e
 pub known_found : (upto : ℕ) (f : Format) → IsFormatUpTo upto f → format_up_to upto f.version ≡ Some f
 unfolding format_up_to
 known_found upto f k = ap (λ t. cond t (format_of f.version) None) (le-leb _ _ k.within) ∙ k.is
+
+-- ---- versions
+
+pub version_is : (version : ℕ) → is_version version ≡ true → IsVersion version
+unfolding is_version
+version_is version e = go (eqb version FIRST_FORMAT.version) refl e
+  where
+    go : (t : Bool) → eqb version FIRST_FORMAT.version ≡ t → (t || eqb version LAST_FORMAT.version) ≡ true → IsVersion version
+    go true is f = inl (eqb-true _ _ is)
+    go false is f = inr (eqb-true _ _ f)
+
+pub version_passes : (version : ℕ) → IsVersion version → is_version version ≡ true
+unfolding is_version
+version_passes version (inl is) = ap (λ t. t || eqb version LAST_FORMAT.version) (eq-eqb _ _ is)
+version_passes version (inr is) = go (eqb version FIRST_FORMAT.version)
+  where
+    go : (t : Bool) → (t || eqb version LAST_FORMAT.version) ≡ true
+    go true = refl
+    go false = eq-eqb _ _ is
+
+-- a version that files may have is that of a format
+pub format_found : (version : ℕ) → IsVersion version → (f : Format) × IsFormatUpTo version f × (f.version ≡ version)
+format_found version (inl is) = (FIRST_FORMAT, record { is = first_is; within = omega (arith, is) }, sym is)
+format_found version (inr is) = (LAST_FORMAT, record { is = last_is; within = omega (arith, is) }, sym is)
+
+-- and the other way round
+pub has_version : (upto : ℕ) (f : Format) → IsFormatUpTo upto f → IsVersion f.version
+has_version upto f k = by_format (λ g. IsVersion g.version) (inl refl) (inr refl) f.version f k.is
+
+-- the first format alone is known up to its version
+pub only_first : (f : Format) → IsFormatUpTo FIRST_FORMAT.version f → f ≡ FIRST_FORMAT
+only_first f k = by_format (λ g. g.version ≤ FIRST_FORMAT.version → g ≡ FIRST_FORMAT) (λ le. refl) (λ le. absurd (omega (arith, le))) f.version f k.is k.within
+
+pub first_known : IsFormatUpTo FIRST_FORMAT.version FIRST_FORMAT
+first_known = record { is = first_is; within = omega arith }
 
 -- ---- the laws
 

@@ -1,5 +1,6 @@
 -- The versions that files may have.
-use Rattle.std.specs.Prelude.{◌≡◌, ℕ, ◌<◌, ◌≤◌, ◌^◌, ◌==◌, nat_le, Option, Some, None, if◌then◌else◌}
+use Rattle.std.specs.Prelude.{◌≡◌, ◌⊎◌, ℕ, ◌<◌, ◌≤◌, ◌^◌, ◌==◌, ◌||◌, nat_le, Bool}
+use Rattle.std.specs.Prelude.{Option, Some, None, if◌then◌else◌}
 use Rattle.mvo_format.specs.declared.format.Format.{Format}
 use Rattle.mvo_format.specs.declared.format.TheConstants.{FIRST_FORMAT, LAST_FORMAT}
 
@@ -17,6 +18,14 @@ format_up_to upto version = if nat_le version upto then format_of version else N
 pub record IsFormatUpTo (upto : ℕ) (f : Format) : Type 0 where
   pub is : format_of f.version ≡ Some f
   pub within : f.version ≤ upto
+
+-- files may have this version
+abbrev pub IsVersion : ℕ → Type 0
+IsVersion version = (version ≡ FIRST_FORMAT.version) ⊎ (version ≡ LAST_FORMAT.version)
+
+-- the same, as a test
+unfoldable pub is_version : ℕ → Bool
+is_version version = version == FIRST_FORMAT.version || version == LAST_FORMAT.version
 
 -- ---- the laws
 

@@ -5,6 +5,8 @@ use Rattle.mvo_types.specs.declared.refusal.Refusal.{Refusal}
 use Rattle.mvo_types.specs.declared.refusal.Refusal.TheVariants.{Corrupt, BadVersion, OutOfMemory}
 use Rattle.mvo_bytes.specs.Fields.{field}
 use Rattle.mvo_bytes.specs.Reading.{◌>>=◌, number_at}
+use Rattle.mvo_format.specs.declared.format.Format.{Format}
+use Rattle.mvo_format.specs.Formats.{format_up_to}
 
 -- what the bytes hold, or how opening refuses them
 abbrev pub Found : Type 0 → Type 0
@@ -43,13 +45,14 @@ Says file Other Holds (Err e) =
 abbrev pub header : ℕ → ℕ → List ℕ
 header magic version = field 4 magic ++ field 4 version
 
--- the magic is right, and the version field, which is whole, has another number
-pub record IsOtherVersion (magic version : ℕ) (bytes : List ℕ) : Type 0 where
+-- the magic is right, and the version field, which is whole, has a number that is no version up to
+-- this one
+pub record IsOtherVersion (magic upto : ℕ) (bytes : List ℕ) : Type 0 where
   pub number : ℕ
   pub rest : List ℕ
   pub whole : bytes ≡ header magic number ++ rest
   pub fits : number < 2 ^ 32
-  pub other : number ≢ version
+  pub other : format_up_to upto number ≡ None
 
 -- the two numbers in front, and what stands behind them
 unfoldable pub header_at : List ℕ → Option ((ℕ × ℕ) × List ℕ)
@@ -58,12 +61,15 @@ header_at bytes = do
   version ← number_at 4 magic.1
   Some ((magic.0, version.0), version.1)
 
-abbrev pub header_kept : ℕ → ℕ → ℕ → Option ((ℕ × ℕ) × List ℕ) → Found (List ℕ)
-header_kept file magic version None = Err (Corrupt file)
-header_kept file magic version (Some x) =
-    if x.0.0 == magic then (if x.0.1 == version then Ok x.1 else Err BadVersion)
-    else Err (Corrupt file)
+abbrev pub format_kept : List ℕ → Option Format → Found (Format × List ℕ)
+format_kept rest None = Err BadVersion
+format_kept rest (Some f) = Ok (f, rest)
 
--- what stands behind the magic and the version
-unfoldable pub header_found : ℕ → ℕ → ℕ → List ℕ → Found (List ℕ)
-header_found file magic version bytes = header_kept file magic version (header_at bytes)
+abbrev pub header_kept : ℕ → ℕ → ℕ → Option ((ℕ × ℕ) × List ℕ) → Found (Format × List ℕ)
+header_kept file magic upto None = Err (Corrupt file)
+header_kept file magic upto (Some x) =
+    if x.0.0 == magic then format_kept x.1 (format_up_to upto x.0.1) else Err (Corrupt file)
+
+-- the format of the version in front, which is at most this one, and what stands behind
+unfoldable pub header_found : ℕ → ℕ → ℕ → List ℕ → Found (Format × List ℕ)
+header_found file magic upto bytes = header_kept file magic upto (header_at bytes)

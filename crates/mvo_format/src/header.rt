@@ -2,6 +2,7 @@
 ghost use Rattle.std.specs.Prelude.{◌≡◌};
 ghost use Rattle.mvo_format.specs.Found.{FindsAs, header_found};
 
+use crate::format::{Format, format_up_to};
 use mvo_bytes::u32_at;
 use mvo_types::Refusal;
 
@@ -14,13 +15,19 @@ pub const VERSION: u32 = 1;
 /// How many bytes the magic and the version have.
 pub const HEADER_LEN: usize = 8;
 
-/// What stands behind the magic and the version. The magic is looked at before the version.
+/// The format of the version in front, which is at most another version, and what stands behind.
+/// The magic is looked at before the version.
 ///
 /// Refused: Corrupt with the file where the magic is another or either is cut short, then
-/// BadVersion where the version is another.
+/// BadVersion where the version is none up to that one.
 #[tactic(auto, unfolding(crate::specs::Found::header_found, crate::specs::Found::header_at))]
-pub fn behind_header(file: u16, magic: u32, version: u32, bytes: &[u8]) -> Result<&[u8], Refusal>
-    ensures { FindsAs (λ rest. rest.now) result (header_found file magic version bytes.now) }
+pub fn behind_header(
+    file: u16,
+    magic: u32,
+    upto: u32,
+    bytes: &[u8],
+) -> Result<(Format, &[u8]), Refusal>
+    ensures { FindsAs (λ x. (x.0, x.1.now)) result (header_found file magic upto bytes.now) }
 {
     let Some((number, rest)) = u32_at(bytes) else {
         return Err(Refusal::Corrupt(file));
@@ -31,8 +38,8 @@ pub fn behind_header(file: u16, magic: u32, version: u32, bytes: &[u8]) -> Resul
     if number != magic {
         return Err(Refusal::Corrupt(file));
     }
-    if found != version {
+    let Some(format) = format_up_to(upto, found) else {
         return Err(Refusal::BadVersion);
-    }
-    Ok(rest)
+    };
+    Ok((format, rest))
 }
