@@ -12,13 +12,13 @@ use Rattle.mvo_manifest.specs.Body.{manifest_body, sized_body}
 use Rattle.mvo_manifest.specs.Slots.{IsShut, IsClosed, IsOpen, SlotHas, IsOtherSlot, SlotSays}
 use Rattle.mvo_manifest.proofs.Spelled.{length-body}
 
-length-sized_body : (version : ℕ) (m : ManifestData) → IsManifest m → length (OPEN ∷ sized_body version m) ≤ MAX_SLOT_LEN
+length-sized_body : (m : ManifestData) → IsManifest m → length (OPEN ∷ sized_body m) ≤ MAX_SLOT_LEN
 unfolding sized_body
-length-sized_body version m is =
-    let body = manifest_body version m in
+length-sized_body m is =
+    let body = manifest_body m in
     let pairs = is.rules.pairs in
     let segments = is.rules.segments in
-    omega (arith, length-append (field 4 (length body)) body, length-field 4 (length body), length-body version m, pairs, segments)
+    omega (arith, length-append (field 4 (length body)) body, length-field 4 (length body), length-body m, pairs, segments)
 
 -- as many bytes as the longest slot has
 abbrev pub slot_front : List ℕ → List ℕ
@@ -53,34 +53,34 @@ closed_of_front : (bytes : List ℕ) → IsClosed (slot_front bytes) → IsClose
 closed_of_front bytes (inl none) = inl (no_bytes bytes none)
 closed_of_front bytes (inr shut) = inr (shut_of_front bytes shut)
 
-module _ (version slot : ℕ) (bytes : List ℕ) where
-  open_in_front : (m : ManifestData) → IsOpen version slot m bytes → IsOpen version slot m (slot_front bytes)
+module _ (upto slot : ℕ) (bytes : List ℕ) where
+  open_in_front : (m : ManifestData) → IsOpen slot m bytes → IsOpen slot m (slot_front bytes)
   open_in_front m o =
-      let front : List ℕ = OPEN ∷ sized_body version m in
+      let front : List ℕ = OPEN ∷ sized_body m in
       record {
         rest = take (MAX_SLOT_LEN - length front) o.rest;
-        whole = front_taken MAX_SLOT_LEN bytes front o.rest (length-sized_body version m o.is) o.whole;
+        whole = front_taken MAX_SLOT_LEN bytes front o.rest (length-sized_body m o.is) o.whole;
         is = o.is;
         own = o.own;
       }
 
-  open_of_front : (m : ManifestData) → IsOpen version slot m (slot_front bytes) → IsOpen version slot m bytes
+  open_of_front : (m : ManifestData) → IsOpen slot m (slot_front bytes) → IsOpen slot m bytes
   open_of_front m o = record {
     rest = o.rest ++ drop MAX_SLOT_LEN bytes;
-    whole = front_back MAX_SLOT_LEN bytes (OPEN ∷ sized_body version m) o.rest o.whole;
+    whole = front_back MAX_SLOT_LEN bytes (OPEN ∷ sized_body m) o.rest o.whole;
     is = o.is;
     own = o.own;
   }
 
-  has_in_front : (found : Option ManifestData) → SlotHas version slot bytes found → SlotHas version slot (slot_front bytes) found
+  has_in_front : (found : Option ManifestData) → SlotHas upto slot bytes found → SlotHas upto slot (slot_front bytes) found
   has_in_front None has = closed_in_front bytes has
-  has_in_front (Some m) has = open_in_front m has
+  has_in_front (Some m) has = (open_in_front m has.0, has.1)
 
-  has_of_front : (found : Option ManifestData) → SlotHas version slot (slot_front bytes) found → SlotHas version slot bytes found
+  has_of_front : (found : Option ManifestData) → SlotHas upto slot (slot_front bytes) found → SlotHas upto slot bytes found
   has_of_front None has = closed_of_front bytes has
-  has_of_front (Some m) has = open_of_front m has
+  has_of_front (Some m) has = (open_of_front m has.0, has.1)
 
-  other_slot_in_front : IsOtherSlot version bytes → IsOtherSlot version (slot_front bytes)
+  other_slot_in_front : IsOtherSlot upto bytes → IsOtherSlot upto (slot_front bytes)
   other_slot_in_front o =
       let front : List ℕ = OPEN ∷ o.len in
       let k = MAX_SLOT_LEN - length front in
@@ -90,10 +90,10 @@ module _ (version slot : ℕ) (bytes : List ℕ) where
         four = o.four;
         tail = take k o.tail;
         whole = front_taken MAX_SLOT_LEN bytes front o.tail (omega (arith, four)) o.whole;
-        other = other_in_front k MAGIC version o.tail (omega (arith, four)) o.other;
+        other = other_in_front k MAGIC upto o.tail (omega (arith, four)) o.other;
       }
 
-  other_slot_of_front : IsOtherSlot version (slot_front bytes) → IsOtherSlot version bytes
+  other_slot_of_front : IsOtherSlot upto (slot_front bytes) → IsOtherSlot upto bytes
   other_slot_of_front o = record {
     len = o.len;
     four = o.four;
@@ -102,7 +102,7 @@ module _ (version slot : ℕ) (bytes : List ℕ) where
     other = grown o.tail o.other;
   }
     where
-      grown : (tail : List ℕ) → IsOtherVersion MAGIC version tail → IsOtherVersion MAGIC version (tail ++ drop MAX_SLOT_LEN bytes)
+      grown : (tail : List ℕ) → IsOtherVersion MAGIC upto tail → IsOtherVersion MAGIC upto (tail ++ drop MAX_SLOT_LEN bytes)
       grown tail v = record {
         number = v.number;
         rest = v.rest ++ drop MAX_SLOT_LEN bytes;
@@ -111,8 +111,8 @@ module _ (version slot : ℕ) (bytes : List ℕ) where
         other = v.other;
       }
 
-  pub slot_of_front : (found : Found (Option ManifestData)) → SlotSays version slot (slot_front bytes) found → SlotSays version slot bytes found
-  slot_of_front = says_alike slot (IsOtherSlot version (slot_front bytes)) (IsOtherSlot version bytes) (SlotHas version slot (slot_front bytes)) (SlotHas version slot bytes) other_slot_of_front other_slot_in_front has_of_front has_in_front
+  pub slot_of_front : (found : Found (Option ManifestData)) → SlotSays upto slot (slot_front bytes) found → SlotSays upto slot bytes found
+  slot_of_front = says_alike slot (IsOtherSlot upto (slot_front bytes)) (IsOtherSlot upto bytes) (SlotHas upto slot (slot_front bytes)) (SlotHas upto slot bytes) other_slot_of_front other_slot_in_front has_of_front has_in_front
 
-  pub slot_in_front : (found : Found (Option ManifestData)) → SlotSays version slot bytes found → SlotSays version slot (slot_front bytes) found
-  slot_in_front = says_alike slot (IsOtherSlot version bytes) (IsOtherSlot version (slot_front bytes)) (SlotHas version slot bytes) (SlotHas version slot (slot_front bytes)) other_slot_in_front other_slot_of_front has_in_front has_of_front
+  pub slot_in_front : (found : Found (Option ManifestData)) → SlotSays upto slot bytes found → SlotSays upto slot (slot_front bytes) found
+  slot_in_front = says_alike slot (IsOtherSlot upto bytes) (IsOtherSlot upto (slot_front bytes)) (SlotHas upto slot bytes) (SlotHas upto slot (slot_front bytes)) other_slot_in_front other_slot_of_front has_in_front has_of_front
