@@ -46,4 +46,4 @@ module _ (f : Format) (old new : Image) (may_old may_new : ℕ → List ℕ → 
 
     -- the next manifest behind its gate, beside what is settled now
     pub staged_beside : (next : ManifestData) (x y : Parts) → IsStagedBeside f old may_old m next x → IsSettled f new may_new m y → IsStagedBeside f new may_new m next y
-    staged_beside next x y s settled = record { settled = settled; staged = subst (λ (c : List ℕ). IsStaged f.version (other_slot m) next c) (sym (rest.content (other_slot m) apart)) s.staged }
+    staged_beside next x y s settled = record { settled = settled; staged = subst (λ (c : List ℕ). IsStaged (other_slot m) next c) (sym (rest.content (other_slot m) apart)) s.staged }

@@ -144,6 +144,7 @@ module _ (f : Format) (content : Image) (m : ManifestData) (lives : List (List N
           let rules_none = without_numbers.rules in
           record {
             rules = record {
+              version = rules_none.version;
               pairs = omega (arith, length-append seen.before (pair ∷ seen.behind), length-append seen.before (none ∷ seen.behind), rules_none.pairs);
               some = rules_none.some;
               segments = rules_none.segments;
@@ -191,6 +192,7 @@ module _ (f : Format) (content : Image) (may : ℕ → List ℕ → Type 0) (m :
     pub ready_now : IsReady f content may (merged_manifest m (pairs_now seen pair)) y
     ready_now = record {
       parts = record {
+        version = parts.version;
         sealed_files = parts.sealed_files;
         last_file = parts.last_file;
         segments = parts.segments;

@@ -59,6 +59,7 @@ module _ {D : Type 0} (moment : D → Moment) (left_since : D → Moment → Ima
         let live = live_counted f (content a) (content b) m is p w.has others x.lives stays settled.installed.parts.live in
         record {
           settled = record {
+            known = settled.known;
             installed = installed_counted f (content a) (content b) m x p w.has (λ n used. w.rest.content n used.1) settled.installed live;
             durable = all_durable f (content a) (content b) (may a) (may b) p.delta_file w.rest m x settled w.durable;
           };

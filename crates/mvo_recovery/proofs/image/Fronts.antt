@@ -17,10 +17,10 @@ module _ (f : Format) (file mark : ℕ) (kind : Kind) (bytes : List ℕ) where
 
   pub segment_says_of_front : (found : Found (List GroupData)) → SegmentIs f file mark kind (segment_front bytes) found → SegmentIs f file mark kind bytes found
   segment_says_of_front =
-      says_alike file (OtherThan (segment_front bytes)) (OtherThan bytes) (λ gs. IsSegment f mark kind gs (segment_front bytes)) (λ gs. IsSegment f mark kind gs bytes)
-      (other_of_front MAX_SEGMENT_LEN MAGIC f.version bytes) (other_in_front MAX_SEGMENT_LEN MAGIC f.version bytes (omega arith)) (λ gs. segment_of_front f mark kind gs bytes) (λ gs. segment_in_front f mark kind gs bytes)
+      says_alike file (OtherThan (segment_front bytes)) (OtherThan bytes) (λ gs. IsSegment f.version mark kind gs (segment_front bytes)) (λ gs. IsSegment f.version mark kind gs bytes)
+      (other_of_front MAX_SEGMENT_LEN MAGIC f.version bytes) (other_in_front MAX_SEGMENT_LEN MAGIC f.version bytes (omega arith)) (λ gs. segment_of_front f.version mark kind gs bytes) (λ gs. segment_in_front f.version mark kind gs bytes)
 
   pub segment_says_in_front : (found : Found (List GroupData)) → SegmentIs f file mark kind bytes found → SegmentIs f file mark kind (segment_front bytes) found
   segment_says_in_front =
-      says_alike file (OtherThan bytes) (OtherThan (segment_front bytes)) (λ gs. IsSegment f mark kind gs bytes) (λ gs. IsSegment f mark kind gs (segment_front bytes))
-      (other_in_front MAX_SEGMENT_LEN MAGIC f.version bytes (omega arith)) (other_of_front MAX_SEGMENT_LEN MAGIC f.version bytes) (λ gs. segment_in_front f mark kind gs bytes) (λ gs. segment_of_front f mark kind gs bytes)
+      says_alike file (OtherThan bytes) (OtherThan (segment_front bytes)) (λ gs. IsSegment f.version mark kind gs bytes) (λ gs. IsSegment f.version mark kind gs (segment_front bytes))
+      (other_in_front MAX_SEGMENT_LEN MAGIC f.version bytes (omega arith)) (other_of_front MAX_SEGMENT_LEN MAGIC f.version bytes) (λ gs. segment_in_front f.version mark kind gs bytes) (λ gs. segment_of_front f.version mark kind gs bytes)

@@ -19,20 +19,20 @@ use Rattle.mvo_recovery.proofs.image.One.{HasOne, opens_one}
 use Rattle.mvo_recovery.proofs.image.Exact.{gives_opens, opens_gives}
 
 pub slot_exact : SlotIsExact
-slot_exact version slot bytes word fits = (slot_says version slot word bytes fits, λ z h. sym (slot_alone version slot word bytes fits z h))
+slot_exact upto slot bytes fits = (slot_says upto slot bytes fits, λ z h. sym (slot_alone upto slot bytes fits z h))
 
 pub pick_exact : PickIsExact
-pick_exact version first second word fits fits_too = (pick_says version word first second fits fits_too, λ z h. sym (pick_alone version word first second fits fits_too z h))
+pick_exact upto first second fits fits_too = (pick_says upto first second fits fits_too, λ z h. sym (pick_alone upto first second fits fits_too z h))
 
 pub segment_exact : SegmentIsExact
-segment_exact f file mark kind bytes word fits = (segment_says f file mark kind bytes word fits, λ z h. sym (segment_alone f file mark kind bytes word fits z h))
+segment_exact f file mark kind bytes fits = (segment_says f.version file mark kind bytes fits, λ z h. sym (segment_alone f.version file mark kind bytes fits z h))
 
 module _ (f : Format) (image : Image) (is : AreFiles f image) where
   slot_one : (n : ℕ) → HasOne (SlotSays f.version n (image n))
-  slot_one n = (slot_found f.version n (image n), slot_exact f.version n (image n) is.version (is.bytes n))
+  slot_one n = (slot_found f.version n (image n), slot_exact f.version n (image n) (is.bytes n))
 
   segment_one : (n mark : ℕ) (last : Bool) → HasOne (SegmentSays f n mark last (image n))
-  segment_one n mark last = (segment_found f n mark (kind_of last) (image n), segment_exact f n mark (kind_of last) (image n) is.version (is.bytes n))
+  segment_one n mark last = (segment_found f.version n mark (kind_of last) (image n), segment_exact f n mark (kind_of last) (image n) (is.bytes n))
 
   -- the pairs of a manifest have their words, and so each has one answer
   pairs_one : (lo hi : ℕ) (ps : List Pair) → PairsRise lo ps hi → AllByRecursion (λ p. HasOne (LoadsAs f p (image p.data_file) (image p.delta_file))) ps
@@ -45,7 +45,7 @@ pub one_answer : HasOneAnswer
 one_answer f image is =
     opens_one (SlotSays f.version) (SegmentSays f) f image (record {
       slot = slot_one f image is;
-      pair = λ n m has. pairs_one f image is 0 m.checkpoint_mark m.pairs has.is.rules.rise;
+      pair = λ n m has. pairs_one f image is 0 m.checkpoint_mark m.pairs has.0.is.rules.rise;
       segment = segment_one f image is;
     })
 

@@ -117,7 +117,7 @@ MergeBesideIsReady content may = (f : Format) (m : ManifestData) (x : Parts) (s 
 abbrev pub InstallBesideKeeps : Image → (ℕ → List ℕ → Type 0) → Type 0
 InstallBesideKeeps content may = (f : Format) (m : ManifestData) (x y : Parts) (c : MergeData) →
     IsSettled f content may m x → IsMergedNow f content may m x c y → (image : Image) →
-    Touched (other_slot m) may (IsShutOrOpen f.version (other_slot m) (merged_manifest m c)) image →
+    Touched (other_slot m) may (IsShutOrOpen (other_slot m) (merged_manifest m c)) image →
     GivesParts f x image
 
 -- ---- places

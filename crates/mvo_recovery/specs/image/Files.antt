@@ -19,7 +19,7 @@ kind_of false = Sealed
 -- what a segment's bytes say: its groups, or another version, or neither
 abbrev pub SegmentIs : Format → ℕ → ℕ → Kind → List ℕ → Found (List GroupData) → Type 0
 SegmentIs f file mark kind bytes =
-    Says file (IsOtherVersion MAGIC f.version bytes) (λ gs. IsSegment f mark kind gs bytes)
+    Says file (IsOtherVersion MAGIC f.version bytes) (λ gs. IsSegment f.version mark kind gs bytes)
 
 abbrev pub SegmentSays : Format → SegmentReading
 SegmentSays f n mark last = SegmentIs f n mark (kind_of last)

@@ -29,19 +29,19 @@ pub record AreFiles (f : Format) (image : Image) : Type 0 where
 
 -- What is found of a slot is said of its bytes, and nothing else is.
 abbrev pub SlotIsExact : Type 0
-SlotIsExact = (version slot : ℕ) (bytes : List ℕ) → version < 2 ^ 32 → AreBytes bytes →
-    IsOnly (SlotSays version slot bytes) (slot_found version slot bytes)
+SlotIsExact = (upto slot : ℕ) (bytes : List ℕ) → AreBytes bytes →
+    IsOnly (SlotSays upto slot bytes) (slot_found upto slot bytes)
 
 -- So is what is found of both slots.
 abbrev pub PickIsExact : Type 0
-PickIsExact = (version : ℕ) (first second : List ℕ) → version < 2 ^ 32 → AreBytes first →
-    AreBytes second → IsOnly (PickSays version first second) (pick_found version first second)
+PickIsExact = (upto : ℕ) (first second : List ℕ) → AreBytes first → AreBytes second →
+    IsOnly (PickSays upto first second) (pick_found upto first second)
 
 -- So is what is found of a segment.
 abbrev pub SegmentIsExact : Type 0
 SegmentIsExact = (f : Format) (file mark : ℕ) (kind : Kind) (bytes : List ℕ) →
-    f.version < 2 ^ 32 → AreBytes bytes →
-    IsOnly (SegmentIs f file mark kind bytes) (segment_found f file mark kind bytes)
+    AreBytes bytes →
+    IsOnly (SegmentIs f file mark kind bytes) (segment_found f.version file mark kind bytes)
 
 -- Opening has one answer.
 abbrev pub HasOneAnswer : Type 0
