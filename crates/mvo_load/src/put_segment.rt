@@ -27,7 +27,8 @@ fn are_enough(kind: Kind, gate: usize) -> bool
     }
 }
 
-/// Puts the groups of a segment on rows. The first of them follows a mark. A group is decoded and
+/// Puts the groups of a segment, of a version up to that of the format, on rows. The first of them
+/// follows a mark, and each keeps the limits of the segment's own version. A group is decoded and
 /// let go before the next one, so that no memory of it is left between the rows.
 ///
 /// Refused: Corrupt with the file or BadVersion, by the first rule that its bytes break.
@@ -47,14 +48,14 @@ pub fn put_segment(
     ensures err { IfErr result (λ e. (e ≡ OutOfMemory) ⊎
         IsOnly (SegmentIs format file start.0 kind bytes.now) (Err e)) }
 {
-    let mut rest = match behind_header(file, MAGIC, format.version, bytes) {
-        Ok(rest) => rest,
+    let (own, mut rest) = match behind_header(file, MAGIC, format.version, bytes) {
+        Ok((own, rest)) => (own, rest),
         Err(refusal) => return Err(refusal),
     };
     let mut writes = Vec::new(alloc);
     let mut gate = HEADER_LEN;
     let mut mark = start;
-    while let Some((group, later)) = next_group(alloc, format, file, gate, mark, rest)? {
+    while let Some((group, later)) = next_group(alloc, own, file, gate, mark, rest)? {
         gate += rest.len() - later.len();
         mark = group.mark();
         rest = later;
