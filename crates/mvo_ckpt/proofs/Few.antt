@@ -78,7 +78,7 @@ frames_size (g ∷ gs) place mark bytes few frames =
     omega (arith, both, one, rest)
 
 pub few_enough : IsFewEnough
-few_enough f mark kind gs bytes segment =
+few_enough upto mark kind gs bytes segment =
     let puts : 20 * length (records_of gs) ≤ size (last_writes (writes_of gs)) = records_size (last_writes (writes_of gs)) in
     let lasts : size (last_writes (writes_of gs)) ≤ size (writes_of gs) = last_size (writes_of gs) in
     let all : HEADER_LEN + size (writes_of gs) < MAX_SEGMENT_LEN = frames_size gs HEADER_LEN mark segment.has.rest (omega arith) segment.has.frames in

@@ -15,6 +15,8 @@ use Rattle.mvo_types.specs.Write.Effect.{Put, Delete}
 use Rattle.mvo_group.specs.Data.{RecordData, GroupData}
 use Rattle.mvo_group.specs.Rules.{IsRecord, IsGroup}
 use Rattle.mvo_format.specs.declared.format.Format.{Format}
+use Rattle.mvo_format.specs.Formats.{AllowsNoMore}
+use Rattle.mvo_format.proofs.Versions.{later_allows}
 use Rattle.mvo_frame.specs.Frames.{Frames, IsAllowed, mark_after, sized}
 use Rattle.mvo_group.specs.Body.{body_of}
 use Rattle.mvo_format.specs.declared.header.TheConstants.{HEADER_LEN}
@@ -233,15 +235,21 @@ is_entry f lo hi w e within allowed is = go w.1.1 allowed is
         subst (IsEntry f lo hi) same (record { above = within.0; upto = within.1; table = allowed.table; size = allowed.size })
     go Delete allowed is = absurd cc
 
+-- a version that allows more allows the write too
+allowed_later : (g f : Format) → AllowsNoMore g f → (w : Stamped) → Allowed g w → Allowed f w
+allowed_later g f more w a = record { table = omega (arith, a.table, more.table); size = omega (arith, a.size, more.size) }
+
 pub gives_entries : GivesEntries
-gives_entries f mark kind gs bytes segment =
+gives_entries upto f mark kind gs bytes known le segment =
     let ws = writes_of gs in
+    let own = segment.format in
+    let more : AllowsNoMore own f = later_allows upto f.version own f segment.known known (omega (arith, segment.known.within, le)) in
     let chained = frames_chained gs HEADER_LEN mark segment.has.rest segment.has.frames in
     record {
       each = All-from_recursion (IsEntry f mark (mark_after mark gs)) (records_of gs) (all_from (IsEntry f mark (mark_after mark gs)) (records_of gs) (λ e a.
           let m = among_filter_mapped record_of (last_writes ws) e a in
           let there : Among ws m.0 = last_among ws m.0 m.1 in
           is_entry f mark (mark_after mark gs) m.0 e (chain_within mark gs chained m.0 there)
-          (all_allowed f gs (recursion_from_All (λ g. All (λ r. All (IsAllowed f) r.writes) g.records) gs segment.allowed) m.0 there) m.2));
+          (allowed_later own f more m.0 (all_allowed own gs (recursion_from_All (λ g. All (λ r. All (IsAllowed own) r.writes) g.records) gs segment.allowed) m.0 there)) m.2));
       rise = records_sorted (last_writes ws) (last_in_order ws (chain_in_order mark gs chained));
     }

@@ -6,6 +6,7 @@ use Rattle.mvo_types.specs.RowData.{content_of}
 use Rattle.mvo_types.specs.Write.Effect.{Put}
 use Rattle.mvo_group.specs.Data.{GroupData}
 use Rattle.mvo_format.specs.declared.format.Format.{Format}
+use Rattle.mvo_format.specs.Formats.{IsFormatUpTo}
 use Rattle.mvo_frame.specs.declared.kind.Kind.{Kind}
 use Rattle.mvo_frame.specs.Frames.{IsSegment, mark_after}
 use Rattle.mvo_pair.specs.Data.{EntryData, Numbered, live_of, AreApart}
@@ -37,16 +38,17 @@ abbrev pub LeavesOthers : Type 0
 LeavesOthers = (gs : List GroupData) (ns : List ℕ) (es : List EntryData) →
     live_of (ns ++ ended gs (live_of ns es)) es ≡ left_in gs (live_of ns es)
 
--- The records of a segment's groups keep the rules of a data file between its two marks.
+-- The records of a segment's groups keep the rules of a data file between its two marks, in each
+-- version that isn't earlier than the segment's.
 abbrev pub GivesEntries : Type 0
-GivesEntries = (f : Format) (mark : ℕ) (kind : Kind) (gs : List GroupData) (bytes : List ℕ) →
-    IsSegment f mark kind gs bytes →
-    AreEntries f mark (mark_after mark gs) (records_of gs)
+GivesEntries = (upto : ℕ) (f : Format) (mark : ℕ) (kind : Kind) (gs : List GroupData)
+    (bytes : List ℕ) → IsFormatUpTo f.version f → upto ≤ f.version →
+    IsSegment upto mark kind gs bytes → AreEntries f mark (mark_after mark gs) (records_of gs)
 
 -- They are no more than a pair may have.
 abbrev pub IsFewEnough : Type 0
-IsFewEnough = (f : Format) (mark : ℕ) (kind : Kind) (gs : List GroupData) (bytes : List ℕ) →
-    IsSegment f mark kind gs bytes → length (records_of gs) ≤ MAX_PAIR_RECORDS
+IsFewEnough = (upto mark : ℕ) (kind : Kind) (gs : List GroupData) (bytes : List ℕ) →
+    IsSegment upto mark kind gs bytes → length (records_of gs) ≤ MAX_PAIR_RECORDS
 
 -- They are the last writes of their keys, with the ends of the transactions that made them.
 abbrev pub AreLastPuts : Type 0
