@@ -69,8 +69,8 @@ module _ (content : Image) (m : ManifestData) (saw : SeenData) (seen : WasSeen F
       let whole : m.pairs ≡ (seen.before ++ two) ++ seen.behind = seen.pairs ∙ sym (append_assoc seen.before two seen.behind) in
       let long : length (seen.before ++ two) ≡ saw.place + 2 = omega (arith, seen.at, length-append seen.before two) in
       let back : drop (saw.place + 2) m.pairs ≡ seen.behind = ap (λ (ps : List Pair). drop (saw.place + 2) ps) whole ∙ drop_at (seen.before ++ two) seen.behind (saw.place + 2) long in
-      ap (λ (ps : List Pair). manifest_of (m.generation + 1) m.checkpoint_mark (ps ++ p ∷ drop (saw.place + 2) m.pairs) m.segments) front
-      ∙ ap (λ (ps : List Pair). manifest_of (m.generation + 1) m.checkpoint_mark (seen.before ++ p ∷ ps) m.segments) back
+      ap (λ (ps : List Pair). manifest_of m.version (m.generation + 1) m.checkpoint_mark (ps ++ p ∷ drop (saw.place + 2) m.pairs) m.segments) front
+      ∙ ap (λ (ps : List Pair). manifest_of m.version (m.generation + 1) m.checkpoint_mark (seen.before ++ p ∷ ps) m.segments) back
 
 -- the delta file of a pair has room for the numbers that count
 pub counted_start : (content : Image) (may : ℕ → List ℕ → Type 0) (m : ManifestData) (x : Parts) → IsSettled FIRST_FORMAT content may m x → (p : Pair) → Contains m.pairs p → place_behind p.entries ≤ length (content p.delta_file)

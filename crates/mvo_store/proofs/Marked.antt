@@ -4,6 +4,7 @@ use Rattle.mvo_types.specs.declared.limits.TheConstants.{MAX_STAMP, MAX_SEGMENT_
 use Rattle.mvo_types.specs.Keys.{Map}
 use Rattle.mvo_group.specs.Data.{GroupData}
 use Rattle.mvo_group.specs.Body.{body_of}
+use Rattle.mvo_format.proofs.Versions.{first_known}
 use Rattle.mvo_format.specs.declared.format.TheConstants.{FIRST_FORMAT}
 use Rattle.mvo_format.specs.declared.header.TheConstants.{HEADER_LEN, VERSION}
 use Rattle.mvo_frame.specs.Frames.{Frames, sized, mark_after}
@@ -102,7 +103,16 @@ module _ (f : Format) (image : Image) (m : ManifestData) (rows : Map) (mark gate
       record {
         own = s.own;
         other = s.other;
-        parts = let sealed = have_sealed f image last.sealed m.checkpoint_mark last.earlier last.middle last.before in search (rules, loaded, last, sealed);
+        parts = record {
+          version = s.version;
+          sealed_files = last.sealed;
+          last_file = last.last;
+          segments = last.files;
+          live = loaded.live;
+          distinct = loaded.distinct;
+          sealed = have_sealed f image last.sealed m.checkpoint_mark last.earlier last.middle last.before;
+          last = record { format = last.format; known = last.known; has = last.stands.has; allowed = last.allowed; some = tt };
+        };
       }
 
 -- the store over what was read is safe
@@ -128,6 +138,7 @@ module _ {D : Type 0} (d : Ghosts D) (old new : D) (m : ManifestData) (rows : Ma
   settled_opened =
       let was = installed_loaded FIRST_FORMAT (d.content old) m rows mark gate loaded in
       record {
+        known = first_known;
         installed = installed_framed FIRST_FORMAT (d.content old) (d.content new) m (parts_loaded FIRST_FORMAT (d.content old) m rows mark gate loaded) (λ n _. synced.content n) was;
         durable = λ n used. synced.durable n (used_below m was.own.is n used) used;
       }
@@ -144,10 +155,10 @@ module _ {D : Type 0} (d : Ghosts D) (old new : D) (m : ManifestData) (rows : Ma
 
 -- slot 1 is shut, then file 2 fresh, then slot 0 open
 module _ (shut fresh new : Image) (may_shut may_fresh may_new : ℕ → List ℕ → Type 0) (second : OthersStay 2 shut fresh may_shut may_fresh) (third : OthersStay 0 fresh new may_fresh may_new) where
-  pub written_settled : IsShut (shut 1) → Only (shut 1) (may_shut 1) → fresh 2 ≡ header MAGIC VERSION ++ 0 ∷ [] → Only (fresh 2) (may_fresh 2) → IsOpen VERSION 0 (first_manifest 0 2) (new 0) → Only (new 0) (may_new 0)
-      → IsSettled FIRST_FORMAT new may_new (first_manifest 0 2) no_parts
+  pub written_settled : IsShut (shut 1) → Only (shut 1) (may_shut 1) → fresh 2 ≡ header MAGIC VERSION ++ 0 ∷ [] → Only (fresh 2) (may_fresh 2) → IsOpen 0 (first_manifest VERSION 0 2) (new 0) → Only (new 0) (may_new 0)
+      → IsSettled FIRST_FORMAT new may_new (first_manifest VERSION 0 2) no_parts
   written_settled is_shut shut_only bytes fresh_only is_open open_only =
-      first_settled FIRST_FORMAT new may_new 0 2 is_open (subst IsShut (sym same_second) is_shut)
+      first_settled FIRST_FORMAT first_known new may_new 0 2 is_open (subst IsShut (sym same_second) is_shut)
       (record { frames = λ mark. fresh_frames VERSION mark (new 2) (third.content 2 (λ e. omega (arith, e)) ∙ bytes); durable = only_stays FIRST_FORMAT fresh new may_fresh may_new 0 third 2 (λ e. omega (arith, e)) fresh_only })
       slots
     where
@@ -164,10 +175,10 @@ none_stands faults content few shut =
     ap (λ (b : Bool). or_next (when b ClockSpent) (or_next (when (has_open_slot content) AlreadyFormatted) None)) (lt-leb MAX_FAULTS faults few) ∙ ap (λ (b : Bool). or_next (when b AlreadyFormatted) None) shut
 
 module _ {D : Type 0} (d : Ghosts D) (old new : D) where
-  pub is_formatted : why_not_format (d.fault_count old) (d.content old) ≡ None → ((n : ℕ) → d.may_leave new n (d.content new n)) → IsSettled FIRST_FORMAT (d.content new) (d.may_leave new) (first_manifest 0 2) no_parts → HasSlots (d.content new)
+  pub is_formatted : why_not_format (d.fault_count old) (d.content old) ≡ None → ((n : ℕ) → d.may_leave new n (d.content new n)) → IsSettled FIRST_FORMAT (d.content new) (d.may_leave new) (first_manifest VERSION 0 2) no_parts → HasSlots (d.content new)
       → IsFormatted d old new
   is_formatted free stays settled slots =
-      let gives : (image : Image) → AllOf (d.may_leave new) image → Gives map.empty 0 image = settled_gives FIRST_FORMAT (d.content new) (d.may_leave new) (first_manifest 0 2) no_parts settled in
-      let images : (image : Image) → AllOf (d.may_leave new) image → MayBeLeft map.empty 0 None image = λ image all. record { slots = settled_slots d new (first_manifest 0 2) no_parts settled slots image all; gives = gives image all } in
+      let gives : (image : Image) → AllOf (d.may_leave new) image → Gives map.empty 0 image = settled_gives FIRST_FORMAT (d.content new) (d.may_leave new) (first_manifest VERSION 0 2) no_parts settled in
+      let images : (image : Image) → AllOf (d.may_leave new) image → MayBeLeft map.empty 0 None image = λ image all. record { slots = settled_slots d new (first_manifest VERSION 0 2) no_parts settled slots image all; gives = gives image all } in
       let now = gives (d.content new) stays in
       search

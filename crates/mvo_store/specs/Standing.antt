@@ -53,7 +53,7 @@ HasBody x (Some g) gate next bytes = IsBodyBehindGate VERSION x.middle x.last g 
 abbrev pub HasInstall : InstallStep → ManifestData → ℕ → List ℕ → Type 0
 HasInstall Close next slot bytes = Unit {0}
 HasInstall Body next slot bytes = IsShut bytes
-HasInstall Open next slot bytes = IsStaged VERSION slot next bytes
+HasInstall Open next slot bytes = IsStaged slot next bytes
 
 -- the install that is under way
 abbrev pub HasInstallOf : Option InstallData → ℕ → List ℕ → Type 0

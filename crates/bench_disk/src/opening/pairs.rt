@@ -69,7 +69,7 @@ fn write_pair(alloc: Global, disk: &mut MemDisk, pair: Pair) -> Result<()> {
 // Puts a manifest with an open gate into slot 1, which is empty but for its gate.
 fn write_manifest(alloc: Global, disk: &mut MemDisk, manifest: &Manifest) -> Result<()> {
     let mut bytes = vec![in alloc; 0xa5u8]?;
-    bytes.extend_from_slice(&manifest.encode(alloc, FIRST_FORMAT.version)?)?;
+    bytes.extend_from_slice(&manifest.encode(alloc)?)?;
     if disk.faults() != 0 {
         bail!("a disk without a fault");
     }
@@ -102,7 +102,7 @@ fn write_pairs(alloc: Global, disk: &mut MemDisk, count: u64) -> Result<Vec<Pair
 fn manifest(alloc: Global, pairs: Vec<Pair>, count: u64) -> Result<Manifest> {
     let mark = Stamp((count / PAIRS).wrapping_mul(PAIRS));
     let segments = vec![in alloc; 2u16]?;
-    match Manifest::new(1, mark, pairs, segments)? {
+    match Manifest::new(FIRST_FORMAT.version, 1, mark, pairs, segments)? {
         Some(manifest) => Ok(manifest),
         None => bail!("the pairs and the segment make a manifest"),
     }

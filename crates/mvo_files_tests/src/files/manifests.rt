@@ -40,7 +40,7 @@ fn of_pair(alloc: Global) -> Result<Manifest, Fail> {
     })?;
     let mut segments = Vec::new(alloc);
     segments.push(3)?;
-    Ok(Manifest::new(2, Stamp(2), pairs, segments)?.ok_or("a manifest")?)
+    Ok(Manifest::new(VERSION, 2, Stamp(2), pairs, segments)?.ok_or("a manifest")?)
 }
 
 // The generation of a manifest, that a slot is closed, or a refusal, as a line.
@@ -86,7 +86,7 @@ fn chosen(alloc: Global, first: &[u8], second: &[u8]) -> Result<String, Fail> {
 
 // The manifest is encoded as what stands behind the gate of PAIR.
 fn is_encoded(rt: &impl Abort, alloc: Global, manifest: &Manifest) -> Result<(), Fail> {
-    let bytes = manifest.encode(alloc, VERSION)?;
+    let bytes = manifest.encode(alloc)?;
     same(rt, &Some(bytes.as_slice()), &PAIR.get(1..));
     Ok(())
 }
@@ -141,7 +141,7 @@ fn a_manifest_is_installed(rt: HostRuntime) -> Result<(), Fail> {
     }
     close_slot(&mut disk, 0)?;
     same(&rt, &disk.bytes(0), &[0].as_slice());
-    write_slot(alloc, &mut disk, VERSION, &manifest)?;
+    write_slot(alloc, &mut disk, &manifest)?;
     same(&rt, &disk.bytes(0).get(1..), &PAIR.get(1..));
     open_slot(&mut disk, 0)?;
     same(&rt, &disk.bytes(0), &PAIR.as_slice());

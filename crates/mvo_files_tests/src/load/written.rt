@@ -17,13 +17,14 @@ use std::thread::Threads;
 fn manifest_of(alloc: Global, pairs: &[Pair]) -> Result<Manifest, Fail> {
     let mark = pairs.last().map_or(Stamp(0), |pair| pair.hi);
     let segments = vec![in alloc; 2]?;
-    Ok(Manifest::new(0, mark, pairs.to_vec(alloc)?, segments)?.ok_or("a manifest")?)
+    let manifest = Manifest::new(VERSION, 0, mark, pairs.to_vec(alloc)?, segments)?;
+    Ok(manifest.ok_or("a manifest")?)
 }
 
 /// The bytes of its slot.
 fn slot_of(alloc: Global, manifest: &Manifest) -> Result<Vec<u8>, Fail> {
     let mut slot = vec![in alloc; 0xa5]?;
-    slot.extend_from_slice(&manifest.encode(alloc, VERSION)?)?;
+    slot.extend_from_slice(&manifest.encode(alloc)?)?;
     Ok(slot)
 }
 

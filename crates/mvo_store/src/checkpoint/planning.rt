@@ -84,8 +84,9 @@ fn checkpointed(
     pairs.push(pair)?;
     let segments = manifest.segments();
     let segments = segments[1..].to_vec(alloc)?;
+    let version = manifest.version();
     let generation = manifest.generation() + 1;
-    match Manifest::new(generation, pair.hi, pairs, segments)? {
+    match Manifest::new(version, generation, pair.hi, pairs, segments)? {
         Some(next) => Ok(next),
         None => unreachable!(),
     }

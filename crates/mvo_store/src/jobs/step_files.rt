@@ -18,7 +18,7 @@ use crate::jobs::due::Due;
 use crate::jobs::jobs::Jobs;
 use crate::merge::merging::Merging;
 use mvo_disk::Disk;
-use mvo_format::{FIRST_FORMAT, VERSION};
+use mvo_format::FIRST_FORMAT;
 use mvo_manifest::{Manifest, close_slot, open_slot, write_slot};
 use mvo_pair::write_data;
 use mvo_types::Refusal;
@@ -41,7 +41,7 @@ fn write_other<D: Disk>(alloc: Global, disk: &mut D, next: &Manifest) -> Result<
     requires stands { InstallStands D.Disk disk.old next.now Body }
     ensures { IsInstallStep D.Disk disk.old disk.new next.now Body result }
 {
-    write_slot(alloc, disk, VERSION, next)
+    write_slot(alloc, disk, next)
 }
 
 /// Opens the gate, and syncs.

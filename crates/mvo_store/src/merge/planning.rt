@@ -52,8 +52,15 @@ pub fn merged(
     pairs.push(pair)?;
     pairs.extend_from_slice(&old[place + 2..])?;
     let segments = manifest.segments().to_vec(alloc)?;
+    let version = manifest.version();
     let generation = manifest.generation() + 1;
-    match Manifest::new(generation, manifest.checkpoint_mark(), pairs, segments)? {
+    match Manifest::new(
+        version,
+        generation,
+        manifest.checkpoint_mark(),
+        pairs,
+        segments,
+    )? {
         Some(next) => Ok(next),
         None => unreachable!(),
     }

@@ -29,8 +29,15 @@ fn rotated(alloc: Global, manifest: &Manifest, fresh: u16) -> Result<Manifest, A
     let mut segments = Vec::with_capacity(alloc, manifest.segments().len() + 1)?;
     segments.extend_from_slice(manifest.segments())?;
     segments.push(fresh)?;
+    let version = manifest.version();
     let generation = manifest.generation() + 1;
-    match Manifest::new(generation, manifest.checkpoint_mark(), pairs, segments)? {
+    match Manifest::new(
+        version,
+        generation,
+        manifest.checkpoint_mark(),
+        pairs,
+        segments,
+    )? {
         Some(next) => Ok(next),
         None => unreachable!(),
     }

@@ -1,8 +1,8 @@
 use crate::equal::{holds, same};
 use crate::files::changes::changed;
 use mvo_disk::{Disk, MemDisk};
-use mvo_format::{FIRST_FORMAT, Format, VERSION};
-use mvo_frame::{Kind, Segment, read_all};
+use mvo_format::{Format, VERSION};
+use mvo_frame::{Kind, Segment, next_group, read_all};
 use mvo_group::Group;
 use mvo_types::{Refusal, Stamp};
 use std::alloc::Global;
@@ -25,8 +25,8 @@ fn line_of(alloc: Global, found: Result<(usize, usize), Refusal>) -> Result<Stri
 }
 
 // What is found of a segment, as such a line.
-fn found(alloc: Global, format: Format, kind: Kind, bytes: &[u8]) -> Result<String, Fail> {
-    let found = match read_all(alloc, format, 3, Stamp(0), kind, bytes) {
+fn found(alloc: Global, upto: u32, kind: Kind, bytes: &[u8]) -> Result<String, Fail> {
+    let found = match read_all(alloc, upto, 3, Stamp(0), kind, bytes) {
         Ok(contents) => Ok((contents.groups.len(), contents.gate)),
         Err(refusal) => Err(refusal),
     };
@@ -120,12 +120,12 @@ fn a_group_is_appended(rt: HostRuntime) -> Result<(), Fail> {
 fn finds(
     rt: &impl Abort,
     alloc: Global,
-    format: Format,
+    upto: u32,
     kind: Kind,
     bytes: &[u8],
     line: &str,
 ) -> Result<(), Fail> {
-    same(rt, &found(alloc, format, kind, bytes)?.as_str(), &line);
+    same(rt, &found(alloc, upto, kind, bytes)?.as_str(), &line);
     Ok(())
 }
 
@@ -133,23 +133,16 @@ fn finds(
 fn the_vector_is_read(rt: HostRuntime) -> Result<(), Fail> {
     let alloc = rt.alloc();
     let fresh = b"MVOL\x01\0\0\0\0";
-    finds(&rt, alloc, FIRST_FORMAT, Kind::Last, &SEGMENT, "1 at 62")?;
-    finds(&rt, alloc, FIRST_FORMAT, Kind::Sealed, &SEGMENT, "1 at 62")?;
-    finds(&rt, alloc, FIRST_FORMAT, Kind::Last, fresh, "0 at 8")?;
-    finds(
-        &rt,
-        alloc,
-        FIRST_FORMAT,
-        Kind::Sealed,
-        fresh,
-        "refused 54 3",
-    )
+    finds(&rt, alloc, VERSION, Kind::Last, &SEGMENT, "1 at 62")?;
+    finds(&rt, alloc, VERSION, Kind::Sealed, &SEGMENT, "1 at 62")?;
+    finds(&rt, alloc, VERSION, Kind::Last, fresh, "0 at 8")?;
+    finds(&rt, alloc, VERSION, Kind::Sealed, fresh, "refused 54 3")
 }
 
 // What is found of a last segment is what a plain reading finds.
 fn agrees(rt: &impl Abort, alloc: Global, bytes: &[u8]) -> Result<(), Fail> {
     let line = plain(alloc, bytes)?;
-    finds(rt, alloc, FIRST_FORMAT, Kind::Last, bytes, &line)
+    finds(rt, alloc, VERSION, Kind::Last, bytes, &line)
 }
 
 // Cut at each length, and with each other value at each byte.
@@ -167,20 +160,37 @@ fn each_change_is_found(rt: HostRuntime) -> Result<(), Fail> {
     Ok(())
 }
 
-// The put has table 0 and one byte of data.
+// What is found of the first group, where its version allows so many bytes of data in a row. The put
+// has table 0 and one byte.
+fn first_group(alloc: Global, max_data_len: u16) -> Result<String, Fail> {
+    let format = Format {
+        version: VERSION,
+        max_table: 0,
+        max_data_len,
+    };
+    let found = match next_group(alloc, format, 3, 8, Stamp(0), &SEGMENT[8..]) {
+        Ok(Some((group, rest))) => Ok((group.mark().0 as usize, rest.len())),
+        Ok(None) => Ok((0, 0)),
+        Err(refusal) => Err(refusal),
+    };
+    line_of(alloc, found)
+}
+
 #[test]
 fn the_limits_are_those_of_the_version(rt: HostRuntime) -> Result<(), Fail> {
     let alloc = rt.alloc();
-    let enough = Format {
-        version: VERSION,
-        max_table: 0,
-        max_data_len: 1,
-    };
-    finds(&rt, alloc, enough, Kind::Last, &SEGMENT, "1 at 62")?;
-    let short = Format {
-        version: VERSION,
-        max_table: 0,
-        max_data_len: 0,
-    };
-    finds(&rt, alloc, short, Kind::Last, &SEGMENT, "refused 54 3")
+    same(&rt, &first_group(alloc, 1)?.as_str(), &"2 at 1");
+    same(&rt, &first_group(alloc, 0)?.as_str(), &"refused 54 3");
+    Ok(())
+}
+
+// A segment of a later version than is asked for.
+#[test]
+fn a_later_segment_is_not_read(rt: HostRuntime) -> Result<(), Fail> {
+    let alloc = rt.alloc();
+    let later = changed(alloc, &SEGMENT, 4, 3)?;
+    finds(&rt, alloc, 1, Kind::Last, &later, "refused 55")?;
+    finds(&rt, alloc, 2, Kind::Last, &later, "1 at 62")?;
+    finds(&rt, alloc, 2, Kind::Last, &SEGMENT, "1 at 62")?;
+    finds(&rt, alloc, 0, Kind::Last, &SEGMENT, "refused 55")
 }
