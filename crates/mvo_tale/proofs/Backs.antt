@@ -4,7 +4,7 @@ use Rattle.std.specs.Prelude.{slice_get, MatchBool}
 use Rattle.std.proofs.lemmas.List.{take_all, take_more}
 use Rattle.std.proofs.lemmas.Option.{slice_get_within, slice_get-get_or, get_or_from_slice_get}
 use Rattle.mvo_tale.specs.declared.tale_place.TalePlace.{TalePlace}
-use Rattle.mvo_tale.specs.declared.tale_place.TalePlace.TheVariants.{Open, Settled, Empty}
+use Rattle.mvo_tale.specs.declared.tale_place.TalePlace.TheVariants.{Open, Reading, Settled, Empty}
 use Rattle.mvo_tale.specs.Slots.{ends, is_empty, and_place, without_empty_back}
 
 -- ---- the last one goes
@@ -52,6 +52,7 @@ last_there (x ∷ xs) some none =
 -- ---- the ends stay
 ends_and : (x : TalePlace) (ys : List TalePlace) → ends (and_place x ys) ≡ ends (x ∷ ys)
 ends_and (Open e) [] = refl
+ends_and (Reading b) [] = refl
 ends_and (Settled c) [] = refl
 ends_and Empty [] = refl
 ends_and x (y ∷ ys) = refl
@@ -62,5 +63,6 @@ ends_without (x ∷ xs) = ends_and x (without_empty_back xs) ∙ more x (ends_wi
   where
     more : (y : TalePlace) → ends (without_empty_back xs) ≡ ends xs → ends (y ∷ without_empty_back xs) ≡ ends (y ∷ xs)
     more (Open e) h = ap (λ es. e.0 ∷ es) h
+    more (Reading b) h = ap (λ es. b.0 ∷ es) h
     more (Settled c) h = ap (λ es. c.end ∷ es) h
     more Empty h = h

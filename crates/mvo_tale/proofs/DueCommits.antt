@@ -10,11 +10,11 @@ use Rattle.mvo_theory.specs.Marks.{Commit}
 use Rattle.mvo_theory.specs.Groups.{is_writing, is_due}
 use Rattle.mvo_theory.proofs.Each.{each_append, each_weaker}
 use Rattle.mvo_tale.specs.declared.tale_place.TalePlace.{TalePlace}
-use Rattle.mvo_tale.specs.declared.tale_place.TalePlace.TheVariants.{Open, Settled, Empty}
+use Rattle.mvo_tale.specs.declared.tale_place.TalePlace.TheVariants.{Open, Reading, Settled, Empty}
 use Rattle.mvo_tale.specs.Stored.{StoredCommit, stored_commit_of}
 use Rattle.mvo_tale.specs.Slots.{ends, open_ends, tale_commits, AreRising}
 use Rattle.mvo_tale.specs.Next.{due_in, NoneIsDue}
-use Rattle.mvo_tale.specs.Walk.{IsWalkEnd, IsPassed, IsDueAt}
+use Rattle.mvo_tale.specs.Walk.{IsWalkEnd, IsPassedOver, IsPassed, IsDueAt}
 use Rattle.mvo_tale.proofs.Rising.{commits-append, open_ends-append, rising_drop, open_drop}
 
 abbrev is_up_to : ℕ → Commit → Bool
@@ -27,6 +27,9 @@ and_false false = refl
 
 pub within_not_due : (mark : ℕ) (c : Commit) → c.0 ≤ mark → is_due mark c ≡ false
 within_not_due mark c le = ap (λ (b : Bool). b && is_writing c) (le-ltb mark c.0 le)
+
+pub idle_not_due : (mark : ℕ) (c : Commit) → is_writing c ≡ false → is_due mark c ≡ false
+idle_not_due mark c idle = ap (λ (w : Bool). nat_lt mark c.0 && w) idle ∙ and_false (nat_lt mark c.0)
 
 pub not_due_later : (m n : ℕ) (c : Commit) → m ≤ n → is_due m c ≡ false → is_due n c ≡ false
 not_due_later m n c le = go (nat_lt m c.0) refl (is_writing c)
@@ -91,6 +94,25 @@ due_passed prev low x h =
     ∙ due_one prev low (stored_commit_of h.commit) [] h.within
     ∙ ap (λ (b : Bool). cond b (stored_commit_of h.commit ∷ []) []) h.due
 
+-- where no commit is, and none that wrote will be
+pub due_over : (prev low : ℕ) (x : TalePlace) → IsPassedOver x → due_in prev low (x ∷ []) ≡ []
+due_over prev low (Open e) h = absurd h
+due_over prev low (Reading b) h = refl
+due_over prev low (Settled c) h = absurd h
+due_over prev low Empty h = refl
+
+pub none_over : (mark : ℕ) (x : TalePlace) → IsPassedOver x → NoneIsDue mark (tale_commits (x ∷ []))
+none_over mark (Open e) h = absurd h
+none_over mark (Reading b) h = tt
+none_over mark (Settled c) h = absurd h
+none_over mark Empty h = tt
+
+pub opens_over : (x : TalePlace) → IsPassedOver x → open_ends (x ∷ []) ≡ []
+opens_over (Open e) h = absurd h
+opens_over (Reading b) h = refl
+opens_over (Settled c) h = absurd h
+opens_over Empty h = refl
+
 pub passed_within : (low : ℕ) (x : TalePlace) (commit : StoredCommit) → x ≡ Settled commit → commit.end ≤ low → NoneIsDue low (tale_commits (x ∷ []))
 passed_within low x commit is le = subst (λ y. NoneIsDue low (tale_commits (y ∷ []))) (sym is) (within_not_due low (stored_commit_of commit) le, tt)
 
@@ -98,6 +120,7 @@ passed_within low x commit is le = subst (λ y. NoneIsDue low (tale_commits (y �
 above_low : (low : ℕ) (xs : List TalePlace) → AllByRecursion (λ e. low < e) (ends xs) → filter (is_up_to low) (tale_commits xs) ≡ []
 above_low low [] h = refl
 above_low low (Open e ∷ xs) h = above_low low xs h.1
+above_low low (Reading b ∷ xs) h = above_low low xs h.1
 above_low low (Settled x ∷ xs) h = ap (λ (b : Bool). cond b (stored_commit_of x ∷ filter (is_up_to low) (tale_commits xs)) (filter (is_up_to low) (tale_commits xs))) (lt-leb x.end low h.0) ∙ above_low low xs h.1
 above_low low (Empty ∷ xs) h = above_low low xs h
 
@@ -106,6 +129,7 @@ from_above low e xs lt h = each_weaker (λ d. e < d) (λ d. low < d) (λ d l. om
 
 stop_above : (low : ℕ) (x : TalePlace) (xs : List TalePlace) → IsWalkEnd low x → AreRising (ends (x ∷ xs)) → AllByRecursion (λ e. low < e) (open_ends (x ∷ xs)) → AllByRecursion (λ e. low < e) (ends (x ∷ xs))
 stop_above low (Open e) xs s r o = (o.0, from_above low e.0 xs o.0 r.0)
+stop_above low (Reading b) xs s r o = absurd s
 stop_above low (Settled y) xs s r o = (s, from_above low y.end xs s r.0)
 stop_above low Empty xs s r o = absurd s
 

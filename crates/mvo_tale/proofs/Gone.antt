@@ -5,8 +5,8 @@ use Rattle.std.proofs.lemmas.Bool.{false≢true}
 use Rattle.std.proofs.lemmas.Option.{get_or_from_slice_get, slice_get-get_or}
 use Rattle.mvo_tale.proofs.Backs.{ends_without}
 use Rattle.mvo_tale.specs.declared.tale_place.TalePlace.{TalePlace}
-use Rattle.mvo_tale.specs.declared.tale_place.TalePlace.TheVariants.{Open, Settled, Empty}
-use Rattle.mvo_tale.specs.Slots.{AreRising, ends, open_ends, tale_commits, open_end_of, open_end_at, stored_of, stored_at, and_place, without_empty_back, or_all, closed_up}
+use Rattle.mvo_tale.specs.declared.tale_place.TalePlace.TheVariants.{Open, Reading, Settled, Empty}
+use Rattle.mvo_tale.specs.Slots.{AreRising, ends, open_ends, tale_commits, pending_end_of, pending_end_at, stored_of, stored_at, and_place, without_empty_back, or_all, closed_up}
 use Rattle.mvo_tale.specs.Next.{NoneIsDue, IsBehindStored, AreGroupedTo}
 use Rattle.mvo_tale.specs.Forgetting.{behind_gone, slot_or_empty, may_go, from_kept, forgotten}
 
@@ -72,22 +72,22 @@ slot_there o q e = e ∙ ap Some (sym (ap slot_or_empty e))
 pub slot_within : (xs : List TalePlace) (p : ℕ) (o : Option TalePlace) → o ≡ slice_get xs p → p < length xs → slice_get xs p ≡ Some (slot_or_empty o)
 slot_within xs p o e lt = sym e ∙ slot_there o (get_or xs p Empty) (e ∙ slice_get-get_or xs p Empty lt)
 
--- ---- an open place isn't gone
-pub open_after : (n p : ℕ) (xs : List TalePlace) → IsSome (open_end_at (behind_gone n xs) p) → n ≤ p
-open_after zero p xs h = omega arith
-open_after (suc n) zero xs h = absurd (false≢true h)
-open_after (suc n) (suc p) xs h = let le = open_after n p xs h in omega arith
+-- ---- a place that is open for its end isn't gone
+pub pending_after : (n p : ℕ) (xs : List TalePlace) → IsSome (pending_end_at (behind_gone n xs) p) → n ≤ p
+pending_after zero p xs h = omega arith
+pending_after (suc n) zero xs h = absurd (false≢true h)
+pending_after (suc n) (suc p) xs h = let le = pending_after n p xs h in omega arith
 
-pub open_moved : (n p : ℕ) (xs : List TalePlace) → n ≤ p → open_end_at (behind_gone n xs) p ≡ open_end_at xs (p - n)
-open_moved n p xs le = ap (option_and_then open_end_of) (get_behind n p xs le)
+pub pending_moved : (n p : ℕ) (xs : List TalePlace) → n ≤ p → pending_end_at (behind_gone n xs) p ≡ pending_end_at xs (p - n)
+pending_moved n p xs le = ap (option_and_then pending_end_of) (get_behind n p xs le)
 
-pub open_within : (xs : List TalePlace) (q : ℕ) → IsSome (open_end_at xs q) → q < length xs
-open_within [] q h = absurd (false≢true h)
-open_within (x ∷ xs) zero h = omega arith
-open_within (x ∷ xs) (suc q) h = let lt = open_within xs q h in omega arith
+pub pending_within : (xs : List TalePlace) (q : ℕ) → IsSome (pending_end_at xs q) → q < length xs
+pending_within [] q h = absurd (false≢true h)
+pending_within (x ∷ xs) zero h = omega arith
+pending_within (x ∷ xs) (suc q) h = let lt = pending_within xs q h in omega arith
 
-pub open_there : (n p : ℕ) (xs : List TalePlace) → IsSome (open_end_at (behind_gone n xs) p) → p - n < length xs
-open_there n p xs h = open_within xs (p - n) (subst (λ o. IsSome o) (open_moved n p xs (open_after n p xs h)) h)
+pub pending_there : (n p : ℕ) (xs : List TalePlace) → IsSome (pending_end_at (behind_gone n xs) p) → p - n < length xs
+pending_there n p xs h = pending_within xs (p - n) (subst (λ o. IsSome o) (pending_moved n p xs (pending_after n p xs h)) h)
 
 -- ---- the empty ones at the back go
 nil_cons : (x : TalePlace) (xs : List TalePlace) → ◌≡◌ {A = List TalePlace} (x ∷ xs) [] → ⊥
@@ -119,6 +119,7 @@ all_empty n (x ∷ xs) e = rest x (without_empty_back xs) (λ i. all_empty (suc 
     rest : (x : TalePlace) (ws : List TalePlace) → (without_empty_back xs ≡ [] → behind_gone (suc n) xs ≡ behind_gone (suc n + length xs) []) → without_empty_back xs ≡ ws → and_place x ws ≡ [] → behind_gone n (x ∷ xs) ≡ behind_gone (n + suc (length xs)) []
     rest x (w ∷ ws) r i h = absurd (nil_cons x (w ∷ ws) h)
     rest (Open d) [] r i h = absurd (nil_cons (Open d) [] h)
+    rest (Reading b) [] r i h = absurd (nil_cons (Reading b) [] h)
     rest (Settled c) [] r i h = absurd (nil_cons (Settled c) [] h)
     rest Empty [] r i h =
         let k : suc n + length xs ≡ n + suc (length xs) = omega arith in
@@ -188,6 +189,7 @@ forgotten_behind upto n k xs e =
 
 rising_rest : (x : TalePlace) (xs : List TalePlace) → AreRising (ends (x ∷ xs)) → AreRising (ends xs)
 rising_rest (Open d) xs h = h.1
+rising_rest (Reading b) xs h = h.1
 rising_rest (Settled c) xs h = h.1
 rising_rest Empty xs h = h
 

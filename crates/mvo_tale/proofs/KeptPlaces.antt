@@ -7,7 +7,7 @@ use Rattle.mvo_theory.specs.Changes.{is_to}
 use Rattle.mvo_theory.proofs.Each.{each_weaker, each_append}
 use Rattle.mvo_theory.proofs.Trim.{is_after, parted}
 use Rattle.mvo_tale.specs.declared.tale_place.TalePlace.{TalePlace}
-use Rattle.mvo_tale.specs.declared.tale_place.TalePlace.TheVariants.{Open, Settled, Empty}
+use Rattle.mvo_tale.specs.declared.tale_place.TalePlace.TheVariants.{Open, Reading, Settled, Empty}
 use Rattle.mvo_tale.specs.Stored.{StoredCommit}
 use Rattle.mvo_tale.specs.Timeline.{ArePlacesOf}
 use Rattle.std.specs.Prelude.{nat_le}
@@ -27,6 +27,7 @@ pub places_parted : (slots : List TalePlace) (xs ys : List StampedTx) → ArePla
 places_parted slots [] ys h = record { front = []; back = slots; are = refl; first = tt; second = h }
 places_parted [] (x ∷ xs) ys h = absurd h
 places_parted (Open e ∷ slots) (x ∷ xs) ys h = let p = places_parted slots xs ys h.1 in record { front = Open e ∷ p.front; back = p.back; are = ap (λ (l : List TalePlace). Open e ∷ l) p.are; first = (h.0, p.first); second = p.second }
+places_parted (Reading b ∷ slots) (x ∷ xs) ys h = absurd h
 places_parted (Settled c ∷ slots) (x ∷ xs) ys h = let p = places_parted slots xs ys h.1 in record { front = Settled c ∷ p.front; back = p.back; are = ap (λ (l : List TalePlace). Settled c ∷ l) p.are; first = (h.0, p.first); second = p.second }
 places_parted (Empty ∷ slots) (x ∷ xs) ys h = let p = places_parted slots (x ∷ xs) ys h in record { front = Empty ∷ p.front; back = p.back; are = ap (λ (l : List TalePlace). Empty ∷ l) p.are; first = p.first; second = p.second }
 
@@ -35,6 +36,8 @@ places_joined [] back [] ys a b = b
 places_joined [] back (x ∷ xs) ys a b = absurd a
 places_joined (Open e ∷ front) back [] ys a b = absurd a
 places_joined (Open e ∷ front) back (x ∷ xs) ys a b = (a.0, places_joined front back xs ys a.1 b)
+places_joined (Reading d ∷ front) back [] ys a b = absurd a
+places_joined (Reading d ∷ front) back (x ∷ xs) ys a b = absurd a
 places_joined (Settled c ∷ front) back [] ys a b = absurd a
 places_joined (Settled c ∷ front) back (x ∷ xs) ys a b = (a.0, places_joined front back xs ys a.1 b)
 places_joined (Empty ∷ front) back [] ys a b = empty_more (front ++ back) ys (places_joined front back [] ys a b)
@@ -106,6 +109,7 @@ empty_comes s slots h = record { gone = h.gone; kept = h.kept; parts = h.parts; 
 pub tale_forgotten : ForgettingKeepsTale
 tale_forgotten s upto [] st a b h = h
 tale_forgotten s upto (Open e ∷ slots) st a b h = h
+tale_forgotten s upto (Reading d ∷ slots) st a b h = h
 tale_forgotten s upto (Settled c ∷ slots) st a b h = go (nat_le c.end upto) refl (λ k. tale_forgotten s upto slots st a b k)
   where
     go : (x : Bool) → nat_le c.end upto ≡ x → (HasTale s slots → HasTale s (forgotten upto slots)) → HasTale s (cond x (Empty ∷ forgotten upto slots) (Settled c ∷ slots))

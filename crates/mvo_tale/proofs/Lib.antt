@@ -7,5 +7,6 @@ pub mod Gone
 pub mod DueCommits
 pub mod Grouping
 pub mod Moving
+pub mod ReadingPlaces
 pub mod NextGroups
 pub mod KeptPlaces

@@ -4,7 +4,7 @@ use Rattle.std.specs.Prelude.{slice_set, IsSome, nat_le}
 use Rattle.std.proofs.lemmas.Bool.{false≢true}
 use Rattle.mvo_types.specs.declared.ids.Stamp.{Stamp}
 use Rattle.mvo_tale.specs.declared.tale_place.TalePlace.{TalePlace}
-use Rattle.mvo_tale.specs.declared.tale_place.TalePlace.TheVariants.{Open, Settled, Empty}
+use Rattle.mvo_tale.specs.declared.tale_place.TalePlace.TheVariants.{Open, Reading, Settled, Empty}
 use Rattle.mvo_tale.specs.Stored.{StoredCommit}
 use Rattle.mvo_tale.specs.Slots.{open_ends, tale_commits, open_end_at, stored_of, stored_at, and_place, without_empty_back, or_all, closed_up}
 use Rattle.mvo_tale.specs.Forgetting.{forgotten}
@@ -22,6 +22,9 @@ nil_cons x xs h = cc
 open_empty : (e : Stamp) (xs ys : List TalePlace) → ◌≡◌ {A = List TalePlace} (Empty ∷ ys) (Open e ∷ xs) → ⊥
 open_empty e xs ys h = cc
 
+reading_empty : (b : Stamp) (xs ys : List TalePlace) → ◌≡◌ {A = List TalePlace} (Empty ∷ ys) (Reading b ∷ xs) → ⊥
+reading_empty b xs ys h = cc
+
 settled_empty : (c : StoredCommit) (xs ys : List TalePlace) → ◌≡◌ {A = List TalePlace} (Empty ∷ ys) (Settled c ∷ xs) → ⊥
 settled_empty c xs ys h = cc
 
@@ -37,15 +40,22 @@ behind_same [] ys (suc n) e h = absurd h
 behind_same (x ∷ xs) [] (suc n) e h = absurd (nil_cons x (take n xs) e)
 behind_same (Empty ∷ xs) (Empty ∷ ys) (suc n) e h = behind_same xs ys n (same_rest Empty Empty (take n xs) (take n ys) e) h
 behind_same (Empty ∷ xs) (Open d ∷ ys) (suc n) e h = absurd (open_empty d (take n ys) (take n xs) (sym e))
+behind_same (Empty ∷ xs) (Reading d ∷ ys) (suc n) e h = absurd (reading_empty d (take n ys) (take n xs) (sym e))
 behind_same (Empty ∷ xs) (Settled c ∷ ys) (suc n) e h = absurd (settled_empty c (take n ys) (take n xs) (sym e))
 behind_same (Open d ∷ xs) (Empty ∷ ys) (suc n) e h = absurd (open_empty d (take n xs) (take n ys) e)
 behind_same (Open d ∷ xs) (Open f ∷ ys) (suc n) e h = stored_same (Open d ∷ xs) (Open f ∷ ys) n e h
+behind_same (Open d ∷ xs) (Reading f ∷ ys) (suc n) e h = stored_same (Open d ∷ xs) (Reading f ∷ ys) n e h
 behind_same (Open d ∷ xs) (Settled c ∷ ys) (suc n) e h = stored_same (Open d ∷ xs) (Settled c ∷ ys) n e h
+behind_same (Reading d ∷ xs) (Empty ∷ ys) (suc n) e h = absurd (reading_empty d (take n xs) (take n ys) e)
+behind_same (Reading d ∷ xs) (Open f ∷ ys) (suc n) e h = stored_same (Reading d ∷ xs) (Open f ∷ ys) n e h
+behind_same (Reading d ∷ xs) (Reading f ∷ ys) (suc n) e h = stored_same (Reading d ∷ xs) (Reading f ∷ ys) n e h
+behind_same (Reading d ∷ xs) (Settled c ∷ ys) (suc n) e h = stored_same (Reading d ∷ xs) (Settled c ∷ ys) n e h
 behind_same (Settled b ∷ xs) (Empty ∷ ys) (suc n) e h = absurd (settled_empty b (take n xs) (take n ys) e)
 behind_same (Settled b ∷ xs) (Open f ∷ ys) (suc n) e h = stored_same (Settled b ∷ xs) (Open f ∷ ys) n e h
+behind_same (Settled b ∷ xs) (Reading f ∷ ys) (suc n) e h = stored_same (Settled b ∷ xs) (Reading f ∷ ys) n e h
 behind_same (Settled b ∷ xs) (Settled c ∷ ys) (suc n) e h = stored_same (Settled b ∷ xs) (Settled c ∷ ys) n e h
 
-grouped_same : (xs ys : List TalePlace) (place mark : ℕ) → take place ys ≡ take place xs → AreGroupedTo xs place mark → AreGroupedTo ys place mark
+pub grouped_same : (xs ys : List TalePlace) (place mark : ℕ) → take place ys ≡ take place xs → AreGroupedTo xs place mark → AreGroupedTo ys place mark
 grouped_same xs ys place mark e h = record {
   behind = behind_same xs ys place e h.behind;
   settled = ap open_ends e ∙ h.settled;
@@ -69,10 +79,15 @@ front_same xs ys zero h = refl
 front_same [] ys (suc n) h = absurd h
 front_same (Empty ∷ xs) ys (suc n) h = ap (λ zs. Empty ∷ zs) (front_same xs ys n h)
 front_same (Open d ∷ xs) ys (suc n) h = front_stored (Open d ∷ xs) ys n h
+front_same (Reading d ∷ xs) ys (suc n) h = front_stored (Reading d ∷ xs) ys n h
 front_same (Settled c ∷ xs) ys (suc n) h = front_stored (Settled c ∷ xs) ys n h
 
 pub grouped_opened : (slots : List TalePlace) (place mark : ℕ) (e : Stamp) → AreGroupedTo slots place mark → AreGroupedTo (slots ++ Open e ∷ []) place mark
 grouped_opened slots place mark e h = grouped_same slots (slots ++ Open e ∷ []) place mark (front_same slots (Open e ∷ []) place h.behind) h
+
+-- the same for a read-only one
+pub grouped_begun : (slots : List TalePlace) (place mark : ℕ) (b : Stamp) → AreGroupedTo slots place mark → AreGroupedTo (slots ++ Reading b ∷ []) place mark
+grouped_begun slots place mark b h = grouped_same slots (slots ++ Reading b ∷ []) place mark (front_same slots (Reading b ∷ []) place h.behind) h
 
 -- ---- an open place, which is none of those before, becomes another
 cons_nil : (e : ℕ) (es : List ℕ) → ◌≡◌ {A = List ℕ} (e ∷ es) [] → ⊥
@@ -85,6 +100,8 @@ open_behind : (xs : List TalePlace) (place p : ℕ) → open_ends (take place xs
 open_behind xs zero p h k = omega arith
 open_behind [] (suc n) p h k = absurd (none_open k)
 open_behind (Open e ∷ xs) (suc n) p h k = absurd (cons_nil e.0 (open_ends (take n xs)) h)
+open_behind (Reading b ∷ xs) (suc n) zero h k = absurd (none_open k)
+open_behind (Reading b ∷ xs) (suc n) (suc p) h k = let le = open_behind xs n p h k in omega arith
 open_behind (Settled x ∷ xs) (suc n) zero h k = absurd (none_open k)
 open_behind (Settled x ∷ xs) (suc n) (suc p) h k = let le = open_behind xs n p h k in omega arith
 open_behind (Empty ∷ xs) (suc n) zero h k = absurd (none_open k)
@@ -106,6 +123,7 @@ grouped_settled slots place mark p x k h = grouped_set slots place mark p (Settl
 -- ---- it is left
 and_kept : (x : TalePlace) (ys : List TalePlace) → IsSome (stored_of x) → and_place x ys ≡ x ∷ ys
 and_kept (Open e) ys h = absurd (none_open h)
+and_kept (Reading b) ys h = absurd (none_open h)
 and_kept (Settled c) [] h = refl
 and_kept (Settled c) (y ∷ ys) h = refl
 and_kept Empty ys h = absurd (none_open h)
@@ -124,6 +142,7 @@ front_back : (xs : List TalePlace) (place : ℕ) (y : TalePlace) (ys : List Tale
 front_back xs zero y ys h e = refl
 front_back [] (suc n) y ys h e = absurd h
 front_back (Open d ∷ xs) (suc n) y ys h e = front_kept (Open d ∷ xs) n h
+front_back (Reading d ∷ xs) (suc n) y ys h e = front_kept (Reading d ∷ xs) n h
 front_back (Settled c ∷ xs) (suc n) y ys h e = front_kept (Settled c ∷ xs) n h
 front_back (Empty ∷ xs) (suc n) y ys h e = go (without_empty_back xs) (λ w ws i. front_back xs n w ws h i) refl e
   where
@@ -131,7 +150,7 @@ front_back (Empty ∷ xs) (suc n) y ys h e = go (without_empty_back xs) (λ w ws
     go [] r i k = absurd (nil_cons y ys k)
     go (w ∷ ws) r i k = ap (λ zs. Empty ∷ zs) (ap (take n) (sym i) ∙ r w ws i)
 
-front_closed : (xs : List TalePlace) (place : ℕ) → IsBehindStored xs place → take place (closed_up xs) ≡ take place xs
+pub front_closed : (xs : List TalePlace) (place : ℕ) → IsBehindStored xs place → take place (closed_up xs) ≡ take place xs
 front_closed xs place h = go (without_empty_back xs) refl
   where
     go : (ws : List TalePlace) → without_empty_back xs ≡ ws → take place (or_all xs ws) ≡ take place xs
@@ -147,6 +166,7 @@ grouped_left slots place mark p k h =
 pub stored_behind : (xs : List TalePlace) (n : ℕ) → IsSome (stored_at xs n) → IsBehindStored xs (suc n)
 stored_behind [] n h = absurd (none_there n h)
 stored_behind (Open d ∷ xs) n h = h
+stored_behind (Reading d ∷ xs) n h = h
 stored_behind (Settled c ∷ xs) n h = h
 stored_behind (Empty ∷ xs) zero h = absurd (none_open h)
 stored_behind (Empty ∷ xs) (suc n) h = stored_behind xs n h
@@ -159,6 +179,7 @@ pub grouped_forgotten : (upto : ℕ) (slots : List TalePlace) (place mark : ℕ)
 grouped_forgotten upto slots zero mark h = record { behind = tt; settled = refl; grouped = tt }
 grouped_forgotten upto [] (suc n) mark h = h
 grouped_forgotten upto (Open d ∷ xs) (suc n) mark h = h
+grouped_forgotten upto (Reading d ∷ xs) (suc n) mark h = h
 grouped_forgotten upto (Empty ∷ xs) (suc n) mark h =
     let r = grouped_forgotten upto xs n mark (record { behind = h.behind; settled = h.settled; grouped = h.grouped }) in
     record { behind = r.behind; settled = r.settled; grouped = r.grouped }

@@ -10,7 +10,7 @@ use Rattle.mvo_theory.specs.Marks.{Commit, settled_to, low_water}
 use Rattle.mvo_theory.specs.Groups.{is_due, IsLongest, mark_by, due, IsNextGroup}
 use Rattle.mvo_theory.proofs.Groups.{AreLimits}
 use Rattle.mvo_tale.specs.declared.tale_place.TalePlace.{TalePlace}
-use Rattle.mvo_tale.specs.declared.tale_place.TalePlace.TheVariants.{Open, Settled, Empty}
+use Rattle.mvo_tale.specs.declared.tale_place.TalePlace.TheVariants.{Open, Reading, Settled, Empty}
 use Rattle.mvo_tale.specs.declared.next_records.NextRecords.{NextRecords}
 use Rattle.mvo_tale.specs.Stored.{StoredCommit, stored_commit_of}
 use Rattle.mvo_tale.specs.Slots.{ends, open_ends, tale_commits}
@@ -24,6 +24,8 @@ ends_of_places [] [] h = refl
 ends_of_places [] (x ∷ xs) h = absurd h
 ends_of_places (Open e ∷ slots) [] h = absurd h
 ends_of_places (Open e ∷ slots) (x ∷ xs) h = ap (λ (d : ℕ). d ∷ ends slots) (sym h.0.1) ∙ ap (λ es. x.end ∷ es) (ends_of_places slots xs h.1)
+ends_of_places (Reading b ∷ slots) [] h = absurd h
+ends_of_places (Reading b ∷ slots) (x ∷ xs) h = absurd h
 ends_of_places (Settled c ∷ slots) [] h = absurd h
 ends_of_places (Settled c ∷ slots) (x ∷ xs) h = ap (λ (d : ℕ). d ∷ ends slots) (sym h.0.end') ∙ ap (λ es. x.end ∷ es) (ends_of_places slots xs h.1)
 ends_of_places (Empty ∷ slots) [] h = ends_of_places slots [] h
@@ -34,6 +36,8 @@ open_ends_above m [] [] h k = tt
 open_ends_above m [] (x ∷ xs) h k = tt
 open_ends_above m (Open e ∷ slots) [] h k = absurd h
 open_ends_above m (Open e ∷ slots) (x ∷ xs) h k = (let lt = k.0 h.0.0 in let same = h.0.1 in omega arith, open_ends_above m slots xs h.1 k.1)
+open_ends_above m (Reading b ∷ slots) [] h k = absurd h
+open_ends_above m (Reading b ∷ slots) (x ∷ xs) h k = absurd h
 open_ends_above m (Settled c ∷ slots) [] h k = absurd h
 open_ends_above m (Settled c ∷ slots) (x ∷ xs) h k = open_ends_above m slots xs h.1 k.1
 open_ends_above m (Empty ∷ slots) [] h k = open_ends_above m slots [] h k
@@ -47,6 +51,8 @@ settled_to_places m [] [] h = refl
 settled_to_places m [] (x ∷ xs) h = absurd h
 settled_to_places m (Open e ∷ slots) [] h = absurd h
 settled_to_places m (Open e ∷ slots) (x ∷ xs) h = ap (λ (b : Bool). cond (b && nat_le x.end m) ((x.end, x.history) ∷ settled_to m xs) (settled_to m xs)) h.0.0 ∙ settled_to_places m slots xs h.1
+settled_to_places m (Reading b ∷ slots) [] h = absurd h
+settled_to_places m (Reading b ∷ slots) (x ∷ xs) h = absurd h
 settled_to_places m (Settled c ∷ slots) [] h = absurd h
 settled_to_places m (Settled c ∷ slots) (x ∷ xs) h =
     ap (λ (b : Bool). cond (b && nat_le x.end m) ((x.end, x.history) ∷ settled_to m xs) (settled_to m xs)) h.0.settled
@@ -74,6 +80,8 @@ places_opened [] [] e x h a b = ((a, b), tt)
 places_opened [] (y ∷ ys) e x h a b = absurd h
 places_opened (Open d ∷ slots) [] e x h a b = absurd h
 places_opened (Open d ∷ slots) (y ∷ ys) e x h a b = (h.0, places_opened slots ys e x h.1 a b)
+places_opened (Reading d ∷ slots) [] e x h a b = absurd h
+places_opened (Reading d ∷ slots) (y ∷ ys) e x h a b = absurd h
 places_opened (Settled c ∷ slots) [] e x h a b = absurd h
 places_opened (Settled c ∷ slots) (y ∷ ys) e x h a b = (h.0, places_opened slots ys e x h.1 a b)
 places_opened (Empty ∷ slots) [] e x h a b = places_opened slots [] e x h a b

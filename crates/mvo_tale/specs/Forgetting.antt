@@ -1,7 +1,7 @@
 -- Places at the front from which nothing is stored any more.
 use Rattle.std.specs.Prelude.{ℕ, zero, suc, nat_le, Bool, true, false, if◌then◌else◌, List, [], ◌∷◌, Option, None, Some}
 use Rattle.mvo_tale.specs.declared.tale_place.TalePlace.{TalePlace}
-use Rattle.mvo_tale.specs.declared.tale_place.TalePlace.TheVariants.{Open, Settled, Empty}
+use Rattle.mvo_tale.specs.declared.tale_place.TalePlace.TheVariants.{Open, Reading, Settled, Empty}
 
 -- these behind so many that are gone, each of which is empty
 abbrev pub behind_gone : ℕ → List TalePlace → List TalePlace
@@ -16,6 +16,7 @@ slot_or_empty (Some x) = x
 -- whether nothing is lost with the place: it is empty, or its commit ends at most there
 abbrev pub may_go : ℕ → TalePlace → Bool
 may_go upto (Open e) = false
+may_go upto (Reading b) = false
 may_go upto (Settled c) = nat_le c.end upto
 may_go upto Empty = true
 

@@ -4,7 +4,7 @@ use Rattle.std.specs.List.{AllByRecursion}
 use Rattle.mvo_theory.specs.Marks.{Commit}
 use Rattle.mvo_theory.specs.Groups.{is_due, IsLongest, mark_by}
 use Rattle.mvo_tale.specs.declared.tale_place.TalePlace.{TalePlace}
-use Rattle.mvo_tale.specs.declared.tale_place.TalePlace.TheVariants.{Open, Settled, Empty}
+use Rattle.mvo_tale.specs.declared.tale_place.TalePlace.TheVariants.{Open, Reading, Settled, Empty}
 use Rattle.mvo_tale.specs.declared.next_records.NextRecords.{NextRecords}
 use Rattle.mvo_tale.specs.Slots.{open_ends, tale_commits, stored_at}
 use Rattle.mvo_tale.specs.Records.{AreRecordsOf, fits}
@@ -22,12 +22,13 @@ abbrev pub IsBehindStored : List TalePlace → ℕ → Type 0
 IsBehindStored slots zero = ⊤
 IsBehindStored [] (suc place) = ⊥
 IsBehindStored (Open e ∷ slots) (suc place) = IsSome (stored_at (Open e ∷ slots) place)
+IsBehindStored (Reading b ∷ slots) (suc place) = IsSome (stored_at (Reading b ∷ slots) place)
 IsBehindStored (Settled c ∷ slots) (suc place) = IsSome (stored_at (Settled c ∷ slots) place)
 IsBehindStored (Empty ∷ slots) (suc place) = IsBehindStored slots place
 
--- before the place none is Preparing, and each commit that wrote is in a group up to the mark. The
--- place is right behind a commit, or all before it are empty, so that it stays one where empty
--- places at the back go
+-- before the place none is Preparing that may have written, and each commit that wrote is in a
+-- group up to the mark. The place is right behind a commit, or all before it are empty, so that it
+-- stays one where empty places at the back go
 pub record AreGroupedTo (slots : List TalePlace) (place mark : ℕ) : Type 0 where
   pub behind : IsBehindStored slots place
   pub settled : open_ends (take place slots) ≡ []

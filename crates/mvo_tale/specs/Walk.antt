@@ -7,18 +7,26 @@ use Rattle.mvo_group.specs.declared.lengths.TheConstants.{BODY_HEADER_LEN}
 use Rattle.mvo_group.specs.Data.{RecordData}
 use Rattle.mvo_group.specs.Rules.{IsRecord, record_len}
 use Rattle.mvo_tale.specs.declared.tale_place.TalePlace.{TalePlace}
-use Rattle.mvo_tale.specs.declared.tale_place.TalePlace.TheVariants.{Open, Settled, Empty}
+use Rattle.mvo_tale.specs.declared.tale_place.TalePlace.TheVariants.{Open, Reading, Settled, Empty}
 use Rattle.mvo_tale.specs.declared.walk_step.WalkStep.{WalkStep}
 use Rattle.mvo_tale.specs.declared.walk_step.WalkStep.TheVariants.{Due, Passed, Skipped, Stop}
 use Rattle.mvo_tale.specs.Stored.{StoredCommit, stored_commit_of}
 use Rattle.mvo_tale.specs.Records.{IsRecordOf, commit_len}
 
 -- ---- at a place
--- one that is Preparing ends here, or a commit above the low-water
+-- one that is Preparing and may have written ends here, or a commit above the low-water
 abbrev pub IsWalkEnd : ℕ → TalePlace → Type 0
 IsWalkEnd low (Open e) = ⊤
+IsWalkEnd low (Reading b) = ⊥
 IsWalkEnd low (Settled x) = low < x.end
 IsWalkEnd low Empty = ⊥
+
+-- no commit is here, and none that wrote will be: a read-only one hasn't ended, or nothing is here
+abbrev pub IsPassedOver : TalePlace → Type 0
+IsPassedOver (Open e) = ⊥
+IsPassedOver (Reading b) = ⊤
+IsPassedOver (Settled x) = ⊥
+IsPassedOver Empty = ⊤
 
 -- a commit that is at most the low-water, and isn't due
 pub record IsPassed (prev low : ℕ) (slot : TalePlace) : Type 0 where
@@ -36,7 +44,7 @@ pub record IsDueAt (prev low : ℕ) (slot : TalePlace) (commit : StoredCommit) :
 abbrev pub IsStepAt : ℕ → ℕ → TalePlace → WalkStep → Type 0
 IsStepAt prev low slot (Due x) = IsDueAt prev low slot x.now
 IsStepAt prev low slot Passed = IsPassed prev low slot
-IsStepAt prev low slot Skipped = slot ≡ Empty
+IsStepAt prev low slot Skipped = IsPassedOver slot
 IsStepAt prev low slot Stop = IsWalkEnd low slot
 
 -- ---- what is gathered

@@ -13,8 +13,9 @@ use std::alloc::{AllocError, Global};
 use std::marker::Model;
 
 /// The stored commits, in the order of their ends. Transactions draw their ends in order, and are
-/// settled or aborted in any order: so each end has a place, from 0 on, which is open until then.
-/// Contracts see the list of places. The ends rise over them.
+/// settled or aborted in any order: so each end has a place, from 0 on, which is open until then. A
+/// read-only transaction ends where it began: its place is opened as it begins, and groups go on
+/// past it. Contracts see the list of places. The ends rise over them.
 ///
 /// Places keep their numbers. Of those at the front from which nothing is stored any more there is
 /// only the number, how many they are: contracts see them as empty. The lists of operations of the
@@ -58,9 +59,10 @@ impl Tale {
     ghost use Rattle.std.specs.Option.{option_copied};
     ghost use Rattle.mvo_group.specs.Data.{group_of};
     ghost use Rattle.mvo_group.specs.Rules.{KeepsRules};
-    ghost use Rattle.mvo_tale.specs.declared.tale_place.TalePlace.TheVariants.{Open, Settled, Empty};
+    ghost use Rattle.mvo_tale.specs.declared.tale_place.TalePlace.TheVariants.{Open, Reading};
+    ghost use Rattle.mvo_tale.specs.declared.tale_place.TalePlace.TheVariants.{Settled, Empty};
     ghost use Rattle.mvo_tale.specs.Slots.{AreRising, ends, open_ends};
-    ghost use Rattle.mvo_tale.specs.Slots.{open_end_at, stored_at, closed_up};
+    ghost use Rattle.mvo_tale.specs.Slots.{pending_end_at, stored_at, closed_up};
     ghost use Rattle.mvo_tale.specs.Forgetting.{forgotten, slot_or_empty};
     ghost use Rattle.mvo_tale.specs.Next.{AreGroupedTo, AreNextRecords};
 
@@ -92,9 +94,26 @@ impl Tale {
         Ok(place)
     }
 
-    /// Stores the commit of the transaction that ends at the open place. It takes no memory.
+    /// Opens a place for a read-only transaction that begins above all ends, and answers which.
+    /// What it needs to be settled or left is taken now. Refused, it changes nothing.
+    pub fn open_reading(&mut self, begin: Stamp) -> Result<usize, AllocError>
+        requires { AllByRecursion (λ earlier. earlier < begin.0) (ends self.old) }
+        ensures place { IfOk result (λ place. place ≡ length self.old) }
+        ensures ok { OnOk result (self.new ≡ self.old ++ Reading begin ∷ []) }
+        ensures err { OnErr result (self.new ≡ self.old) }
+    {
+        let place = self.gone + self.slots.len();
+        if place == usize::MAX {
+            return Err(AllocError);
+        }
+        self.slots.push_back(TalePlace::Reading(begin))?;
+        self.spare.make_room();
+        Ok(place)
+    }
+
+    /// Stores the commit of the transaction whose place is open for its end. It takes no memory.
     pub fn settle(&mut self, place: usize, entry: TaleEntry)
-        requires { open_end_at self.old place ≡ Some entry.end }
+        requires { pending_end_at self.old place ≡ Some entry.end }
         ensures { self.new ≡ slice_set self.old place (Settled entry) }
     {
         self.slots.set(place - self.gone, TalePlace::Settled(entry));
@@ -103,7 +122,7 @@ impl Tale {
     /// Empties the open place of a transaction that was aborted. Empty places at the back go,
     /// unless all are empty. It takes no memory.
     pub fn leave(&mut self, place: usize)
-        requires { IsSome (open_end_at self.old place) }
+        requires { IsSome (pending_end_at self.old place) }
         ensures { self.new ≡ closed_up (slice_set self.old place Empty) }
     {
         self.slots.set(place - self.gone, TalePlace::Empty);
@@ -111,9 +130,9 @@ impl Tale {
         self.gone += gone;
     }
 
-    /// Forgets the commits at the front that end at most there, up to a place that is open or one
-    /// whose commit ends later: such a place is empty then. It takes no memory, and time by how
-    /// many go, each of which goes once.
+    /// Forgets the commits at the front that end at most there, up to a place that is open, also
+    /// for a read-only transaction, or one whose commit ends later: such a place is empty then. It
+    /// takes no memory, and time by how many go, each of which goes once.
     pub fn forget(&mut self, upto: Stamp)
         ensures { self.new ≡ forgotten upto.0 self.old }
     {
@@ -166,7 +185,7 @@ impl Tale {
     /// wrote, from a place on, as many as a group may have. The place is 0, or where the group
     /// before it goes on. If all fit, its mark is the low-water, else the end of the last that
     /// does. It walks the places from there up to the first that ends above the low-water, or whose
-    /// record doesn't fit. Rows are copied.
+    /// record doesn't fit; where a read-only transaction hasn't ended it goes on. Rows are copied.
     pub fn next_records(
         &self,
         alloc: Global,

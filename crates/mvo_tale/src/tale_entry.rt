@@ -2,9 +2,9 @@ use mvo_types::{Answer, Op, RowKey, Stamp, TxId};
 use std::marker::Model;
 
 /// A stored commit: the transaction, its begin and end timestamps, and its operations with their
-/// answers. Contracts see its id, its end and its history. The begin is the id; each row that was
-/// put, and each key that was deleted, is within the limits of tables and of data; and at most 256
-/// keys are written.
+/// answers. Contracts see its id, its end and its history. The begin is the id, and of a read-only
+/// one so is the end; each row that was put, and each key that was deleted, is within the limits of
+/// tables and of data; and at most 256 keys are written.
 #[derive(Drop)]
 pub struct TaleEntry {
     pub id: TxId,

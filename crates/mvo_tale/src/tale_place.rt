@@ -1,12 +1,14 @@
 use crate::tale_entry::TaleEntry;
 use mvo_types::Stamp;
 
-/// The place of an end that was drawn.
+/// The place of an end that was drawn, or of a read-only transaction's begin.
 #[derive(Drop)]
 pub enum TalePlace {
     /// The transaction that ends here is Preparing.
     Open(Stamp),
-    /// The transaction that ends here is committed.
+    /// A read-only transaction began here, and would end here: it is Active or Preparing.
+    Reading(Stamp),
+    /// The transaction that ends here is committed. A read-only one ends where it began.
     Settled(TaleEntry),
     /// The transaction that was to end here was aborted, or its commit is forgotten.
     Empty,
@@ -31,6 +33,7 @@ impl TalePlace {
     {
         match self {
             TalePlace::Open(_) => None,
+            TalePlace::Reading(_) => None,
             TalePlace::Settled(entry) => Some(entry),
             TalePlace::Empty => None,
         }
@@ -42,6 +45,7 @@ impl TalePlace {
     {
         match self {
             TalePlace::Open(_) => false,
+            TalePlace::Reading(_) => false,
             TalePlace::Settled(entry) => !entry.is_above(upto),
             TalePlace::Empty => true,
         }

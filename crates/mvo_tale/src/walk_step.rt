@@ -13,7 +13,7 @@ pub enum WalkStep<'a> {
     Due(&'a TaleEntry),
     /// It passes a commit that wrote nothing, or that is in a group.
     Passed,
-    /// No commit is here.
+    /// No commit is here, and none that wrote will be.
     Skipped,
     /// Each commit from here on ends above the low-water.
     Stop,
@@ -25,6 +25,7 @@ pub fn step_at<'a>(slot: Option<&'a TalePlace>, prev: Stamp, low_water: Stamp) -
 {
     match slot {
         Some(TalePlace::Open(_)) => WalkStep::Stop,
+        Some(TalePlace::Reading(_)) => WalkStep::Skipped,
         Some(TalePlace::Settled(entry)) => step_over(entry, prev, low_water),
         Some(TalePlace::Empty) => WalkStep::Skipped,
         None => WalkStep::Skipped,

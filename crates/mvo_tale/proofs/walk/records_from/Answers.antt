@@ -9,7 +9,7 @@ use Rattle.mvo_tale.specs.Walk.{HasOneRecordMore, IsTooMuch}
 use Rattle.std.specs.Option.{option_copied}
 use Rattle.mvo_tale.specs.Forgetting.{slot_or_empty}
 use Rattle.mvo_tale.proofs.Gone.{slot_is}
-use Rattle.mvo_tale.proofs.DueCommits.{none_left, none_behind, due_passed, passed_within}
+use Rattle.mvo_tale.proofs.DueCommits.{none_left, none_behind, due_over, none_over, opens_over, due_passed, passed_within}
 use Rattle.mvo_tale.proofs.Grouping.{IsWalked, walked_first, walked_over, walked_more, next_whole, rules_whole, next_cut, rules_cut, behind_stored}
 use Rattle.mvo_tale.proofs.walk.records_from.Goals as goal
 use Rattle.mvo_tale.proofs.walk.records_from.Goals.{After-up_to_last, in-Skipped, in-Passed, in-Due+in_ok-add-in-Due+else-not-branch}
@@ -61,7 +61,7 @@ loop-place-preserved c =
     let h = c.loop-place.invariant in
     elim c.match-step_at.branch [
       | in-Skipped w ↦ moved slots prev low (place + 1) next c.match-step_at.next rs c.match-step_at.gathered w.next-is w.gathered-is
-          (walked_over slots prev low place next rs x lt is (ap (λ y. due_in prev low (y ∷ [])) w.in-Skipped.ensures) (subst (λ y. NoneIsDue low (tale_commits (y ∷ []))) (sym w.in-Skipped.ensures) tt) (ap (λ y. open_ends (y ∷ [])) w.in-Skipped.ensures) next h.behind (let b = h.below in omega arith) h)
+          (walked_over slots prev low place next rs x lt is (due_over prev low x w.in-Skipped.ensures) (none_over low x w.in-Skipped.ensures) (opens_over x w.in-Skipped.ensures) next h.behind (let b = h.below in omega arith) h)
       | in-Passed w ↦ moved slots prev low (place + 1) (place + 1) c.match-step_at.next rs c.match-step_at.gathered w.next-is w.gathered-is
           (walked_over slots prev low place next rs x lt is (due_passed prev low x w.in-Passed.ensures) (passed_within low x w.in-Passed.ensures.commit w.in-Passed.ensures.at w.in-Passed.ensures.within) (ap (λ y. open_ends (y ∷ [])) w.in-Passed.ensures.at) (place + 1) (behind_stored slots place x w.in-Passed.ensures.commit lt is w.in-Passed.ensures.at) (omega arith) h)
       | in-Due+in_ok-add-in-Due+else-not-branch w ↦ moved slots prev low (place + 1) (place + 1) c.match-step_at.next w.add.new.self c.match-step_at.gathered w.next-is w.gathered-is

@@ -3,26 +3,26 @@ use Rattle.std.specs.Prelude.{slice_set, IsSome}
 use Rattle.std.proofs.Math.ListN.{length-set}
 use Rattle.mvo_tale.specs.declared.tale_place.TalePlace.{TalePlace}
 use Rattle.mvo_tale.specs.declared.tale_place.TalePlace.TheVariants.{Empty}
-use Rattle.mvo_tale.specs.Slots.{AreRising, ends, open_end_at, closed_up}
+use Rattle.mvo_tale.specs.Slots.{AreRising, ends, pending_end_at, closed_up}
 use Rattle.mvo_tale.specs.Forgetting.{behind_gone}
 use Rattle.mvo_tale.proofs.Rising.{rising_emptied}
-use Rattle.mvo_tale.proofs.Gone.{open_after, open_there, set_gone, gone_more, closed_gone, ends_gone, ends_closed}
+use Rattle.mvo_tale.proofs.Gone.{pending_after, pending_there, set_gone, gone_more, closed_gone, ends_gone, ends_closed}
 use Rattle.mvo_tale.proofs.tale.Tale.leave.Goals as goal
 
-is_open : (xs ys : List TalePlace) (p : ℕ) → xs ≡ ys → IsSome (open_end_at ys p) → IsSome (open_end_at xs p)
-is_open xs ys p i h = subst (λ (zs : List TalePlace). IsSome (open_end_at zs p)) (sym i) h
+is_pending : (xs ys : List TalePlace) (p : ℕ) → xs ≡ ys → IsSome (pending_end_at ys p) → IsSome (pending_end_at xs p)
+is_pending xs ys p i h = subst (λ (zs : List TalePlace). IsSome (pending_end_at zs p)) (sym i) h
 
 pub overflow_sub-place : goal.overflow_sub-place
 overflow_sub-place c =
     let g = c.self.inside.gone in
     let xs = c.self.inside.slots.items in
-    open_after g c.args.place xs (is_open (behind_gone g xs) c.args.self.now c.args.place c.self.view_is c.requires)
+    pending_after g c.args.place xs (is_pending (behind_gone g xs) c.args.self.now c.args.place c.self.view_is c.requires)
 
 pub set-requires : goal.set-requires
 set-requires c =
     let g = c.self.inside.gone in
     let xs = c.self.inside.slots.items in
-    let lt = open_there g c.args.place xs (is_open (behind_gone g xs) c.args.self.now c.args.place c.self.view_is c.requires) in
+    let lt = pending_there g c.args.place xs (is_pending (behind_gone g xs) c.args.self.now c.args.place c.self.view_is c.requires) in
     omega arith
 
 pub invariant_of-self : goal.invariant_of-self
@@ -46,7 +46,7 @@ returns c =
     let k = c.drop_back-gone.result in
     let ys = c.drop_back-gone.new.slots.items in
     let emptied = slice_set xs (c.args.place - g) Empty in
-    let le = open_after g c.args.place xs (is_open (behind_gone g xs) c.args.self.now c.args.place c.self.view_is c.requires) in
+    let le = pending_after g c.args.place xs (is_pending (behind_gone g xs) c.args.self.now c.args.place c.self.view_is c.requires) in
     sym (gone_more g k ys)
     ∙ ap (behind_gone g) (c.drop_back-gone.ensures.same ∙ ap (λ q. closed_up q.items) c.set.ensures)
     ∙ closed_gone g emptied
