@@ -98,7 +98,7 @@ pub tale_whole : WholeIsTale
 tale_whole s slots e h = record { gone = []; kept = []; parts = e; places = h; may = tt }
 
 -- ---- it leaves an empty place
-empty_comes : (s : State) (slots : List TalePlace) → HasTale s slots → HasTale s (Empty ∷ slots)
+pub empty_comes : (s : State) (slots : List TalePlace) → HasTale s slots → HasTale s (Empty ∷ slots)
 empty_comes s slots h = record { gone = h.gone; kept = h.kept; parts = h.parts; places = go (h.kept ++ s.stamped) h.places; may = h.may }
   where
     go : (xs : List StampedTx) → ArePlacesOf slots xs → ArePlacesOf (Empty ∷ slots) xs

@@ -10,3 +10,8 @@ pub mod Moving
 pub mod ReadingPlaces
 pub mod NextGroups
 pub mod KeptPlaces
+pub mod Others
+pub mod WholePlaces
+pub mod ReadingMoves
+pub mod ReaderPlaces
+pub mod StoredWhole

@@ -6,4 +6,7 @@ pub mod Next
 pub mod Walk
 pub mod Timeline
 pub mod Kept
+pub mod Others
+pub mod WholePlaces
+pub mod ReaderPlaces
 pub mod Spare

@@ -16,7 +16,10 @@ mod walk_step;
 mod writes;
 
 pub use commit_record::record_of;
-pub use laws::laws_of_kept_places;
+pub use laws::{
+    laws_of_kept_places, laws_of_places_beside, laws_of_reader_calls, laws_of_reading_places,
+    laws_of_whole_tale,
+};
 pub use next_records::NextRecords;
 pub use tale::Tale;
 pub use tale_entry::TaleEntry;

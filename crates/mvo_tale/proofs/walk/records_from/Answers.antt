@@ -3,8 +3,7 @@ use Rattle.std.specs.Bool.{MatchBool}
 use Rattle.mvo_group.specs.Data.{RecordData}
 use Rattle.mvo_tale.specs.declared.tale_place.TalePlace.{TalePlace}
 use Rattle.mvo_tale.specs.Stored.{stored_commit_of}
-use Rattle.mvo_tale.specs.Slots.{open_ends, tale_commits}
-use Rattle.mvo_tale.specs.Next.{due_in, NoneIsDue}
+use Rattle.mvo_tale.specs.Slots.{open_ends}
 use Rattle.mvo_tale.specs.Walk.{HasOneRecordMore, IsTooMuch}
 use Rattle.std.specs.Option.{option_copied}
 use Rattle.mvo_tale.specs.Forgetting.{slot_or_empty}
