@@ -14,7 +14,7 @@ use Rattle.mvo_theory.specs.Sound.{IsRising, IsPast, IsStarted, IsPlaced}
 use Rattle.mvo_theory.proofs.Each.{each_append, each_back, each_map, each_weaker}
 use Rattle.mvo_theory.proofs.Stamped.{rising_both}
 use Rattle.mvo_tale.specs.declared.tale_place.TalePlace.{TalePlace}
-use Rattle.mvo_tale.specs.declared.tale_place.TalePlace.TheVariants.{Open, Settled, Empty}
+use Rattle.mvo_tale.specs.declared.tale_place.TalePlace.TheVariants.{Open, Reading, Settled, Empty}
 use Rattle.mvo_tale.specs.declared.next_records.NextRecords.{NextRecords}
 use Rattle.mvo_tale.specs.Stored.{StoredCommit}
 use Rattle.mvo_tale.specs.Slots.{ends, open_ends, open_end_at, closed_up}
@@ -59,6 +59,7 @@ past_apart start e (x ∷ xs) lt h =
 pub open_forgotten : (upto : ℕ) (slots : List TalePlace) (q d : ℕ) → open_end_at slots q ≡ Some d → open_end_at (forgotten upto slots) q ≡ Some d
 open_forgotten upto [] q d h = h
 open_forgotten upto (Open e ∷ slots) q d h = h
+open_forgotten upto (Reading b ∷ slots) q d h = h
 open_forgotten upto (Settled c ∷ slots) zero d h = absurd (none_end d h)
 open_forgotten upto (Settled c ∷ slots) (suc q) d h = go (nat_le c.end upto) (open_forgotten upto slots q d h)
   where
@@ -86,6 +87,8 @@ none_above : (start : ℕ) (front back : List TalePlace) (xs : List StampedTx) �
 none_above start [] back xs h k = refl
 none_above start (Open e ∷ front) back [] h k = absurd h
 none_above start (Open e ∷ front) back (x ∷ xs) h k = none_above start front back xs h.1 k.1
+none_above start (Reading b ∷ front) back [] h k = absurd h
+none_above start (Reading b ∷ front) back (x ∷ xs) h k = absurd h
 none_above start (Settled c ∷ front) back [] h k = absurd h
 none_above start (Settled c ∷ front) back (x ∷ xs) h k =
     let u = k.0.until in
@@ -102,6 +105,8 @@ all_above start (Open e ∷ slots) [] h k = absurd h
 all_above start (Open e ∷ slots) (x ∷ xs) h k =
     all_above start slots xs h.1 k.1
     ∙ sym (ap (λ (b : Bool). cond b (receipt_of x ∷ receipts_of xs) (receipts_of xs)) h.0.0)
+all_above start (Reading b ∷ slots) [] h k = absurd h
+all_above start (Reading b ∷ slots) (x ∷ xs) h k = absurd h
 all_above start (Settled c ∷ slots) [] h k = absurd h
 all_above start (Settled c ∷ slots) (x ∷ xs) h k =
     let lt = k.0 in

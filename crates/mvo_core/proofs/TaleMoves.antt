@@ -8,7 +8,7 @@ use Rattle.mvo_theory.specs.State.{StampedTx}
 use Rattle.mvo_theory.specs.Changes.{with_settled, with_check, with_flag, not_at}
 use Rattle.mvo_theory.specs.Sound.{IsRising}
 use Rattle.mvo_tale.specs.declared.tale_place.TalePlace.{TalePlace}
-use Rattle.mvo_tale.specs.declared.tale_place.TalePlace.TheVariants.{Open, Settled, Empty}
+use Rattle.mvo_tale.specs.declared.tale_place.TalePlace.TheVariants.{Open, Reading, Settled, Empty}
 use Rattle.mvo_tale.specs.Stored.{StoredCommit}
 use Rattle.mvo_tale.specs.Slots.{open_end_of, open_end_at, and_place, without_empty_back, or_all, closed_up}
 use Rattle.mvo_tale.specs.Timeline.{IsStoredAs, IsPlaceOf, ArePlacesOf}
@@ -31,6 +31,7 @@ open_beside (x ∷ xs) (suc p) (suc q) y e d at h ne = open_beside xs p q y e d 
 kept_first : (x : TalePlace) (ys : List TalePlace) (d : ℕ) → open_end_of x ≡ Some d → open_end_at (and_place x ys) zero ≡ Some d
 kept_first (Open e) [] d h = h
 kept_first (Open e) (y ∷ ys) d h = h
+kept_first (Reading b) ys d h = absurd (none_end d h)
 kept_first (Settled c) ys d h = absurd (none_end d h)
 kept_first Empty ys d h = absurd (none_end d h)
 
@@ -72,6 +73,8 @@ end_among (Open f ∷ slots) (x ∷ xs) zero d e h at k =
     let is = same_end f.0 e at in
     omega arith
 end_among (Open f ∷ slots) (x ∷ xs) (suc p) d e h at k = end_among slots xs p d e h.1 at k.1
+end_among (Reading b ∷ slots) [] p d e h at k = absurd h
+end_among (Reading b ∷ slots) (x ∷ xs) p d e h at k = absurd h
 end_among (Settled c ∷ slots) [] p d e h at k = absurd h
 end_among (Settled c ∷ slots) (x ∷ xs) zero d e h at k = absurd (none_end e at)
 end_among (Settled c ∷ slots) (x ∷ xs) (suc p) d e h at k = end_among slots xs p d e h.1 at k.1
@@ -111,6 +114,8 @@ others_settled e [] [] h k = tt
 others_settled e [] (x ∷ xs) h k = absurd h
 others_settled e (Open d ∷ slots) [] h k = absurd h
 others_settled e (Open d ∷ slots) (x ∷ xs) h k = ((or_false x.settled (x.end == e) h.0.0 (above_apart x.end e k.0), h.0.1), others_settled e slots xs h.1 k.1)
+others_settled e (Reading b ∷ slots) [] h k = absurd h
+others_settled e (Reading b ∷ slots) (x ∷ xs) h k = absurd h
 others_settled e (Settled c ∷ slots) [] h k = absurd h
 others_settled e (Settled c ∷ slots) (x ∷ xs) h k = (settled_as e c x h.0, others_settled e slots xs h.1 k.1)
 others_settled e (Empty ∷ slots) [] h k = others_settled e slots [] h k
@@ -129,6 +134,8 @@ places_settled (Open d ∷ slots) (x ∷ xs) (suc p) c h r at k = (
   (or_false x.settled (x.end == c.end) h.0.0 (below_apart x.end c.end (end_among slots xs p x.end c.end h.1 at r.0)), h.0.1),
   places_settled slots xs p c h.1 r.1 at k.1,
 )
+places_settled (Reading b ∷ slots) [] p c h r at k = absurd h
+places_settled (Reading b ∷ slots) (x ∷ xs) p c h r at k = absurd h
 places_settled (Settled b ∷ slots) [] p c h r at k = absurd h
 places_settled (Settled b ∷ slots) (x ∷ xs) zero c h r at k = absurd (none_end c.end at)
 places_settled (Settled b ∷ slots) (x ∷ xs) (suc p) c h r at k = (settled_as c.end b x h.0, places_settled slots xs p c h.1 r.1 at k.1)
@@ -165,6 +172,8 @@ places_emptied (Open d ∷ slots) (x ∷ xs) zero e h r at =
     emptied slots (y ∷ ys) g = g
 places_emptied (Open d ∷ slots) (x ∷ xs) (suc p) e h r at =
     subst (ArePlacesOf (Open d ∷ slice_set slots p Empty)) (filter_kept e x xs (below_apart x.end e (end_among slots xs p x.end e h.1 at r.0))) (h.0, places_emptied slots xs p e h.1 r.1 at)
+places_emptied (Reading b ∷ slots) [] p e h r at = absurd h
+places_emptied (Reading b ∷ slots) (x ∷ xs) p e h r at = absurd h
 places_emptied (Settled b ∷ slots) [] p e h r at = absurd h
 places_emptied (Settled b ∷ slots) (x ∷ xs) zero e h r at = absurd (none_end e at)
 places_emptied (Settled b ∷ slots) (x ∷ xs) (suc p) e h r at =
@@ -183,6 +192,8 @@ places_flagged t e [] [] h = tt
 places_flagged t e [] (x ∷ xs) h = absurd h
 places_flagged t e (Open d ∷ slots) [] h = absurd h
 places_flagged t e (Open d ∷ slots) (x ∷ xs) h = (h.0, places_flagged t e slots xs h.1)
+places_flagged t e (Reading b ∷ slots) [] h = absurd h
+places_flagged t e (Reading b ∷ slots) (x ∷ xs) h = absurd h
 places_flagged t e (Settled c ∷ slots) [] h = absurd h
 places_flagged t e (Settled c ∷ slots) (x ∷ xs) h = (record { settled = h.0.settled; id = h.0.id; end' = h.0.end'; history = h.0.history }, places_flagged t e slots xs h.1)
 places_flagged t e (Empty ∷ slots) [] h = places_flagged t e slots [] h
@@ -205,6 +216,8 @@ places_without : (slots : List TalePlace) (xs : List StampedTx) → ArePlacesOf 
 places_without [] xs h = h
 places_without (Open d ∷ slots) [] h = absurd h
 places_without (Open d ∷ slots) (x ∷ xs) h = open_and d (without_empty_back slots) x xs h.0 (places_without slots xs h.1)
+places_without (Reading b ∷ slots) [] h = absurd h
+places_without (Reading b ∷ slots) (x ∷ xs) h = absurd h
 places_without (Settled c ∷ slots) [] h = absurd h
 places_without (Settled c ∷ slots) (x ∷ xs) h = settled_and c (without_empty_back slots) x xs h.0 (places_without slots xs h.1)
 places_without (Empty ∷ slots) [] h = empty_and (without_empty_back slots) [] (places_without slots [] h)
@@ -223,6 +236,8 @@ places_checked e v [] [] h = tt
 places_checked e v [] (x ∷ xs) h = absurd h
 places_checked e v (Open d ∷ slots) [] h = absurd h
 places_checked e v (Open d ∷ slots) (x ∷ xs) h = (h.0, places_checked e v slots xs h.1)
+places_checked e v (Reading b ∷ slots) [] h = absurd h
+places_checked e v (Reading b ∷ slots) (x ∷ xs) h = absurd h
 places_checked e v (Settled c ∷ slots) [] h = absurd h
 places_checked e v (Settled c ∷ slots) (x ∷ xs) h = (record { settled = h.0.settled; id = h.0.id; end' = h.0.end'; history = h.0.history }, places_checked e v slots xs h.1)
 places_checked e v (Empty ∷ slots) [] h = places_checked e v slots [] h

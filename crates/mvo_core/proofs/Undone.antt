@@ -28,6 +28,7 @@ use Rattle.mvo_deps.specs.Graph.{KeepsGraphAtAbort}
 use Rattle.mvo_tale.specs.declared.tale_place.TalePlace.{TalePlace}
 use Rattle.mvo_tale.specs.Slots.{open_end_at}
 use Rattle.mvo_tale.proofs.Moving.{grouped_left}
+use Rattle.mvo_tale.proofs.Rising.{open_pending}
 use Rattle.mvo_representation.specs.Table.{phase_as, phases_of}
 use Rattle.mvo_representation.specs.Order.{MayAbort, is_put_by, with_fronts}
 use Rattle.mvo_representation.specs.WordLists.{HasWordLists}
@@ -107,7 +108,7 @@ module _ (opening : Map) (steps : List Step) (s : State) (c : CoreData) (h : Sta
       go : (o : Option TxState) → state_of c.table t ≡ o → HasOpenPlace o c.tale (own_place (own_of c.table t))
       go None was = tt
       go (Some Active) was = tt
-      go (Some (Preparing e)) was = let x = preparing_there opening steps s c h t e was in ap is_some (place_open t x.0 x.1)
+      go (Some (Preparing e)) was = let x = preparing_there opening steps s c h t e was in ap is_some (open_pending c.tale (own_place (own_of c.table t)) x.0.end (place_open t x.0 x.1))
       go (Some (Committed e)) was = tt
       go (Some Aborted) was = tt
 

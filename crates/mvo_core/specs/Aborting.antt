@@ -12,7 +12,7 @@ use Rattle.mvo_txn.specs.declared.state.TxState.TheVariants.{Active, Preparing, 
 use Rattle.mvo_txn.specs.Txns.{state_of, IsUnended}
 use Rattle.mvo_tale.specs.declared.tale_place.TalePlace.{TalePlace}
 use Rattle.mvo_tale.specs.declared.tale_place.TalePlace.TheVariants.{Empty}
-use Rattle.mvo_tale.specs.Slots.{open_end_at, closed_up}
+use Rattle.mvo_tale.specs.Slots.{pending_end_at, closed_up}
 use Rattle.mvo_core.specs.Data.{CoreData}
 use Rattle.mvo_core.specs.Standing.{StandsFor}
 
@@ -38,7 +38,7 @@ IsAborted old t new = (opening : Map) (steps : List Step) (s : State)
 abbrev pub HasOpenPlace : Option TxState → List TalePlace → ℕ → Type 0
 HasOpenPlace None slots place = ⊤
 HasOpenPlace (Some Active) slots place = ⊤
-HasOpenPlace (Some (Preparing e)) slots place = IsSome (open_end_at slots place)
+HasOpenPlace (Some (Preparing e)) slots place = IsSome (pending_end_at slots place)
 HasOpenPlace (Some (Committed e)) slots place = ⊤
 HasOpenPlace (Some Aborted) slots place = ⊤
 

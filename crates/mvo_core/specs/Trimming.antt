@@ -10,7 +10,7 @@ use Rattle.mvo_representation.specs.Words.{ends_of, change_below, row_in}
 use Rattle.mvo_representation.specs.Indexes.{all_versions}
 use Rattle.mvo_representation.specs.Table.{phases_of}
 use Rattle.mvo_tale.specs.declared.tale_place.TalePlace.{TalePlace}
-use Rattle.mvo_tale.specs.declared.tale_place.TalePlace.TheVariants.{Open, Settled, Empty}
+use Rattle.mvo_tale.specs.declared.tale_place.TalePlace.TheVariants.{Open, Reading, Settled, Empty}
 use Rattle.mvo_tale.specs.Stored.{StoredCommit}
 use Rattle.mvo_tale.specs.Forgetting.{forgotten}
 use Rattle.mvo_core.specs.Data.{CoreData}
@@ -24,6 +24,7 @@ and_above start c rs = if nat_lt start c.end then receipt c.id c.end c.history �
 abbrev pub stored_above : ℕ → List TalePlace → List Receipt
 stored_above start [] = []
 stored_above start (Open e ∷ slots) = stored_above start slots
+stored_above start (Reading b ∷ slots) = stored_above start slots
 stored_above start (Settled c ∷ slots) = and_above start c (stored_above start slots)
 stored_above start (Empty ∷ slots) = stored_above start slots
 

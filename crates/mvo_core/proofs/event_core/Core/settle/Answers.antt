@@ -9,6 +9,7 @@ use Rattle.mvo_txn.specs.Txns.{IsPreparingState as StandsPreparing}
 use Rattle.mvo_tale.specs.declared.tale_place.TalePlace.TheVariants.{Settled}
 use Rattle.mvo_tale.specs.Stored.{StoredCommit}
 use Rattle.mvo_tale.specs.Slots.{open_end_at}
+use Rattle.mvo_tale.proofs.Rising.{open_pending}
 use Rattle.mvo_core.specs.Data.{CoreData}
 use Rattle.mvo_core.specs.View.{core_data}
 use Rattle.mvo_core.specs.Causes.{why_not_preparing}
@@ -70,8 +71,9 @@ settle-requires c =
     let f = c.self.inside in
     let i = c.self.invariant.stands in
     let old : CoreData = core_data f in
-    ap (open_end_at f.tale) c.commit-place.ensures.place
-    ∙ place_there i.opening i.steps i.state old i.stands c.args.tx c.in-Ready.ensures.0.none c.commit-place.result.0 c.commit-place.ensures.end
+    open_pending f.tale c.commit-place.result.1 c.commit-place.result.0.0
+    (ap (open_end_at f.tale) c.commit-place.ensures.place
+    ∙ place_there i.opening i.steps i.state old i.stands c.args.tx c.in-Ready.ensures.0.none c.commit-place.result.0 c.commit-place.ensures.end)
 
 pub invariant_of-self : goal.invariant_of-self
 invariant_of-self c =
