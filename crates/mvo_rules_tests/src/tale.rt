@@ -6,4 +6,5 @@ mod entries;
 mod many_keys;
 mod plain;
 mod random;
+mod reading;
 mod spare;

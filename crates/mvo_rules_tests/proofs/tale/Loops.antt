@@ -15,7 +15,7 @@ use Rattle.mvo_theory.proofs.Each.{each_append}
 use Rattle.mvo_tale.specs.declared.tale_place.TalePlace.{TalePlace}
 use Rattle.mvo_theory.specs.Told.{history_told}
 use Rattle.mvo_theory.specs.Limits.{IsInLimits}
-use Rattle.mvo_tale.specs.declared.tale_place.TalePlace.TheVariants.{Open, Settled, Empty}
+use Rattle.mvo_tale.specs.declared.tale_place.TalePlace.TheVariants.{Open, Reading, Settled, Empty}
 use Rattle.mvo_tale.specs.Slots.{ends, open_ends, stored_at, is_empty}
 use Rattle.mvo_tale.specs.Next.{IsBehindStored}
 use Rattle.mvo_tale.proofs.Moving.{stored_behind}
@@ -36,6 +36,7 @@ empty_more P xs i x lt is h k = subst (AllByRecursion P) (sym (taken_more xs i x
 
 behind_rest : (x : TalePlace) (xs : List TalePlace) (n : ℕ) → is_empty x ≡ true → IsBehindStored xs n → IsBehindStored (x ∷ xs) (suc n)
 behind_rest (Open e) xs n i h = absurd (false≢true i)
+behind_rest (Reading b) xs n i h = absurd (false≢true i)
 behind_rest (Settled c) xs n i h = absurd (false≢true i)
 behind_rest Empty xs n i h = h
 

@@ -5,7 +5,7 @@ ghost use Rattle.std.specs.List.{AllByRecursion};
 ghost use Rattle.std.specs.Option.{option_copied};
 ghost use Rattle.mvo_theory.specs.Groups.{is_due as due};
 ghost use Rattle.mvo_tale.specs.Stored.{stored_commit_of};
-ghost use Rattle.mvo_tale.specs.Slots.{ends, open_ends, tale_commits, open_end_at, is_empty};
+ghost use Rattle.mvo_tale.specs.Slots.{ends, open_ends, tale_commits, pending_end_at, is_empty};
 ghost use Rattle.mvo_tale.specs.Forgetting.{slot_or_empty};
 ghost use Rattle.mvo_tale.specs.Next.{NoneIsDue, IsBehindStored, AreGroupedTo};
 
@@ -19,6 +19,7 @@ fn is_end_below(slot: Option<&TalePlace>, bound: Stamp) -> bool
 {
     match slot {
         Some(TalePlace::Open(end)) => end.0 < bound.0,
+        Some(TalePlace::Reading(begin)) => begin.0 < bound.0,
         Some(TalePlace::Settled(entry)) => entry.end.0 < bound.0,
         _ => true,
     }
@@ -43,21 +44,30 @@ pub fn open_at(tale: &mut Tale, end: Stamp) -> Result<Option<usize>, AllocError>
     Ok(Some(tale.open(end)?))
 }
 
-fn is_open_at(tale: &Tale, place: usize, end: Stamp) -> bool
-    ensures { IsTrue result → open_end_at tale.now place ≡ Some end.0 }
+/// Opens a place for a read-only transaction, if its begin is above the ends.
+pub fn open_reading_at(tale: &mut Tale, begin: Stamp) -> Result<Option<usize>, AllocError> {
+    if !are_ends_below(tale, begin) {
+        return Ok(None);
+    }
+    Ok(Some(tale.open_reading(begin)?))
+}
+
+fn is_pending_at(tale: &Tale, place: usize, end: Stamp) -> bool
+    ensures { IsTrue result → pending_end_at tale.now place ≡ Some end.0 }
 {
     if place >= tale.len() {
         return false;
     }
     match tale.slot(place) {
         Some(TalePlace::Open(at)) => at.0 == end.0,
+        Some(TalePlace::Reading(at)) => at.0 == end.0,
         _ => false,
     }
 }
 
 /// Stores a commit at an open place, if the end there is its own.
 pub fn settle_at(tale: &mut Tale, place: usize, entry: TaleEntry) -> bool {
-    if !is_open_at(tale, place, entry.end) {
+    if !is_pending_at(tale, place, entry.end) {
         return false;
     }
     tale.settle(place, entry);
@@ -66,7 +76,7 @@ pub fn settle_at(tale: &mut Tale, place: usize, entry: TaleEntry) -> bool {
 
 /// Leaves an open place, if the end there is this one.
 pub fn leave_at(tale: &mut Tale, place: usize, end: Stamp) -> bool {
-    if !is_open_at(tale, place, end) {
+    if !is_pending_at(tale, place, end) {
         return false;
     }
     tale.leave(place);
@@ -143,6 +153,7 @@ fn is_empty_there(slot: Option<&TalePlace>) -> bool
 {
     match slot {
         Some(TalePlace::Open(_)) => false,
+        Some(TalePlace::Reading(_)) => false,
         Some(TalePlace::Settled(_)) => false,
         _ => true,
     }

@@ -9,6 +9,8 @@ use std::alloc::{AllocError, Global};
 #[derive(Clone, Copy, PartialEq, Eq)]
 pub enum State {
     Open,
+    /// Of a read-only transaction that hasn't ended.
+    Reading,
     Settled,
     Empty,
 }
@@ -54,6 +56,19 @@ pub fn some_operations(
             key: numbers.below(4),
         };
         operations.push(some_operation(alloc, numbers, key, wrote)?)?;
+    }
+    Ok(operations)
+}
+
+/// Some reads with answers.
+pub fn some_reads(alloc: Global, numbers: &mut Numbers) -> Result<Vec<(Op, Answer)>, AllocError> {
+    let mut operations = Vec::new(alloc);
+    for _ in 0..numbers.below(5) {
+        let key = RowKey {
+            table: 0,
+            key: numbers.below(4),
+        };
+        operations.push((Op::Read(key), Answer::Found(None)))?;
     }
     Ok(operations)
 }

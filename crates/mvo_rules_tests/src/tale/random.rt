@@ -2,9 +2,9 @@
 
 use crate::equal::{above, same_at};
 use crate::numbers::Numbers;
-use crate::tale::checked::{leave_at, next_group, open_at, settle_at};
+use crate::tale::checked::{leave_at, next_group, open_at, open_reading_at, settle_at};
 use crate::tale::entries::entry_of;
-use crate::tale::plain::{Place, State, is_record, some_operations};
+use crate::tale::plain::{Place, State, is_record, some_operations, some_reads};
 use mvo_tale::{NextRecords, Tale};
 use mvo_types::{Stamp, TxId};
 use std::alloc::Global;
@@ -18,6 +18,9 @@ const MOST_ENDS: u64 = 1 << 40;
 #[derive(Drop)]
 struct Counts {
     settled: u64,
+    read: u64,
+    late: u64,
+    beside: u64,
     left: u64,
     shortened: u64,
     forgotten: u64,
@@ -35,6 +38,11 @@ struct Course {
     closed: u64,
     from: usize,
     counts: Counts,
+}
+
+/// Whether a transaction may end there.
+fn is_open(state: State) -> bool {
+    state == State::Open || state == State::Reading
 }
 
 fn count(number: &mut u64, more: u64) {
@@ -68,6 +76,9 @@ impl Course {
             from: 0,
             counts: Counts {
                 settled: 0,
+                read: 0,
+                late: 0,
+                beside: 0,
                 left: 0,
                 shortened: 0,
                 forgotten: 0,
@@ -80,7 +91,8 @@ impl Course {
 
     /// One step. Whether the tale answers as the list does.
     fn advance(&mut self) -> Result<bool, Fail> {
-        match self.numbers.below(9) {
+        match self.numbers.below(10) {
+            9 => self.begin_reading(),
             0 | 1 | 2 => self.open(),
             3 | 4 | 5 => self.settle(),
             6 => self.leave(),
@@ -103,15 +115,29 @@ impl Course {
         Ok(is_next)
     }
 
-    /// A place that is open, if one of a few that are drawn is.
+    /// A read-only transaction begins.
+    fn begin_reading(&mut self) -> Result<bool, Fail> {
+        let begin = self.clock.min(MOST_ENDS) + 1;
+        let place = open_reading_at(&mut self.tale, Stamp(begin))?;
+        let is_next = place == Some(self.list.len());
+        self.list.push(Place {
+            end: begin,
+            state: State::Reading,
+            wrote: Vec::new(self.alloc),
+        })?;
+        self.clock = begin;
+        Ok(is_next)
+    }
+
+    /// A place that is open for an end, if one of a few that are drawn is.
     fn open_place(&mut self) -> Option<usize> {
         for _ in 0..4 {
             let place = self.numbers.below(self.list.len() as u64) as usize;
-            if self.list.get(place).map(|at| at.state) == Some(State::Open) {
+            if self.list.get(place).map(|at| is_open(at.state)) == Some(true) {
                 return Some(place);
             }
         }
-        self.list.iter().position(|at| at.state == State::Open)
+        self.list.iter().position(|at| is_open(at.state))
     }
 
     fn settle(&mut self) -> Result<bool, Fail> {
@@ -121,15 +147,35 @@ impl Course {
         let Some(at) = self.list.get_mut(place) else {
             return Ok(false);
         };
-        let operations = some_operations(self.alloc, &mut self.numbers, &mut at.wrote)?;
+        let reads = at.state == State::Reading;
+        let operations = if reads {
+            some_reads(self.alloc, &mut self.numbers)?
+        } else {
+            some_operations(self.alloc, &mut self.numbers, &mut at.wrote)?
+        };
         at.state = State::Settled;
         let end = Stamp(at.end);
-        let id = TxId(at.end.saturating_sub(1));
+        let id = TxId(if reads {
+            end.0
+        } else {
+            end.0.saturating_sub(1)
+        });
         let Some(entry) = entry_of(self.alloc, id, end, operations)? else {
             return Ok(false);
         };
+        self.count_read(reads, end);
         count(&mut self.counts.settled, 1);
         Ok(settle_at(&mut self.tale, place, entry))
+    }
+
+    /// Of a read-only one: that it was stored, and whether it came below the last mark.
+    fn count_read(&mut self, reads: bool, end: Stamp) {
+        if reads {
+            count(&mut self.counts.read, 1);
+        }
+        if reads && end.0 <= self.closed {
+            count(&mut self.counts.late, 1);
+        }
     }
 
     fn leave(&mut self) -> Result<bool, Fail> {
@@ -168,7 +214,7 @@ impl Course {
         let upto = self.closed.saturating_sub(self.numbers.below(6));
         self.tale.forget(Stamp(upto));
         for at in self.list.iter_mut() {
-            if at.state == State::Open || (at.state == State::Settled && at.end > upto) {
+            if is_open(at.state) || (at.state == State::Settled && at.end > upto) {
                 break;
             }
             if at.state == State::Settled {
@@ -188,6 +234,13 @@ impl Course {
         self.clock
     }
 
+    /// Whether a read-only transaction that began up to there hasn't ended.
+    fn reads_below(&self, low: u64) -> bool {
+        self.list
+            .iter()
+            .any(|at| at.state == State::Reading && at.end <= low)
+    }
+
     fn close(&mut self) -> Result<bool, Fail> {
         let low = self.low_water();
         if low <= self.closed {
@@ -199,6 +252,9 @@ impl Course {
             return Ok(false);
         };
         let is_due = self.is_due(&next, low);
+        if self.reads_below(low) {
+            count(&mut self.counts.beside, 1);
+        }
         count(&mut self.counts.groups, 1);
         count(&mut self.counts.records, next.records.len() as u64);
         if next.records.is_empty() {
@@ -250,6 +306,9 @@ fn go(rt: &impl Abort, course: &mut Course) -> Result<(), Fail> {
 fn check_counts(rt: &impl Abort, counts: &Counts) {
     let floors = [
         (counts.settled, 500),
+        (counts.read, 100),
+        (counts.late, 20),
+        (counts.beside, 20),
         (counts.left, 100),
         (counts.shortened, 10),
         (counts.forgotten, 300),
