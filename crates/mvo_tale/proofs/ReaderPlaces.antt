@@ -35,7 +35,7 @@ use Rattle.mvo_readonly.proofs.Stages.{core_stands, found_active, may_prepare, m
 use Rattle.mvo_tale.specs.declared.tale_place.TalePlace.{TalePlace}
 use Rattle.mvo_tale.specs.Slots.{ends, reading_begin_at, AreRising}
 use Rattle.mvo_tale.specs.WholePlaces.{has_ended, HasWholeTale}
-use Rattle.mvo_tale.specs.ReaderPlaces.{read_commit, stored_unless, emptied_at, places_after, BeginOpensPlace, ReaderCallsKeepTale}
+use Rattle.mvo_tale.specs.ReaderPlaces.{read_commit, stored_unless, emptied_at, places_after_reader, BeginOpensPlace, ReaderCallsKeepTale}
 use Rattle.mvo_tale.proofs.WholePlaces.{whole_begun, whole_staged, whole_settled, whole_left, whole_finished}
 
 none_why : (r : Refusal) → ◌≡◌ {A = Option Refusal} (Some r) None → ⊥
@@ -152,7 +152,7 @@ module _ (opening : Map) (steps own : List Step) (w : WholeState) (slots : List 
 
   -- each call of one that is so far
   tale_reader : (c : Call) (r : Result) (p : ReaderStage) (place : ℕ) → stage_named w.readers (id_named c) ≡ Some p → MayComeAtStage w c (Some p) r → (has_ended p ≡ false → reading_begin_at slots place ≡ id_named c)
-      → HasWholeTale (record { core = after_run w.core (core_reader w.core c r); readers = readers_reader w.core p c r w.readers; committed_readers = committed_by_reader w.core c r w.committed_readers }) (places_after w.core c r place slots)
+      → HasWholeTale (record { core = after_run w.core (core_reader w.core c r); readers = readers_reader w.core p c r w.readers; committed_readers = committed_by_reader w.core c r w.committed_readers }) (places_after_reader w.core c r place slots)
   tale_reader Begin r p place e m at = absurd (no_stage p e)
   tale_reader (Trim k) r p place e m at = absurd (no_stage p e)
   tale_reader (Close fits g full) r p place e m at = absurd (no_stage p e)
@@ -173,5 +173,5 @@ module _ (opening : Map) (steps own : List Step) (w : WholeState) (slots : List 
 
 pub reader_calls_keep : ReaderCallsKeepTale
 reader_calls_keep opening steps own w c r p place slots kept e m rising at h =
-    subst (λ (o : Option ReaderStage). HasWholeTale (record { core = after_run w.core (core_at_stage w.core c r o); readers = readers_at_stage w.core c r o w.readers; committed_readers = committed_at_stage w.core c r o w.committed_readers }) (places_after w.core c r place slots)) (sym e)
+    subst (λ (o : Option ReaderStage). HasWholeTale (record { core = after_run w.core (core_at_stage w.core c r o); readers = readers_at_stage w.core c r o w.readers; committed_readers = committed_at_stage w.core c r o w.committed_readers }) (places_after_reader w.core c r place slots)) (sym e)
     (tale_reader opening steps own w slots kept rising h c r p place e m at)

@@ -48,9 +48,9 @@ places_refused (Settle t) r place slots = places_failed r place slots
 places_refused c r place slots = slots
 
 -- the places after a call of a read-only transaction whose place this is
-abbrev pub places_after : State → Call → Result → ℕ → List TalePlace → List TalePlace
-places_after s c Accepted place slots = places_accepted s c place slots
-places_after s c (Refused r) place slots = places_refused c r place slots
+abbrev pub places_after_reader : State → Call → Result → ℕ → List TalePlace → List TalePlace
+places_after_reader s c Accepted place slots = places_accepted s c place slots
+places_after_reader s c (Refused r) place slots = places_refused c r place slots
 
 -- ---- laws
 -- As one begins its place is opened behind all others.
@@ -67,4 +67,4 @@ ReaderCallsKeepTale = (opening : Map) (steps own : List Step) (w : WholeState) (
     → MayComeAtStage w c (Some p) r → AreRising (ends slots)
     → (has_ended p ≡ false → reading_begin_at slots place ≡ id_named c)
     → HasWholeTale w slots
-    → HasWholeTale (after_whole_call w (CoreCall c) r) (places_after w.core c r place slots)
+    → HasWholeTale (after_whole_call w (CoreCall c) r) (places_after_reader w.core c r place slots)

@@ -1,5 +1,5 @@
-//! A read-only transaction beside others: its place is opened at its begin, a group goes past it, and
-//! its commit comes below the mark.
+//! A read-only transaction beside others: its place is opened at its begin, a group goes past it,
+//! and its commit comes below the mark.
 
 use crate::equal::{holds, same};
 use crate::tale::checked::{leave_at, next_group, open_at, open_reading_at, settle_at};
