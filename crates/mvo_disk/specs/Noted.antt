@@ -9,26 +9,26 @@ abbrev pub noted_moment : Image → List Event → Moment
 noted_moment start noted = record { calls = length noted; honest = is_honest start noted }
 
 -- no file has another content or other images
-abbrev pub FilesStay : Image → List Event → List Event → Type 0
-FilesStay start old new =
+abbrev pub FolderStays : Image → List Event → List Event → Type 0
+FolderStays start old new =
     AllStay (file_content_after start old) (file_content_after start new)
     (MayLeave start old) (MayLeave start new)
 
 -- no file but this one has another content or other images
-abbrev pub OtherFilesStay : Image → ℕ → List Event → List Event → Type 0
-OtherFilesStay start file old new =
+abbrev pub FolderStaysBut : Image → ℕ → List Event → List Event → Type 0
+FolderStaysBut start file old new =
     OthersStay file (file_content_after start old) (file_content_after start new)
     (MayLeave start old) (MayLeave start new)
 
 -- no file has another content, and none but this one loses an image
-abbrev pub FileSettles : Image → ℕ → List Event → List Event → Type 0
-FileSettles start file old new =
+abbrev pub FolderSettles : Image → ℕ → List Event → List Event → Type 0
+FolderSettles start file old new =
     Settles file (file_content_after start old) (file_content_after start new)
     (MayLeave start old) (MayLeave start new)
 
 -- time goes on by what was noted since
-abbrev pub GoesOn : Image → List Event → List Event → Type 0
-GoesOn start old new =
+abbrev pub FolderGoesOn : Image → List Event → List Event → Type 0
+FolderGoesOn start old new =
     Elapses (noted_moment start old) (noted_moment start new)
     (λ t. LeftSince start old t.calls) (λ t. LeftSince start new t.calls)
     (AllOf (MayLeave start new))

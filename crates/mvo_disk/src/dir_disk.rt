@@ -17,8 +17,9 @@ use std::marker::PhantomData;
 /// proofs alone see: the content and the images are what that list makes of what the files held at
 /// first, as `S` has it, and the disk is honest as long as each answer in the list is the content.
 ///
-/// After a write, a cut or a sync that the system failed it is broken: each later call fails with no
-/// call of the system, and nothing more is noted (`StaysBroken`). The folder has to be opened again.
+/// After a write, a cut or a sync that the system failed it is broken: each later call fails with
+/// no call of the system, and nothing more is noted (`StaysBroken`). The folder has to be opened
+/// again.
 ///
 /// `P` is told of each read how many bytes were read so far, and how many the files held at first.
 pub struct DirDisk<R: Files<File = File> + Drop, S: Start, P: ReadProgress + Drop> {
@@ -121,8 +122,8 @@ impl<R: Files<File = File> + Drop, S: Start, P: ReadProgress + Drop> Disk for Di
     ghost use Rattle.mvo_disk.specs.Disk.{IsHonest, Answers, Counts, Only, Holds, PartlyHolds};
     ghost use Rattle.mvo_disk.specs.Disk.{Torn, Cut, Follows, Reaches, Keeps};
     ghost use Rattle.mvo_disk.specs.History.{file_content_after, MayLeave, LeftSince, is_honest};
-    ghost use Rattle.mvo_disk.specs.Noted.{noted_moment, FilesStay, OtherFilesStay, FileSettles};
-    ghost use Rattle.mvo_disk.specs.Noted.{GoesOn, StaysBroken};
+    ghost use Rattle.mvo_disk.specs.Noted.{noted_moment, FolderStays, FolderStaysBut};
+    ghost use Rattle.mvo_disk.specs.Noted.{FolderSettles, FolderGoesOn, StaysBroken};
     ghost use Rattle.mvo_disk.specs.HistoryLaws.{sound, counts_now, only_now, counts_later};
 
     ghost content = { λ d. file_content_after S.Start.files d.history.events };
@@ -155,8 +156,8 @@ impl<R: Files<File = File> + Drop, S: Start, P: ReadProgress + Drop> Disk for Di
             (noted_moment S.Start.files self.new.history.events)
             (λ n. n ≡ length (file_content_after S.Start.files self.old.history.events file))
             result }
-        ensures rest { FilesStay S.Start.files self.old.history.events self.new.history.events }
-        ensures time { GoesOn S.Start.files self.old.history.events self.new.history.events }
+        ensures rest { FolderStays S.Start.files self.old.history.events self.new.history.events }
+        ensures time { FolderGoesOn S.Start.files self.old.history.events self.new.history.events }
         ensures count { Counts self.old.fault_count self.new.fault_count result }
         ensures broken { StaysBroken self.old.is_broken self.old.history.events
             self.new.is_broken self.new.history.events result }
@@ -186,8 +187,8 @@ impl<R: Files<File = File> + Drop, S: Start, P: ReadProgress + Drop> Disk for Di
             (noted_moment S.Start.files self.new.history.events)
             (λ _. into.new ≡ take (length into.old) (drop at
             (file_content_after S.Start.files self.old.history.events file))) result }
-        ensures rest { FilesStay S.Start.files self.old.history.events self.new.history.events }
-        ensures time { GoesOn S.Start.files self.old.history.events self.new.history.events }
+        ensures rest { FolderStays S.Start.files self.old.history.events self.new.history.events }
+        ensures time { FolderGoesOn S.Start.files self.old.history.events self.new.history.events }
         ensures count { Counts self.old.fault_count self.new.fault_count result }
         ensures broken { StaysBroken self.old.is_broken self.old.history.events
             self.new.is_broken self.new.history.events result }
@@ -227,9 +228,9 @@ impl<R: Files<File = File> + Drop, S: Start, P: ReadProgress + Drop> Disk for Di
             (MayLeave S.Start.files self.new.history.events file))
             (λ _. Keeps (MayLeave S.Start.files self.old.history.events file)
             (MayLeave S.Start.files self.new.history.events file)) }
-        ensures rest { OtherFilesStay S.Start.files file self.old.history.events
+        ensures rest { FolderStaysBut S.Start.files file self.old.history.events
             self.new.history.events }
-        ensures time { GoesOn S.Start.files self.old.history.events self.new.history.events }
+        ensures time { FolderGoesOn S.Start.files self.old.history.events self.new.history.events }
         ensures count { Counts self.old.fault_count self.new.fault_count result }
         ensures broken { StaysBroken self.old.is_broken self.old.history.events
             self.new.is_broken self.new.history.events result }
@@ -267,9 +268,9 @@ impl<R: Files<File = File> + Drop, S: Start, P: ReadProgress + Drop> Disk for Di
             (MayLeave S.Start.files self.new.history.events file))
             (λ _. Keeps (MayLeave S.Start.files self.old.history.events file)
             (MayLeave S.Start.files self.new.history.events file)) }
-        ensures rest { OtherFilesStay S.Start.files file self.old.history.events
+        ensures rest { FolderStaysBut S.Start.files file self.old.history.events
             self.new.history.events }
-        ensures time { GoesOn S.Start.files self.old.history.events self.new.history.events }
+        ensures time { FolderGoesOn S.Start.files self.old.history.events self.new.history.events }
         ensures count { Counts self.old.fault_count self.new.fault_count result }
         ensures broken { StaysBroken self.old.is_broken self.old.history.events
             self.new.is_broken self.new.history.events result }
@@ -296,9 +297,9 @@ impl<R: Files<File = File> + Drop, S: Start, P: ReadProgress + Drop> Disk for Di
             (MayLeave S.Start.files self.new.history.events file)) }
         ensures honest { is_honest S.Start.files self.new.history.events ≡
             is_honest S.Start.files self.old.history.events }
-        ensures rest { FileSettles S.Start.files file self.old.history.events
+        ensures rest { FolderSettles S.Start.files file self.old.history.events
             self.new.history.events }
-        ensures time { GoesOn S.Start.files self.old.history.events self.new.history.events }
+        ensures time { FolderGoesOn S.Start.files self.old.history.events self.new.history.events }
         ensures count { Counts self.old.fault_count self.new.fault_count result }
         ensures broken { StaysBroken self.old.is_broken self.old.history.events
             self.new.is_broken self.new.history.events result }
