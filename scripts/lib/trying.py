@@ -150,7 +150,9 @@ class Room:
         self.top = tempfile.mkdtemp(prefix="mvo-edits-")
         self.folder = f"{self.top}/crates/{crate}"
         for name in [*under, crate]:
-            for part in ("src", "specs", "proofs", "out/rlib"):
+            # What was kept of the crate's own proof is kept of the parts that no edit changes.
+            kept = ("out/incremental",) if name == crate else ()
+            for part in ("src", "specs", "proofs", "out/rlib", *kept):
                 if os.path.isdir(f"crates/{name}/{part}"):
                     shutil.copytree(f"crates/{name}/{part}", f"{self.top}/crates/{name}/{part}")
         shutil.copy2("HANDLES", self.top)
