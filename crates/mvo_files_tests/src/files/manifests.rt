@@ -128,6 +128,38 @@ fn both_slots_are_looked_at(rt: HostRuntime) -> Result<(), Fail> {
     Ok(())
 }
 
+// The version that is found of the manifest of slot 0, up to another, where its field is changed;
+// or the refusal.
+fn version_found(alloc: Global, upto: u32, change: u8) -> Result<String, Fail> {
+    let bytes = changed(alloc, &PAIR, 9, change)?;
+    let found = match read_slot(alloc, upto, 0, &bytes) {
+        Ok(None) => Ok(None),
+        Ok(Some(manifest)) => Ok(Some(u64::from(manifest.version()))),
+        Err(refusal) => Err(refusal),
+    };
+    line_of(alloc, found)
+}
+
+#[test]
+fn a_manifest_has_its_own_version(rt: HostRuntime) -> Result<(), Fail> {
+    let cases: [(u32, u8, &str); 6] = [
+        (1, 0, "1"),
+        (2, 0, "1"),
+        (2, 3, "2"),
+        (1, 3, "refused 55"),
+        (2, 2, "refused 55"),
+        (2, 1, "refused 55"),
+    ];
+    for (upto, change, line) in cases {
+        same(
+            &rt,
+            &version_found(rt.alloc(), upto, change)?.as_str(),
+            &line,
+        );
+    }
+    Ok(())
+}
+
 #[test]
 fn a_manifest_is_installed(rt: HostRuntime) -> Result<(), Fail> {
     let alloc = rt.alloc();
