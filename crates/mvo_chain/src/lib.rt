@@ -8,6 +8,3 @@ mod version;
 pub use chains::Chains;
 pub use pieces::Pieces;
 pub use version::{Version, VersionNo};
-
-#[cfg(test)]
-mod tests;

@@ -5,6 +5,3 @@ mod place;
 mod queue;
 
 pub use queue::Queue;
-
-#[cfg(test)]
-mod tests;

@@ -2,6 +2,8 @@
 #![tactic(auto)]
 
 #[cfg(test)]
+mod chains;
+#[cfg(test)]
 mod collecting;
 #[cfg(test)]
 mod counts;
@@ -25,6 +27,8 @@ mod open;
 mod passing;
 #[cfg(test)]
 mod plain;
+#[cfg(test)]
+mod queues;
 #[cfg(test)]
 mod ranges;
 #[cfg(test)]

@@ -1,4 +1,6 @@
-use crate::{Chains, Pieces, Version, VersionNo};
+use crate::equal::{same, same_at};
+use crate::numbers::Numbers;
+use mvo_chain::{Chains, Pieces, Version, VersionNo};
 use mvo_types::{Row, RowKey, Stamp, TxId};
 use mvo_word::{Held, Word};
 use std::alloc::{AllocError, Global};
@@ -13,26 +15,9 @@ struct Plain {
     end: Held,
 }
 
-/// A generator of numbers, by a seed.
-#[derive(Drop)]
-struct Draws(u64);
-
-impl Draws {
-    fn below(&mut self, bound: u64) -> u64 {
-        self.0 = self
-            .0
-            .wrapping_mul(6_364_136_223_846_793_005)
-            .wrapping_add(1_442_695_040_888_963_407);
-        if bound == 0 {
-            0
-        } else {
-            (self.0 >> 33) % bound
-        }
-    }
-
-    fn number(&mut self) -> VersionNo {
-        VersionNo(self.below(40).min(39) as u32)
-    }
+/// The number of a version, of which there may be none.
+fn number_of(numbers: &mut Numbers) -> VersionNo {
+    VersionNo(numbers.below(40).min(39) as u32)
 }
 
 fn row(alloc: Global, key: u64) -> Result<Row, AllocError> {
@@ -77,7 +62,7 @@ fn add(
             *slot = Some(plain);
         }
     } else {
-        assert_eq!(rt; number.index(), list.len());
+        same(rt, &number.index(), &list.len());
         list.push(Some(plain))?;
     }
     Ok(())
@@ -86,7 +71,7 @@ fn add(
 /// One of the calls that change a version, on both.
 fn change(
     rt: &impl Abort,
-    draws: &mut Draws,
+    numbers: &mut Numbers,
     chains: &mut Chains,
     list: &mut Vec<Option<Plain>>,
     number: VersionNo,
@@ -99,9 +84,9 @@ fn change(
         assert!(rt; false, "the list lacks {number:?}");
         return;
     };
-    match draws.below(3) {
+    match numbers.below(3) {
         0 => {
-            let by = TxId(draws.below(1000).min(1000));
+            let by = TxId(numbers.below(1000).min(1000));
             chains.claim_end(number, by);
             plain.end = Held::By(by);
         }
@@ -110,7 +95,7 @@ fn change(
             plain.begin = Held::Infinity;
         }
         _ => {
-            let stamp = Stamp(draws.below(1000).min(1000));
+            let stamp = Stamp(numbers.below(1000).min(1000));
             chains.set_end(number, Word::stamp(stamp));
             plain.end = Held::At(stamp);
         }
@@ -131,8 +116,8 @@ fn take_out(
         assert!(rt; false, "the list lacks {number:?}");
         return;
     };
-    assert_eq!(rt; slot.map(|plain| plain.key), Some(row.key.key));
-    assert_eq!(rt; row.bytes(), [7, 8].as_slice());
+    same(rt, &slot.map(|plain| plain.key), &Some(row.key.key));
+    same(rt, &row.bytes(), &[7, 8].as_slice());
     *slot = None;
 }
 
@@ -140,23 +125,23 @@ fn take_out(
 fn random_calls_do_what_they_do_to_a_plain_list(rt: HostRuntime) -> Result<(), Fail> {
     let alloc = rt.alloc();
     for seed in 1..6 {
-        let mut draws = Draws(seed);
+        let mut numbers = Numbers::of(seed);
         let mut chains = Chains::new(alloc);
         let mut list = Vec::new(alloc);
         for step in 0..3000 {
-            let number = draws.number();
-            match draws.below(4) {
+            let number = number_of(&mut numbers);
+            match numbers.below(4) {
                 0 if list.len() < 30 || list.iter().any(|slot: &Option<Plain>| slot.is_none()) => {
                     add(&rt, alloc, &mut chains, &mut list, step)?;
                 }
                 1 => take_out(&rt, &mut chains, &mut list, number),
-                _ => change(&rt, &mut draws, &mut chains, &mut list, number),
+                _ => change(&rt, &mut numbers, &mut chains, &mut list, number),
             }
-            assert_eq!(rt; chains.slot_count(), list.len());
+            same(&rt, &chains.slot_count(), &list.len());
             for number in 0..42 {
                 let version = chains.get(VersionNo(number)).map(plain_of);
                 let plain = list.get(number as usize).copied().flatten();
-                assert_eq!(rt; version, plain, "at {number}, seed {seed}, step {step}");
+                same_at(&rt, &version, &plain, step);
             }
         }
     }
@@ -167,9 +152,9 @@ fn random_calls_do_what_they_do_to_a_plain_list(rt: HostRuntime) -> Result<(), F
 fn compare_near(rt: &impl Abort, pieces: &Pieces<u64>, list: &Vec<u64>, at: usize) {
     for place in at.saturating_sub(2)..at.saturating_add(3) {
         let item = pieces.get(place).copied();
-        assert_eq!(rt; item, list.get(place).copied(), "at {place}");
+        same_at(rt, &item, &list.get(place).copied(), place as u64);
         if place < pieces.len() {
-            assert_eq!(rt; Some(pieces[place]), item);
+            same(rt, &Some(pieces[place]), &item);
         }
     }
 }
@@ -178,15 +163,15 @@ fn compare_near(rt: &impl Abort, pieces: &Pieces<u64>, list: &Vec<u64>, at: usiz
 #[test]
 fn pieces_do_what_a_plain_list_does(rt: HostRuntime) -> Result<(), Fail> {
     let alloc = rt.alloc();
-    let mut draws = Draws(9);
+    let mut numbers = Numbers::of(9);
     let mut pieces = Pieces::new(alloc);
     let mut list = Vec::new(alloc);
     for item in 0..2500 {
         compare_near(&rt, &pieces, &list, list.len());
         pieces.push(item)?;
         list.push(item)?;
-        assert_eq!(rt; pieces.len(), list.len());
-        let at = draws.below(list.len() as u64) as usize;
+        same(&rt, &pieces.len(), &list.len());
+        let at = numbers.below(list.len() as u64) as usize;
         if at < pieces.len() {
             pieces[at] = item + 5000;
         }
@@ -196,7 +181,12 @@ fn pieces_do_what_a_plain_list_does(rt: HostRuntime) -> Result<(), Fail> {
         compare_near(&rt, &pieces, &list, at);
     }
     for at in 0..2503 {
-        assert_eq!(rt; pieces.get(at).copied(), list.get(at).copied(), "at {at}");
+        same_at(
+            &rt,
+            &pieces.get(at).copied(),
+            &list.get(at).copied(),
+            at as u64,
+        );
     }
     Ok(())
 }
@@ -213,5 +203,5 @@ fn shared<T: Send + Sync>(value: T) -> T {
 #[test]
 fn versions_may_be_shared_between_threads(rt: HostRuntime) {
     let chains = shared(Chains::new(rt.alloc()));
-    assert_eq!(rt; chains.slot_count(), 0);
+    same(&rt, &chains.slot_count(), &0);
 }

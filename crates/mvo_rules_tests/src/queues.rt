@@ -1,22 +1,27 @@
 ghost use Rattle.std.specs.Prelude.{◌≤◌};
 
-use crate::Queue;
+use crate::equal::{same, same_at};
+use mvo_queue::Queue;
 use std::alloc::{AllocError, Global};
 use std::collections::VecDeque;
-use std::fmt::Debug;
 use std::process::Abort;
 use std::test::Fail;
 
-/// Proved once: a call of it costs next to nothing, where the macro in its place costs seconds.
-fn same<T: PartialEq + Debug>(rt: &impl Abort, at: usize, left: &T, right: &T) {
-    assert_eq!(rt; *left, *right, "at {at}");
-}
-
 /// Looks whether both have the same in front and at a place.
 fn compare_at(rt: &impl Abort, queue: &Queue<u64>, list: &VecDeque<u64>, at: usize) {
-    same(rt, at, &queue.len(), &list.len());
-    same(rt, at, &queue.front().copied(), &list.front().copied());
-    same(rt, at, &queue.get(at).copied(), &list.get(at).copied());
+    same_at(rt, &queue.len(), &list.len(), at as u64);
+    same_at(
+        rt,
+        &queue.front().copied(),
+        &list.front().copied(),
+        at as u64,
+    );
+    same_at(
+        rt,
+        &queue.get(at).copied(),
+        &list.get(at).copied(),
+        at as u64,
+    );
 }
 
 /// Looks whether both have the same at each place, and nothing behind.
@@ -38,14 +43,14 @@ fn push(queue: &mut Queue<u64>, list: &mut VecDeque<u64>, count: u64) -> Result<
 /// Takes so many items off both, from the front.
 fn pop_front(rt: &impl Abort, queue: &mut Queue<u64>, list: &mut VecDeque<u64>, count: usize) {
     for at in 0..count {
-        same(rt, at, &queue.pop_front(), &list.pop_front());
+        same_at(rt, &queue.pop_front(), &list.pop_front(), at as u64);
     }
 }
 
 /// Takes so many items off both, from the back.
 fn pop_back(rt: &impl Abort, queue: &mut Queue<u64>, list: &mut VecDeque<u64>, count: usize) {
     for at in 0..count {
-        same(rt, at, &queue.pop_back(), &list.pop_back());
+        same_at(rt, &queue.pop_back(), &list.pop_back(), at as u64);
     }
 }
 
@@ -141,5 +146,5 @@ fn shared<T: Send + Sync>(value: T) -> T {
 #[test]
 fn a_queue_may_be_shared_between_threads(rt: HostRuntime) {
     let queue: Queue<u64> = shared(Queue::new(rt.alloc()));
-    assert_eq!(rt; queue.len(), 0);
+    same(&rt, &queue.len(), &0);
 }
