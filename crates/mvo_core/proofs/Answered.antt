@@ -57,6 +57,7 @@ pub record HasAnswered (op : Op) (a : AnswerData) (old new : KeptTransaction) : 
   pub place : new.place ≡ old.place
   pub checked : new.checked ≡ old.checked
   pub valid : new.valid ≡ old.valid
+  pub kind : new.kind ≡ old.kind
 
 -- ---- a claim that is taken over
 works_taken : (o : Option Claim) (z : State) (table : Txns (Node KeptTransaction)) (tale : List TalePlace) → HasWorks z table tale → HasWorks (taken_over o z) table tale
@@ -197,10 +198,10 @@ same_versions s table t (Delete k) Deleted vs e = absurd (some_write _ e)
 same_versions s table t (Delete k) a vs e = refl
 
 told_so : (op : Op) (a : AnswerData) (x y : KeptTransaction) → IsTold op a x y → HasAnswered op a x y
-told_so op a x y w = record { history = w.history; place = w.place; checked = w.checked; valid = w.valid }
+told_so op a x y w = record { history = w.history; place = w.place; checked = w.checked; valid = w.valid; kind = w.kind }
 
 pub done_so : (op : Op) (a : AnswerData) (put : List WordPlace) (x y : KeptTransaction) → HasDoneMore op a put x y → HasAnswered op a x y
-done_so op a put x y w = record { history = w.history; place = w.place; checked = w.checked; valid = w.valid }
+done_so op a put x y w = record { history = w.history; place = w.place; checked = w.checked; valid = w.valid; kind = w.kind }
 
 -- The same of an answer that writes nothing: the versions and the lists of words stay.
 pub record IsAnsweredOnly (s : State) (c : CoreData) (t : TxId) (r : ActiveTx) (op : Op) (ids : List TxId) (table : Txns (Node KeptTransaction)) : Type 0 where

@@ -31,7 +31,7 @@ SaysAsMuch old new = (u : ℕ) (own : KeptTransaction) → own_of old u ≡ Some
     → (after : KeptTransaction) × (own_of new u ≡ Some after) × HasDoneAsMuch own after
 
 pub as_much : (own : KeptTransaction) → HasDoneAsMuch own own
-as_much own = record { history = refl; words = refl; place = refl; checked = refl; valid = refl }
+as_much own = record { history = refl; words = refl; place = refl; checked = refl; valid = refl; kind = refl }
 
 pub works_carried : (s : State) (old new : Txns (Node KeptTransaction)) (tale : List TalePlace) → SaysAsMuch old new → HasWorks s old tale → HasWorks s new tale
 works_carried s old new tale says h = record {
