@@ -29,6 +29,7 @@ use Rattle.mvo_deps.specs.Nodes.{after_register_all}
 use Rattle.mvo_chain.specs.declared.version.Version.{Version}
 use Rattle.mvo_tale.specs.declared.tale_place.TalePlace.{TalePlace}
 use Rattle.mvo_tale.specs.Kept.{IsTale}
+use Rattle.mvo_tale.specs.Others.{others_places}
 use Rattle.mvo_versions.specs.Data.{VersionsData, AreIndexed}
 use Rattle.mvo_representation.specs.Words.{Phases}
 use Rattle.mvo_representation.specs.Versions.{AreVersionsOf}
@@ -44,12 +45,14 @@ use Rattle.mvo_collect.proofs.Over.{each_call_keeps_over}
 use Rattle.mvo_work.specs.declared.word_place.WordPlace.{WordPlace}
 use Rattle.mvo_core.specs.declared.kept_transaction.KeptTransaction.{KeptTransaction}
 use Rattle.mvo_core.specs.Data.{CoreData, own_of}
-use Rattle.mvo_core.specs.Standing.{StandsFor, HasWorks, IsKeptActive, IsKeptPreparing, words_in}
+use Rattle.mvo_core.specs.Standing.{HasWorks, IsKeptActive, IsKeptPreparing, words_in, StandsAmong}
 use Rattle.mvo_core.specs.Keeping.{HasDoneMore, IsTold, IsRecorded}
-use Rattle.mvo_core.specs.Steps.{LeadsOn}
+use Rattle.mvo_core.specs.Readers.{Readers, reader_in, HasTalePlaces}
+use Rattle.mvo_core.specs.Steps.{LeadsAmong}
 use Rattle.mvo_core.proofs.Laws.{answer_in_table, call_keeps}
 use Rattle.mvo_core.proofs.Carried.{stands_roomy, some_own}
 use Rattle.mvo_core.proofs.OwnChanged.{IsOwnChanged, own_registered_all, state_registered_all, own_changed, own_weaker, words_stay, words_registered}
+use Rattle.mvo_core.proofs.ReaderStages.{AreSameReaders, stages_same, same_reader, readers_but}
 
 -- it has done one operation more, whatever words it has put
 pub record HasAnswered (op : Op) (a : AnswerData) (old new : KeptTransaction) : Type 0 where
@@ -57,6 +60,7 @@ pub record HasAnswered (op : Op) (a : AnswerData) (old new : KeptTransaction) : 
   pub place : new.place ≡ old.place
   pub checked : new.checked ≡ old.checked
   pub valid : new.valid ≡ old.valid
+  pub kind : new.kind ≡ old.kind
 
 -- ---- a claim that is taken over
 works_taken : (o : Option Claim) (z : State) (table : Txns (Node KeptTransaction)) (tale : List TalePlace) → HasWorks z table tale → HasWorks (taken_over o z) table tale
@@ -65,20 +69,24 @@ works_taken (Some x) z table tale h = record { active = h.active; preparing = h.
 
 -- it changes the ended ones alone
 abbrev IsBeside : State → State → Type 0
-IsBeside z s = (z.start ≡ s.start) × (z.stamped ≡ s.stamped) × (z.marks ≡ s.marks) × (z.past ≡ s.past)
+IsBeside z s = (z.start ≡ s.start) × (z.stamped ≡ s.stamped) × (z.marks ≡ s.marks) × (z.past ≡ s.past) × (z.clock ≡ s.clock)
 
 beside_taken : (o : Option Claim) (s : State) (active : List ActiveTx) → IsBeside (taken_over o (record s { active = active })) s
-beside_taken None s active = (refl, refl, refl, refl)
-beside_taken (Some x) s active = (refl, refl, refl, refl)
+beside_taken None s active = (refl, refl, refl, refl, refl)
+beside_taken (Some x) s active = (refl, refl, refl, refl, refl)
 
 -- ---- what each transaction has done
-module _ (opening : Map) (steps : List Step) (s : State) (c : CoreData) (h : StandsFor opening steps s c) (t : TxId) (r : ActiveTx) (found : active_of t.0 s.active ≡ Some r) (op : Op) (a : AnswerData)
+module _ (rs : Readers) (opening : Map) (steps : List Step) (s : State) (c : CoreData) (h : StandsAmong rs opening steps s c) (t : TxId) (r : ActiveTx) (found : active_of t.0 s.active ≡ Some r) (op : Op) (a : AnswerData)
     (ids : List TxId) (table : Txns (Node KeptTransaction)) (w : IsOwnChanged (after_register_all c.table t ids) table t.0 (HasAnswered op a)) where
   was : own_of c.table t.0 ≡ Some w.before
   was = sym (own_registered_all c.table t ids t.0) ∙ w.was
 
   others : (u : ℕ) → u ≢ t.0 → own_of table u ≡ own_of c.table u
   others u ne = w.beside u ne ∙ own_registered_all c.table t ids u
+
+  pub readers_answered : AreSameReaders c.table table
+  readers_answered = readers_but c.table table t.0 others
+      (ap reader_in w.is ∙ same_reader w.before w.after w.changed.kind w.changed.place w.changed.checked w.changed.valid ∙ sym (ap reader_in was))
 
   one : (q : ActiveTx) → IsKeptActive c.table q → IsKeptActive table (with_answer s t.0 op a q)
   one q m =
@@ -130,7 +138,7 @@ pub record IsAnswered (s : State) (c : CoreData) (t : TxId) (r : ActiveTx) (op :
   pub order : AllStandInOrder s.start (state_of c.table) v.slots v.lists
   pub words : HasWordLists (after_answer s t.0 op (answer_in s t.0 op)) v.slots (words_in table)
 
-module _ (opening : Map) (steps : List Step) (s : State) (c : CoreData) (h : StandsFor opening steps s c) (t : TxId) (r : ActiveTx) (op : Op) (ids : List TxId)
+module _ (rs : Readers) (opening : Map) (steps : List Step) (s : State) (c : CoreData) (h : StandsAmong rs opening steps s c) (t : TxId) (r : ActiveTx) (op : Op) (ids : List TxId)
     (v : VersionsData) (table : Txns (Node KeptTransaction)) (w : IsAnswered s c t r op ids v table) where
   abbrev a : AnswerData
   a = answer_in s t.0 op
@@ -156,7 +164,7 @@ module _ (opening : Map) (steps : List Step) (s : State) (c : CoreData) (h : Sta
   beside : IsBeside after s
   beside = beside_taken (new_claim s t.0 op a) s (after_operation s t.0 op a).active
 
-  stands_answered : StandsFor opening (steps ++ Answers t.0 op a ∷ []) after (record c { versions = v; table = table })
+  stands_answered : StandsAmong rs opening (steps ++ Answers t.0 op a ∷ []) after (record c { versions = v; table = table })
   stands_answered = record {
     versions = record {
       kept = kept_after_call opening steps s (Do t.0 op) Accepted may_come h.versions.kept;
@@ -169,16 +177,18 @@ module _ (opening : Map) (steps : List Step) (s : State) (c : CoreData) (h : Sta
     dependencies = deps;
     order = subst (λ (n : ℕ). AllStandInOrder n (state_of table) v.slots v.lists) (sym beside.0)
         (same_stay_in_order s.start (state_of c.table) (state_of table) v.slots v.slots v.lists states (λ m. refl) w.order);
-    works = works_answered opening steps s c h t r w.found op a ids table w.told;
+    works = works_answered rs opening steps s c h t r w.found op a ids table w.told;
     words = w.words;
-    tale = subst (λ (q : ℕ × Marks × List StampedTx × List StampedTx). IsTale q.0 q.1.closed q.2 q.3 c.tale) (λ i. (sym beside.0 i, sym beside.2 i, sym beside.3 i, sym beside.1 i)) h.tale;
+    tale = subst (λ (q : ℕ × Marks × List StampedTx × List StampedTx). IsTale q.0 q.1.closed q.2 q.3 (others_places c.tale)) (λ i. (sym beside.0 i, sym beside.2 i, sym beside.3 i, sym beside.1 i)) h.tale;
+    places = subst (λ (q : ℕ × ℕ). HasTalePlaces rs q.0 q.1 c.tale) (λ i. (sym beside.0 i, sym beside.4 i)) h.places;
+    stages = stages_same rs.unfinished c.table table c.tale (readers_answered rs opening steps s c h t r w.found op a ids table w.told) h.stages;
     marks = beside.2 ∙ h.marks;
     grouped = h.grouped;
     start = beside.0 ∙ h.start;
     over = each_call_keeps_over opening steps s (phases_of (state_of c.table)) (all_versions c.versions.slots) (Do t.0 op) Accepted h.versions.kept may_come h.versions.versions h.over;
   }
 
-  pub answer_leads : LeadsOn opening steps s (Do t.0 op) Accepted (record c { versions = v; table = table })
+  pub answer_leads : LeadsAmong rs opening steps s (Do t.0 op) Accepted (record c { versions = v; table = table })
   answer_leads = record { may = may_come; stands = stands_answered }
 
 -- ---- an answer by which nothing is written
@@ -197,10 +207,10 @@ same_versions s table t (Delete k) Deleted vs e = absurd (some_write _ e)
 same_versions s table t (Delete k) a vs e = refl
 
 told_so : (op : Op) (a : AnswerData) (x y : KeptTransaction) → IsTold op a x y → HasAnswered op a x y
-told_so op a x y w = record { history = w.history; place = w.place; checked = w.checked; valid = w.valid }
+told_so op a x y w = record { history = w.history; place = w.place; checked = w.checked; valid = w.valid; kind = w.kind }
 
 pub done_so : (op : Op) (a : AnswerData) (put : List WordPlace) (x y : KeptTransaction) → HasDoneMore op a put x y → HasAnswered op a x y
-done_so op a put x y w = record { history = w.history; place = w.place; checked = w.checked; valid = w.valid }
+done_so op a put x y w = record { history = w.history; place = w.place; checked = w.checked; valid = w.valid; kind = w.kind }
 
 -- The same of an answer that writes nothing: the versions and the lists of words stay.
 pub record IsAnsweredOnly (s : State) (c : CoreData) (t : TxId) (r : ActiveTx) (op : Op) (ids : List TxId) (table : Txns (Node KeptTransaction)) : Type 0 where
@@ -210,7 +220,7 @@ pub record IsAnsweredOnly (s : State) (c : CoreData) (t : TxId) (r : ActiveTx) (
   pub told : IsOwnChanged (after_register_all c.table t ids) table t.0 (IsTold op (answer_in s t.0 op))
   pub unwritten : write_of op (answer_in s t.0 op) ≡ None
 
-module _ (opening : Map) (steps : List Step) (s : State) (c : CoreData) (h : StandsFor opening steps s c) (t : TxId) (r : ActiveTx) (op : Op) (ids : List TxId)
+module _ (rs : Readers) (opening : Map) (steps : List Step) (s : State) (c : CoreData) (h : StandsAmong rs opening steps s c) (t : TxId) (r : ActiveTx) (op : Op) (ids : List TxId)
     (table : Txns (Node KeptTransaction)) (w : IsAnsweredOnly s c t r op ids table) where
   abbrev b : AnswerData
   b = answer_in s t.0 op
@@ -239,15 +249,15 @@ module _ (opening : Map) (steps : List Step) (s : State) (c : CoreData) (h : Sta
     words = words;
   }
 
-  pub answer_only_leads : LeadsOn opening steps s (Do t.0 op) Accepted (record c { table = table })
-  answer_only_leads = answer_leads opening steps s c h t r op ids c.versions table answered
+  pub answer_only_leads : LeadsAmong rs opening steps s (Do t.0 op) Accepted (record c { table = table })
+  answer_only_leads = answer_leads rs opening steps s c h t r op ids c.versions table answered
 
 -- so it is where the answer is recorded
-module _ (opening : Map) (steps : List Step) (s : State) (c : CoreData) (h : StandsFor opening steps s c) (t : TxId) (r : ActiveTx) (found : active_of t.0 s.active ≡ Some r) (op : Op) (a : AnswerData) where
+module _ (rs : Readers) (opening : Map) (steps : List Step) (s : State) (c : CoreData) (h : StandsAmong rs opening steps s c) (t : TxId) (r : ActiveTx) (found : active_of t.0 s.active ≡ Some r) (op : Op) (a : AnswerData) where
   pub recorded_leads : why_not_do s t.0 op ≡ None → a ≡ answer_in s t.0 op → write_of op a ≡ None → (ids : List TxId) → AreDependencies s op r ids
-      → (table : Txns (Node KeptTransaction)) → IsRecorded c.table table t ids op a → LeadsOn opening steps s (Do t.0 op) Accepted (record c { table = table })
+      → (table : Txns (Node KeptTransaction)) → IsRecorded c.table table t ids op a → LeadsAmong rs opening steps s (Do t.0 op) Accepted (record c { table = table })
   recorded_leads may is unwritten ids on table w =
-      answer_only_leads opening steps s (record c { table = w.roomy }) (stands_roomy opening steps s c h t.0 w.roomy w.room) t r op ids table (record {
+      answer_only_leads rs opening steps s (record c { table = w.roomy }) (stands_roomy rs opening steps s c h t.0 w.roomy w.room) t r op ids table (record {
         found = found;
         may = may;
         on = on;

@@ -33,28 +33,32 @@ use Rattle.mvo_representation.specs.Dependencies.{HasDependencies, tx_id}
 use Rattle.mvo_representation.specs.Table.{phases_of}
 use Rattle.mvo_representation.specs.WordLists.{HasWordLists}
 use Rattle.mvo_representation.proofs.TableNodes.{begun_state, begun_others}
+use Rattle.mvo_core.specs.Readers.{Readers, reader_in, reader_by}
 use Rattle.mvo_core.specs.declared.kept_transaction.KeptTransaction.{KeptTransaction}
+use Rattle.mvo_core.specs.declared.kept_transaction.TransactionKind.TheVariants.{Other}
 use Rattle.mvo_collect.proofs.Over.{each_call_keeps_over}
 use Rattle.mvo_core.specs.Data.{CoreData, own_of}
-use Rattle.mvo_core.specs.Standing.{StandsFor, HasWorks, IsKeptActive, Stands, own_words_of, words_in}
-use Rattle.mvo_core.specs.Steps.{came, LeadsOn}
+use Rattle.mvo_core.specs.Standing.{HasWorks, IsKeptActive, Stands, own_words_of, words_in, StandsAmong}
+use Rattle.mvo_core.specs.Steps.{came, LeadsOn, LeadsAmong}
 use Rattle.mvo_core.proofs.Laws.{why_not_begun_told, begin_in_table, begin_in_order, begin_in_lists, call_keeps}
 use Rattle.mvo_core.proofs.Carried.{SaysAsMuch, as_much, works_carried}
+use Rattle.mvo_core.proofs.ReaderStages.{AreSameReaders, stages_same, readers_but}
+use Rattle.mvo_core.proofs.ReaderTales.{places_later}
 use Rattle.mvo_core.proofs.WrittenThen.{none_own}
 
 refusal_as : (why : Option Refusal) (r : Refusal) → IsTableRefusal why r → theory.IsRefusal true why r
 refusal_as None r h = h
 refusal_as (Some w) r h = h
 
-module _ (opening : Map) (steps : List Step) (s : State) (c : CoreData) (h : StandsFor opening steps s c) where
+module _ (rs : Readers) (opening : Map) (steps : List Step) (s : State) (c : CoreData) (h : StandsAmong rs opening steps s c) where
   why_begun : why_not_begun c.table ≡ why_not_begin s
   why_begun = why_not_begun_told opening steps s c.table h.versions.kept h.dependencies.stands
 
   -- refused, it leaves all as it was
-  pub begin_refused : (r : Refusal) → IsTableRefusal (why_not_begun c.table) r → LeadsOn opening steps s Begin (Refused r) c
+  pub begin_refused : (r : Refusal) → IsTableRefusal (why_not_begun c.table) r → LeadsAmong rs opening steps s Begin (Refused r) c
   begin_refused r why = record {
     may = subst (λ o. theory.IsRefusal true o r) why_begun (refusal_as (why_not_begun c.table) r why);
-    stands = subst (λ ys. StandsFor opening ys s c) (sym (append-nil steps)) h;
+    stands = subst (λ ys. StandsAmong rs opening ys s c) (sym (append-nil steps)) h;
   }
 
   -- the next timestamp is nobody's id
@@ -68,7 +72,7 @@ module _ (opening : Map) (steps : List Step) (s : State) (c : CoreData) (h : Sta
   fresh_own : own_of c.table (c.table.clock + 1) ≡ None
   fresh_own = ap (λ o. option_map (λ n. n.own) (option_map (λ x. x.kept) o)) fresh
 
-  module _ (node : Node KeptTransaction) (none : node.dependencies ≡ no_dependencies) (told : node.own.work.history ≡ []) (wordless : node.own.work.words ≡ []) where
+  module _ (node : Node KeptTransaction) (none : node.dependencies ≡ no_dependencies) (told : node.own.work.history ≡ []) (wordless : node.own.work.words ≡ []) (other : node.own.kind ≡ Other) where
     begun : Txns (Node KeptTransaction)
     begun = table_after_begin c.table node
 
@@ -84,6 +88,10 @@ module _ (opening : Map) (steps : List Step) (s : State) (c : CoreData) (h : Sta
         (λ is. absurd (none_own own (sym (ap (own_of c.table) is ∙ fresh_own) ∙ w)))
         (λ ne. (own, own_others u ne ∙ w, as_much own))
         (cases_eq u (c.table.clock + 1))
+
+    same_readers : AreSameReaders c.table (table_after_begin c.table node)
+    same_readers = readers_but c.table (table_after_begin c.table node) (c.table.clock + 1) own_others
+        (ap reader_in own_begun ∙ ap (λ k. reader_by k node.own.place node.own.checked node.own.valid) other ∙ sym (ap reader_in fresh_own))
 
     words_begun : words_in (table_after_begin c.table node) ≡ words_in c.table
     words_begun = λ i u. at u i
@@ -117,7 +125,7 @@ module _ (opening : Map) (steps : List Step) (s : State) (c : CoreData) (h : Sta
     phases_then = λ i u. deps.stands.phases u i
 
     pub stands_begun : MayCome s Begin Accepted
-        → StandsFor opening (steps ++ steps_of s Begin Accepted) (changes.after_begin s (s.clock + 1)) (record c { table = table_after_begin c.table node })
+        → StandsAmong rs opening (steps ++ steps_of s Begin Accepted) (changes.after_begin s (s.clock + 1)) (record c { table = table_after_begin c.table node })
     stands_begun may = record {
       versions = record {
         kept = kept_after_call opening steps s Begin Accepted may h.versions.kept;
@@ -134,6 +142,8 @@ module _ (opening : Map) (steps : List Step) (s : State) (c : CoreData) (h : Sta
       words = subst (HasWordLists (changes.after_begin s (s.clock + 1)) c.versions.slots) (sym words_begun)
           (begin_in_lists opening steps s (state_of c.table) c.versions.slots c.versions.lists c.versions.places (words_in c.table) h.versions h.words);
       tale = h.tale;
+      places = places_later rs s.start s.clock c.tale h.places (s.clock + 1) (omega arith);
+      stages = stages_same rs.unfinished c.table (table_after_begin c.table node) c.tale same_readers h.stages;
       marks = h.marks;
       grouped = h.grouped;
       start = h.start;
@@ -141,15 +151,15 @@ module _ (opening : Map) (steps : List Step) (s : State) (c : CoreData) (h : Sta
     }
 
     pub begin_leads : (r : Result TxId Refusal) (table : Txns (Node KeptTransaction)) → OnOk r (table ≡ table_after_begin c.table node) → OnOk r (why_not_begun c.table ≡ None)
-        → IfErr r (IsTableRefusal (why_not_begun c.table)) → OnErr r (table ≡ c.table) → LeadsOn opening steps s Begin (came r) (record c { table = table })
+        → IfErr r (IsTableRefusal (why_not_begun c.table)) → OnErr r (table ≡ c.table) → LeadsAmong rs opening steps s Begin (came r) (record c { table = table })
     begin_leads (Ok t) table is cause why same =
         let may : MayCome s Begin Accepted = (sym why_begun ∙ cause, tt) in
         record {
           may = may;
-          stands = subst (λ x. StandsFor opening (steps ++ steps_of s Begin Accepted) (changes.after_begin s (s.clock + 1)) (record c { table = x })) (sym is) (stands_begun may);
+          stands = subst (λ x. StandsAmong rs opening (steps ++ steps_of s Begin Accepted) (changes.after_begin s (s.clock + 1)) (record c { table = x })) (sym is) (stands_begun may);
         }
     begin_leads (Err r) table is cause why same =
-        subst (λ x. LeadsOn opening steps s Begin (Refused r) (record c { table = x })) (sym same) (begin_refused r why)
+        subst (λ x. LeadsAmong rs opening steps s Begin (Refused r) (record c { table = x })) (sym same) (begin_refused r why)
 
 -- ---- up to the mark of the group that was closed last all stay settled
 pub still_closed : (opening : Map) (steps : List Step) (s : State) (call : theory.Call) (r : theory.Result) → MayCome s call r → IsKept opening steps s → IsClosedAt s.marks.closed s

@@ -19,16 +19,18 @@ use Rattle.mvo_theory.proofs.Runs.{kept_after_call}
 use Rattle.mvo_txn.specs.declared.state.TxState.{TxState}
 use Rattle.mvo_txn.specs.declared.state.TxState.TheVariants.{Active, Preparing, Committed, Aborted}
 use Rattle.mvo_txn.specs.Txns.{Txns, state_of, kept_of, table_after_write, after_terminate, IsEnded}
-use Rattle.mvo_txn.proofs.Stamps.{get_left}
+use Rattle.mvo_txn.proofs.Stamps.{get_removed, get_left}
 use Rattle.mvo_deps.specs.declared.node.Node.{Node}
 use Rattle.mvo_chain.specs.declared.version.Version.{Version}
 use Rattle.mvo_chain.specs.Slots.{version_at, with_change}
 use Rattle.mvo_word.specs.declared.held.Held.{Held}
 use Rattle.mvo_work.specs.declared.word_place.WordPlace.{WordPlace}
 use Rattle.mvo_work.specs.declared.word_place.WordPlace.TheVariants.{Begin, End}
+use Rattle.mvo_readonly.specs.Whole.{stage_of}
 use Rattle.mvo_tale.specs.declared.tale_place.TalePlace.{TalePlace}
 use Rattle.mvo_tale.specs.Kept.{HasTale}
 use Rattle.mvo_tale.specs.Next.{AreGroupedTo}
+use Rattle.mvo_tale.specs.Others.{others_places}
 use Rattle.mvo_versions.specs.Data.{VersionsData}
 use Rattle.mvo_versions.specs.Changes.{IsReworded}
 use Rattle.mvo_representation.specs.Laws as representation
@@ -48,45 +50,53 @@ use Rattle.mvo_collect.proofs.Over.{each_call_keeps_over}
 use Rattle.mvo_collect.specs.Begun.{AreOver}
 use Rattle.mvo_core.specs.declared.kept_transaction.KeptTransaction.{KeptTransaction}
 use Rattle.mvo_core.specs.Data.{CoreData, own_of}
-use Rattle.mvo_core.specs.Standing.{StandsFor, HasWorks, IsKeptActive, IsKeptPreparing, own_words_of, words_in}
+use Rattle.mvo_core.specs.Standing.{HasWorks, IsKeptActive, IsKeptPreparing, own_words_of, words_in, StandsAmong}
 use Rattle.mvo_core.specs.Keeping.{IsWritten, with_own_at}
+use Rattle.mvo_core.specs.Readers.{Readers, reader_in, HasStage, HaveStages, HasTalePlaces}
 use Rattle.mvo_core.proofs.Carried.{own_here, own_beside}
 use Rattle.mvo_core.proofs.Laws.{write_in_table, call_keeps}
+use Rattle.mvo_core.proofs.ReaderStages.{AreSameReaders, stages_same, none_of_stage, readers_but}
 use Rattle.mvo_core.proofs.FinishLaws.{word_in_table, leave_in_table, finished_stands_for, finish_in_order, leaving_in_order, changed_now}
 
 -- ---- what a core stands for beside the lists
-pub record StandsBeside (opening : Map) (steps : List Step) (s : State) (c : CoreData) : Type 0 where
+pub record StandsBeside (rs : Readers) (opening : Map) (steps : List Step) (s : State) (c : CoreData) : Type 0 where
   pub versions : representation.VersionsStandFor opening steps s (state_of c.table) c.versions.slots c.versions.lists c.versions.places
   pub dependencies : HasDependencies s c.table
   pub order : AllStandInOrder s.start (state_of c.table) c.versions.slots c.versions.lists
   pub works : HasWorks s c.table c.tale
-  pub tale : HasTale s c.tale
+  pub tale : HasTale s (others_places c.tale)
+  pub places : HasTalePlaces rs s.start s.clock c.tale
+  pub stages : HaveStages rs.unfinished c.table c.tale
   pub marks : s.marks ≡ record { opening = c.opening; closed = c.closed }
   pub grouped : AreGroupedTo c.tale c.grouped c.closed
   pub start : s.start ≡ c.start
   pub over : AreOver s
 
-pub beside : (opening : Map) (steps : List Step) (s : State) (c : CoreData) → StandsFor opening steps s c → StandsBeside opening steps s c
-beside opening steps s c h = record {
+pub beside : (rs : Readers) (opening : Map) (steps : List Step) (s : State) (c : CoreData) → StandsAmong rs opening steps s c → StandsBeside rs opening steps s c
+beside rs opening steps s c h = record {
   versions = h.versions;
   dependencies = h.dependencies;
   order = h.order;
   works = h.works;
   tale = h.tale;
+  places = h.places;
+  stages = h.stages;
   marks = h.marks;
   grouped = h.grouped;
   start = h.start;
   over = h.over;
 }
 
-pub with_lists : (opening : Map) (steps : List Step) (s : State) (c : CoreData) → StandsBeside opening steps s c → HasWordLists s c.versions.slots (words_in c.table) → StandsFor opening steps s c
-with_lists opening steps s c h l = record {
+pub with_lists : (rs : Readers) (opening : Map) (steps : List Step) (s : State) (c : CoreData) → StandsBeside rs opening steps s c → HasWordLists s c.versions.slots (words_in c.table) → StandsAmong rs opening steps s c
+with_lists rs opening steps s c h l = record {
   versions = h.versions;
   dependencies = h.dependencies;
   order = h.order;
   works = h.works;
   words = l;
   tale = h.tale;
+  places = h.places;
+  stages = h.stages;
   marks = h.marks;
   grouped = h.grouped;
   start = h.start;
@@ -164,15 +174,18 @@ finish_at s t false = refl
 pub finish_is : (s : State) (t : ℕ) → changes.after_finish s t ≡ record s { ended = (changes.after_finish s t).ended }
 finish_is s t = finish_at s t (is_done s t)
 
-module _ (opening : Map) (steps : List Step) (s : State) (c : CoreData) (h : StandsBeside opening steps s c) (u : EndedTx) (e : ended_of u.id s.ended ≡ Some u) where
+module _ (rs : Readers) (opening : Map) (steps : List Step) (s : State) (c : CoreData) (h : StandsBeside rs opening steps s c) (u : EndedTx) (e : ended_of u.id s.ended ≡ Some u) where
   -- what is kept of the ended one changes
-  pub beside_written : (table : Txns (Node KeptTransaction)) (change : KeptTransaction → KeptTransaction → Type 0) → IsWritten c.table table u.id change → StandsBeside opening steps s (record c { table = table })
-  beside_written table change w = record {
+  pub beside_written : (table : Txns (Node KeptTransaction)) (change : KeptTransaction → KeptTransaction → Type 0) → ((x y : KeptTransaction) → change x y → reader_in (Some y) ≡ reader_in (Some x)) → IsWritten c.table table u.id change → StandsBeside rs opening steps s (record c { table = table })
+  beside_written table change same w = record {
     versions = subst (λ states. representation.VersionsStandFor opening steps s states c.versions.slots c.versions.lists c.versions.places) (same_states c.table table u.id change w) h.versions;
     dependencies = deps_written c.table table u.id change w s h.dependencies;
     order = subst (λ states. AllStandInOrder s.start states c.versions.slots c.versions.lists) (same_states c.table table u.id change w) h.order;
     works = works_of_others s c.table table c.tale u.id u h.versions.kept.single e (own_others c.table table u.id change w) h.works;
     tale = h.tale;
+    places = h.places;
+    stages = stages_same rs.unfinished c.table table c.tale
+        (readers_but c.table table u.id (own_others c.table table u.id change w) (ap reader_in (own_now c.table table u.id change w) ∙ same w.before w.after w.changed ∙ sym (ap reader_in w.was))) h.stages;
     marks = h.marks;
     grouped = h.grouped;
     start = h.start;
@@ -198,17 +211,19 @@ module _ (opening : Map) (steps : List Step) (s : State) (c : CoreData) (h : Sta
       (changed_now c.versions.slots (number_at_word p) v (finished (ends_of (phases_of (state_of c.table))) u.id p) at)
 
   pub beside_finished : IsEnded (state_of c.table u.id) → (new : VersionsData) (w : Held) (p : WordPlace) (v : Version) → version_at c.versions.slots (number_at_word p) ≡ Some v → names_at c.versions.slots u.id p ≡ true
-      → w ≡ word_of_stamp (ends_of (phases_of (state_of c.table)) u.id) → IsReworded c.versions new (number_at_word p) (with_word p w) → StandsBeside opening steps s (record c { versions = new })
+      → w ≡ word_of_stamp (ends_of (phases_of (state_of c.table)) u.id) → IsReworded c.versions new (number_at_word p) (with_word p w) → StandsBeside rs opening steps s (record c { versions = new })
   beside_finished ended new w p v at name is r =
       let now = finished_now new w p v at is r in
       let same : record { slots = new.slots; lists = c.versions.lists; places = c.versions.places } ≡ new = λ i. record { slots = new.slots; lists = sym r.lists i; places = sym r.places i } in
-      subst (λ x. StandsBeside opening steps s (record c { versions = x })) same (record {
+      subst (λ x. StandsBeside rs opening steps s (record c { versions = x })) same (record {
         versions = finished_stands_for opening steps s (state_of c.table) c.versions.slots new.slots c.versions.lists c.versions.places u p v h.versions e at name now;
         dependencies = h.dependencies;
         order = finish_in_order s.start (state_of c.table) c.versions.slots new.slots c.versions.lists u.id (number_at_word p).0 v (finished (ends_of (phases_of (state_of c.table))) u.id p v)
             (still (state_of c.table u.id) ended) at now (begin_finished p v name at) (end_finished p v name at) h.order;
         works = h.works;
         tale = h.tale;
+        places = h.places;
+        stages = h.stages;
         marks = h.marks;
         grouped = h.grouped;
         start = h.start;
@@ -234,14 +249,16 @@ module _ (opening : Map) (steps : List Step) (s : State) (c : CoreData) (h : Sta
   -- in the state with other ended ones, where the table has these works
   beside_after : (table : Txns (Node KeptTransaction))
       → representation.VersionsStandFor opening (steps ++ steps_of s (Finish u.id) Accepted) (changes.after_finish s u.id) (state_of table) c.versions.slots c.versions.lists c.versions.places
-      → HasDependencies (changes.after_finish s u.id) table → AllStandInOrder s.start (state_of table) c.versions.slots c.versions.lists → HasWorks s table c.tale → AreOver (changes.after_finish s u.id)
-      → StandsBeside opening (steps ++ steps_of s (Finish u.id) Accepted) (changes.after_finish s u.id) (record c { table = table })
-  beside_after table versions deps order works over = record {
+      → HasDependencies (changes.after_finish s u.id) table → AllStandInOrder s.start (state_of table) c.versions.slots c.versions.lists → HasWorks s table c.tale → HaveStages rs.unfinished table c.tale → AreOver (changes.after_finish s u.id)
+      → StandsBeside rs opening (steps ++ steps_of s (Finish u.id) Accepted) (changes.after_finish s u.id) (record c { table = table })
+  beside_after table versions deps order works stages over = record {
     versions = versions;
     dependencies = deps;
     order = subst (λ (x : State). AllStandInOrder x.start (state_of table) c.versions.slots c.versions.lists) (sym (finish_is s u.id)) order;
     works = subst (λ (x : State). HasWorks x table c.tale) (sym (finish_is s u.id)) (record { active = works.active; preparing = works.preparing });
-    tale = subst (λ (x : State). HasTale x c.tale) (sym (finish_is s u.id)) h.tale;
+    tale = subst (λ (x : State). HasTale x (others_places c.tale)) (sym (finish_is s u.id)) h.tale;
+    places = subst (λ (x : State). HasTalePlaces rs x.start x.clock c.tale) (sym (finish_is s u.id)) h.places;
+    stages = stages;
     marks = ap (λ (x : State). x.marks) (finish_is s u.id) ∙ h.marks;
     grouped = h.grouped;
     start = ap (λ (x : State). x.start) (finish_is s u.id) ∙ h.start;
@@ -255,21 +272,30 @@ module _ (opening : Map) (steps : List Step) (s : State) (c : CoreData) (h : Sta
   none_done more last = absurd (false≢true (sym more ∙ last))
 
   -- words are left
-  pub beside_word : MayCome s (Finish u.id) Accepted → is_done s u.id ≡ false → StandsBeside opening (steps ++ steps_of s (Finish u.id) Accepted) (changes.after_finish s u.id) c
+  pub beside_word : MayCome s (Finish u.id) Accepted → is_done s u.id ≡ false → StandsBeside rs opening (steps ++ steps_of s (Finish u.id) Accepted) (changes.after_finish s u.id) c
   beside_word may more =
       let deps = word_in_table s c.table u.id h.dependencies more in
-      beside_after c.table (versions_after may c.table deps (none_done more)) deps h.order h.works (over_finished may)
+      beside_after c.table (versions_after may c.table deps (none_done more)) deps h.order h.works h.stages (over_finished may)
 
   -- none is left: it leaves
   left_own : (v : ℕ) → v ≢ u.id → own_of (after_terminate c.table u.id) v ≡ own_of c.table v
   left_own v ne = ap (λ o. option_map (λ n. n.own) (option_map (λ x. x.kept) o)) (get_left c.table.seats u.id v ne)
 
-  pub beside_left : MayCome s (Finish u.id) Accepted → IsEnded (state_of c.table u.id) → is_done s u.id ≡ true → IsUnnamed u.id (all_versions c.versions.slots)
-      → StandsBeside opening (steps ++ steps_of s (Finish u.id) Accepted) (changes.after_finish s u.id) (record c { table = after_terminate c.table u.id })
-  beside_left may ended last unnamed =
+  own_gone : own_of (after_terminate c.table u.id) u.id ≡ None
+  own_gone = ap (λ o. option_map (λ n. n.own) (option_map (λ x. x.kept) o)) (get_removed c.table.seats u.id)
+
+  -- it is none of the read-only ones
+  none_left : stage_of u.id rs.unfinished ≡ None → AreSameReaders c.table (after_terminate c.table u.id)
+  none_left other = readers_but c.table (after_terminate c.table u.id) u.id left_own
+      (ap reader_in own_gone ∙ sym (none_of_stage c.tale u.id (reader_in (own_of c.table u.id)) (subst (HasStage c.tale u.id (reader_in (own_of c.table u.id))) other (h.stages u.id))))
+
+  pub beside_left : stage_of u.id rs.unfinished ≡ None → MayCome s (Finish u.id) Accepted → IsEnded (state_of c.table u.id) → is_done s u.id ≡ true → IsUnnamed u.id (all_versions c.versions.slots)
+      → StandsBeside rs opening (steps ++ steps_of s (Finish u.id) Accepted) (changes.after_finish s u.id) (record c { table = after_terminate c.table u.id })
+  beside_left other may ended last unnamed =
       let table = after_terminate c.table u.id in
       let deps = leave_in_table opening steps s c.table u.id h.versions.kept h.dependencies ended last in
       beside_after table (versions_after may table deps (λ y. unnamed)) deps
       (leaving_in_order s.start (state_of c.table) (state_of table) c.versions.slots c.versions.lists u.id (λ v ne. left_others c.table u.id v ne) (left_state c.table u.id) unnamed h.order)
       (works_of_others s c.table table c.tale u.id u h.versions.kept.single e left_own h.works)
+      (stages_same rs.unfinished c.table table c.tale (none_left other) h.stages)
       (over_finished may)

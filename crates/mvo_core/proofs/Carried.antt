@@ -18,11 +18,13 @@ use Rattle.mvo_representation.specs.Laws as representation
 use Rattle.mvo_representation.specs.Order.{AllStandInOrder}
 use Rattle.mvo_representation.specs.WordLists.{HasWordLists}
 use Rattle.mvo_representation.proofs.TableNodes.{written_state}
+use Rattle.mvo_core.specs.Readers.{Readers, reader_in}
 use Rattle.mvo_core.specs.declared.kept_transaction.KeptTransaction.{KeptTransaction}
 use Rattle.mvo_core.specs.Data.{CoreData, own_of}
-use Rattle.mvo_core.specs.Standing.{StandsFor, HasWorks, IsKeptActive, IsKeptPreparing, own_words_of, words_in}
+use Rattle.mvo_core.specs.Standing.{HasWorks, IsKeptActive, IsKeptPreparing, own_words_of, words_in, StandsAmong}
 use Rattle.mvo_core.specs.Keeping.{IsWritten, HasDoneAsMuch, HasMadeRoom, with_own_at}
 use Rattle.mvo_core.proofs.Laws.{write_in_table}
+use Rattle.mvo_core.proofs.ReaderStages.{AreSameReaders, stages_same, same_reader, readers_but}
 use Rattle.mvo_core.proofs.WrittenThen.{none_own}
 
 -- what is kept of each says as much in the other table
@@ -31,7 +33,7 @@ SaysAsMuch old new = (u : ℕ) (own : KeptTransaction) → own_of old u ≡ Some
     → (after : KeptTransaction) × (own_of new u ≡ Some after) × HasDoneAsMuch own after
 
 pub as_much : (own : KeptTransaction) → HasDoneAsMuch own own
-as_much own = record { history = refl; words = refl; place = refl; checked = refl; valid = refl }
+as_much own = record { history = refl; words = refl; place = refl; checked = refl; valid = refl; kind = refl }
 
 pub works_carried : (s : State) (old new : Txns (Node KeptTransaction)) (tale : List TalePlace) → SaysAsMuch old new → HasWorks s old tale → HasWorks s new tale
 works_carried s old new tale says h = record {
@@ -85,6 +87,10 @@ module _ (table : Txns (Node KeptTransaction)) (t : ℕ) (node new : Node KeptTr
       (λ ne. (own, own_beside u ne ∙ w, as_much own))
       (cases_eq u t)
 
+  pub readers_written : HasDoneAsMuch node.own new.own → AreSameReaders table (table_after_write table t new)
+  readers_written same = readers_but table (table_after_write table t new) t own_beside
+      (ap reader_in own_here ∙ same_reader node.own new.own same.kind same.place same.checked same.valid ∙ sym (ap (λ o. reader_in (option_map (λ n. n.own) o)) was))
+
   -- the lists of words are the same, if this one's is
   pub words_written : new.own.work.words ≡ node.own.work.words → words_in (table_after_write table t new) ≡ words_in table
   words_written same = λ i u. at u i
@@ -96,9 +102,9 @@ module _ (table : Txns (Node KeptTransaction)) (t : ℕ) (node new : Node KeptTr
           (λ ne. ap own_words_of (own_beside u ne))
           (cases_eq u t)
 
-module _ (opening : Map) (steps : List Step) (s : State) (c : CoreData) (h : StandsFor opening steps s c) (t : ℕ) where
+module _ (rs : Readers) (opening : Map) (steps : List Step) (s : State) (c : CoreData) (h : StandsAmong rs opening steps s c) (t : ℕ) where
   pub stands_written : (node new : Node KeptTransaction) → kept_of c.table t ≡ Some node → new.dependencies ≡ node.dependencies → HasDoneAsMuch node.own new.own
-      → StandsFor opening steps s (record c { table = table_after_write c.table t new })
+      → StandsAmong rs opening steps s (record c { table = table_after_write c.table t new })
   stands_written node new was same much = record {
     versions = subst (λ states. representation.VersionsStandFor opening steps s states c.versions.slots c.versions.lists c.versions.places) states h.versions;
     dependencies = write_in_table s c.table t node new h.dependencies was same;
@@ -106,6 +112,8 @@ module _ (opening : Map) (steps : List Step) (s : State) (c : CoreData) (h : Sta
     works = works_carried s c.table (table_after_write c.table t new) c.tale (says_written c.table t node new was much) h.works;
     words = subst (HasWordLists s c.versions.slots) (sym (words_written c.table t node new was much.words)) h.words;
     tale = h.tale;
+    places = h.places;
+    stages = stages_same rs.unfinished c.table (table_after_write c.table t new) c.tale (readers_written c.table t node new was much) h.stages;
     marks = h.marks;
     grouped = h.grouped;
     start = h.start;
@@ -115,14 +123,14 @@ module _ (opening : Map) (steps : List Step) (s : State) (c : CoreData) (h : Sta
     states = λ i u. sym (written_state c.table t node new was same u) i
 
   -- as much is done, whatever room there is
-  pub stands_as_much : (table : Txns (Node KeptTransaction)) → IsWritten c.table table t HasDoneAsMuch → StandsFor opening steps s (record c { table = table })
+  pub stands_as_much : (table : Txns (Node KeptTransaction)) → IsWritten c.table table t HasDoneAsMuch → StandsAmong rs opening steps s (record c { table = table })
   stands_as_much table w = go (kept_of c.table t) refl w.was
     where
-      go : (o : Option (Node KeptTransaction)) → kept_of c.table t ≡ o → option_map (λ n. n.own) o ≡ Some w.before → StandsFor opening steps s (record c { table = table })
+      go : (o : Option (Node KeptTransaction)) → kept_of c.table t ≡ o → option_map (λ n. n.own) o ≡ Some w.before → StandsAmong rs opening steps s (record c { table = table })
       go None k e = absurd (none_own w.before e)
       go (Some node) k e =
-          subst (λ x. StandsFor opening steps s (record c { table = x })) (sym (w.is ∙ ap (λ o. with_own_at o c.table t w.after) k))
+          subst (λ x. StandsAmong rs opening steps s (record c { table = x })) (sym (w.is ∙ ap (λ o. with_own_at o c.table t w.after) k))
           (stands_written node (record node { own = w.after }) k refl (subst (λ o. HasDoneAsMuch o w.after) (sym (some_own node.own w.before e)) w.changed))
 
-  pub stands_roomy : (table : Txns (Node KeptTransaction)) → IsWritten c.table table t HasMadeRoom → StandsFor opening steps s (record c { table = table })
+  pub stands_roomy : (table : Txns (Node KeptTransaction)) → IsWritten c.table table t HasMadeRoom → StandsAmong rs opening steps s (record c { table = table })
   stands_roomy table w = stands_as_much table (record { before = w.before; after = w.after; was = w.was; is = w.is; changed = w.changed.same })

@@ -23,9 +23,10 @@ use Rattle.mvo_txn.specs.declared.state.TxState.TheVariants.{Active, Preparing, 
 use Rattle.mvo_txn.specs.Txns.{state_of, IsPreparingState}
 use Rattle.mvo_representation.specs.Table.{phase_as}
 use Rattle.mvo_representation.proofs.Tabled.{active_is}
+use Rattle.mvo_core.specs.Readers.{Readers}
 use Rattle.mvo_core.specs.declared.kept_transaction.KeptTransaction.{KeptTransaction}
 use Rattle.mvo_core.specs.Data.{CoreData, own_of}
-use Rattle.mvo_core.specs.Standing.{StandsFor, IsKeptActive}
+use Rattle.mvo_core.specs.Standing.{IsKeptActive, StandsAmong}
 use Rattle.mvo_core.specs.Causes.{flag_refusal, flag_of, unless_active_as, unless_preparing_as, why_not_active, why_not_preparing, why_not_undo, over_entries, over_writes, why_not_look, why_not_put, why_not_remove}
 use Rattle.mvo_core.proofs.Laws.{flag_of_active_told, flag_of_preparing_told}
 
@@ -101,7 +102,7 @@ pub record IsOwnOfActive (s : State) (c : CoreData) (t : ℕ) : Type 0 where
   pub kept : own_of c.table t ≡ Some own
   pub history : own.work.history ≡ history_of_active t s.active
 
-module _ (opening : Map) (steps : List Step) (s : State) (c : CoreData) (h : StandsFor opening steps s c) (t : ℕ) where
+module _ (rs : Readers) (opening : Map) (steps : List Step) (s : State) (c : CoreData) (h : StandsAmong rs opening steps s c) (t : ℕ) where
   pub not_active_is : why_not_active c.table t ≡ first_cause (unless_active s t)
   not_active_is =
       active_as (state_of c.table t) (flag_of c.table t) (flag_of_active (active_of t s.active)) (flag_of_active_told s c.table t h.dependencies)

@@ -33,14 +33,15 @@ use Rattle.mvo_representation.specs.Dependencies.{AreDependencies, tx_id}
 use Rattle.mvo_representation.specs.Steps.{ended_by}
 use Rattle.mvo_versions.specs.Data.{VersionsData}
 use Rattle.mvo_versions.specs.Changes.{IsReworded}
+use Rattle.mvo_core.specs.Readers.{Readers}
 use Rattle.mvo_core.specs.declared.kept_transaction.KeptTransaction.{KeptTransaction}
 use Rattle.mvo_core.specs.Causes.{why_not_remove}
 use Rattle.mvo_core.specs.Data.{CoreData}
 use Rattle.mvo_core.specs.Ending.{IsRemoved}
 use Rattle.mvo_core.specs.Keeping.{IsWritten, HasDoneAsMuch, HasMadeRoom, HasDoneMore, IsRecorded}
 use Rattle.mvo_core.specs.Looking.{cause_at}
-use Rattle.mvo_core.specs.Standing.{StandsFor}
-use Rattle.mvo_core.specs.Steps.{LeadsOn}
+use Rattle.mvo_core.specs.Standing.{StandsAmong}
+use Rattle.mvo_core.specs.Steps.{LeadsAmong}
 use Rattle.mvo_core.proofs.Answered.{IsAnswered, answer_leads, recorded_leads}
 use Rattle.mvo_core.proofs.Asked.{active_if_removed}
 use Rattle.mvo_core.proofs.Carried.{stands_as_much, stands_roomy}
@@ -51,15 +52,15 @@ use Rattle.mvo_core.proofs.OwnChanged.{IsOwnChanged, own_changed}
 use Rattle.mvo_core.proofs.Refused.{refused_leads, spent_leads}
 use Rattle.mvo_core.proofs.Removed.{deleted}
 
-module _ (opening : Map) (steps : List Step) (s : State) (c : CoreData) (h : StandsFor opening steps s c) (t : TxId) (k : RowKey) where
-  pub delete_refused : (r : Refusal) → why_not_remove c.table t.0 k ≡ Some r → (new : CoreData) → StandsFor opening (steps ++ steps_of_refusal t.0 r) (after_refusal s t.0 r) new
-      → LeadsOn opening steps s (Do t.0 (Delete k)) (Refused r) new
-  delete_refused r why new stands = refused_leads opening steps s t.0 (Delete k) new r
-      (sym (not_deleted_is opening steps s c h t.0 k) ∙ ap (λ o. or_next o (conflicts (conflict s t.0 k))) why) stands
+module _ (rs : Readers) (opening : Map) (steps : List Step) (s : State) (c : CoreData) (h : StandsAmong rs opening steps s c) (t : TxId) (k : RowKey) where
+  pub delete_refused : (r : Refusal) → why_not_remove c.table t.0 k ≡ Some r → (new : CoreData) → StandsAmong rs opening (steps ++ steps_of_refusal t.0 r) (after_refusal s t.0 r) new
+      → LeadsAmong rs opening steps s (Do t.0 (Delete k)) (Refused r) new
+  delete_refused r why new stands = refused_leads rs opening steps s t.0 (Delete k) new r
+      (sym (not_deleted_is rs opening steps s c h t.0 k) ∙ ap (λ o. or_next o (conflicts (conflict s t.0 k))) why) stands
 
   module _ (none : why_not_remove c.table t.0 k ≡ None) where
     here : IsActiveHere s c t.0
-    here = active_here opening steps s c h t.0 (active_if_removed c.table t.0 k none)
+    here = active_here rs opening steps s c h t.0 (active_if_removed c.table t.0 k none)
 
     id : here.tx.id ≡ t.0
     id = id_of t.0 s.active here.tx here.found
@@ -68,50 +69,50 @@ module _ (opening : Map) (steps : List Step) (s : State) (c : CoreData) (h : Sta
     mine = ap (λ (n : ℕ). active_of n s.active) id ∙ here.found
 
     behind : why_not_do s t.0 (Delete k) ≡ conflicts (conflict s t.0 k)
-    behind = sym (not_deleted_is opening steps s c h t.0 k) ∙ ap (λ o. or_next o (conflicts (conflict s t.0 k))) none
+    behind = sym (not_deleted_is rs opening steps s c h t.0 k) ∙ ap (λ o. or_next o (conflicts (conflict s t.0 k))) none
 
     module _ (found : Shown) (is : AreVersionsInOrder (state_of c.table) t.0 t.0 (versions_at c.versions.slots c.versions.lists k) → found ≡ shown_in c t.0 k) where
       shown : found ≡ shown_in c t.0 k
-      shown = is (versions_in_order opening steps s c h t.0 here.state k)
+      shown = is (versions_in_order rs opening steps s c h t.0 here.state k)
 
       way : cause_at (state_of c.table) c.versions.slots t.0 found.version ≡ conflict s t.0 k
       way = ap (λ (x : Shown). cause_at (state_of c.table) c.versions.slots t.0 x.version) shown
-          ∙ subst (λ (n : ℕ). cause_at (state_of c.table) c.versions.slots n (shown_in c n k).version ≡ conflict s n k) id (in_the_way_is opening steps s c h here.tx mine k)
+          ∙ subst (λ (n : ℕ). cause_at (state_of c.table) c.versions.slots n (shown_in c n k).version ≡ conflict s n k) id (in_the_way_is rs opening steps s c h here.tx mine k)
 
       -- another has ended the version first
       pub delete_conflicts : (cause : Cause) → cause_at (state_of c.table) c.versions.slots t.0 found.version ≡ Some cause → (new : CoreData)
-          → StandsFor opening (steps ++ steps_of_refusal t.0 (WriteConflict cause)) (after_refusal s t.0 (WriteConflict cause)) new
-          → LeadsOn opening steps s (Do t.0 (Delete k)) (Refused (WriteConflict cause)) new
-      delete_conflicts cause told new stands = refused_leads opening steps s t.0 (Delete k) new (WriteConflict cause) (behind ∙ ap conflicts (sym way ∙ told)) stands
+          → StandsAmong rs opening (steps ++ steps_of_refusal t.0 (WriteConflict cause)) (after_refusal s t.0 (WriteConflict cause)) new
+          → LeadsAmong rs opening steps s (Do t.0 (Delete k)) (Refused (WriteConflict cause)) new
+      delete_conflicts cause told new stands = refused_leads rs opening steps s t.0 (Delete k) new (WriteConflict cause) (behind ∙ ap conflicts (sym way ∙ told)) stands
 
       module _ (free : cause_at (state_of c.table) c.versions.slots t.0 found.version ≡ None) where
         may : why_not_do s t.0 (Delete k) ≡ None
         may = behind ∙ ap conflicts (sym way ∙ free)
 
         answer_is : answer_in s t.0 (Delete k) ≡ cond (is_some found.version) Deleted Absent
-        answer_is = ap (λ b. cond b Deleted Absent) (key_is opening steps s c h t.0 here.tx here.found k) ∙ ap (λ (x : Shown). cond (is_some x.version) Deleted Absent) (sym shown)
+        answer_is = ap (λ b. cond b Deleted Absent) (key_is rs opening steps s c h t.0 here.tx here.found k) ∙ ap (λ (x : Shown). cond (is_some x.version) Deleted Absent) (sym shown)
 
         on : AreDependencies s (Delete k) here.tx (option_to_list found.depends_on)
-        on = subst (λ (x : Shown). AreDependencies s (Delete k) here.tx (option_to_list x.depends_on)) (sym shown) (names_just opening steps s c h t.0 here.tx here.found k (Delete k) refl)
+        on = subst (λ (x : Shown). AreDependencies s (Delete k) here.tx (option_to_list x.depends_on)) (sym shown) (names_just rs opening steps s c h t.0 here.tx here.found k (Delete k) refl)
 
         -- for want of memory
-        pub delete_starved : LeadsOn opening steps s (Do t.0 (Delete k)) (Refused OutOfMemory) c
-        delete_starved = spent_leads opening steps s t.0 (Delete k) c may h
+        pub delete_starved : LeadsAmong rs opening steps s (Do t.0 (Delete k)) (Refused OutOfMemory) c
+        delete_starved = spent_leads rs opening steps s t.0 (Delete k) c may h
 
-        pub delete_spent : (table : Txns (Node KeptTransaction)) → IsWritten c.table table t.0 HasDoneAsMuch → LeadsOn opening steps s (Do t.0 (Delete k)) (Refused OutOfMemory) (record c { table = table })
-        delete_spent table w = spent_leads opening steps s t.0 (Delete k) (record c { table = table }) may (stands_as_much opening steps s c h t.0 table w)
+        pub delete_spent : (table : Txns (Node KeptTransaction)) → IsWritten c.table table t.0 HasDoneAsMuch → LeadsAmong rs opening steps s (Do t.0 (Delete k)) (Refused OutOfMemory) (record c { table = table })
+        delete_spent table w = spent_leads rs opening steps s t.0 (Delete k) (record c { table = table }) may (stands_as_much rs opening steps s c h t.0 table w)
 
         pub delete_left : (versions : VersionsData) → versions ≡ c.versions → (table : Txns (Node KeptTransaction)) → IsWritten c.table table t.0 HasDoneAsMuch
-            → LeadsOn opening steps s (Do t.0 (Delete k)) (Refused OutOfMemory) (record c { versions = versions; table = table })
-        delete_left versions same table w = subst (λ (v : VersionsData). LeadsOn opening steps s (Do t.0 (Delete k)) (Refused OutOfMemory) (record c { versions = v; table = table })) (sym same) (delete_spent table w)
+            → LeadsAmong rs opening steps s (Do t.0 (Delete k)) (Refused OutOfMemory) (record c { versions = versions; table = table })
+        delete_left versions same table w = subst (λ (v : VersionsData). LeadsAmong rs opening steps s (Do t.0 (Delete k)) (Refused OutOfMemory) (record c { versions = v; table = table })) (sym same) (delete_spent table w)
 
         -- nothing is there
         pub absent_answers : found.version ≡ None → Absent ≡ answer_in s t.0 (Delete k)
         absent_answers e = sym (answer_is ∙ ap (λ (o : Option VersionNo). cond (is_some o) Deleted Absent) e)
 
         pub absent_leads : found.version ≡ None → (table : Txns (Node KeptTransaction)) → IsRecorded c.table table t (option_to_list found.depends_on) (Delete k) Absent
-            → LeadsOn opening steps s (Do t.0 (Delete k)) Accepted (record c { table = table })
-        absent_leads e table w = recorded_leads opening steps s c h t here.tx here.found (Delete k) Absent may (absent_answers e) refl (option_to_list found.depends_on) on table w
+            → LeadsAmong rs opening steps s (Do t.0 (Delete k)) Accepted (record c { table = table })
+        absent_leads e table w = recorded_leads rs opening steps s c h t here.tx here.found (Delete k) Absent may (absent_answers e) refl (option_to_list found.depends_on) on table w
 
         -- the version is ended
         module _ (n : VersionNo) (e : found.version ≡ Some n) where
@@ -120,14 +121,14 @@ module _ (opening : Map) (steps : List Step) (s : State) (c : CoreData) (h : Sta
 
           -- it is there
           pub deleted_live : IsSome (version_at c.versions.slots n)
-          deleted_live = ap is_some (shown_there opening steps s c h t.0 here.tx here.found k n (ap (λ (x : Shown). x.version) (sym shown) ∙ e)).at
+          deleted_live = ap is_some (shown_there rs opening steps s c h t.0 here.tx here.found k n (ap (λ (x : Shown). x.version) (sym shown) ∙ e)).at
 
           module _ (versions : VersionsData) (table : Txns (Node KeptTransaction)) (w : IsRemoved c.versions versions c.table table t (option_to_list found.depends_on) n k) where
             states : state_of c.table ≡ state_of w.recorded.roomy
             states = λ i u. sym ((own_changed c.table w.recorded.roomy t.0 HasMadeRoom w.recorded.room).states u) i
 
-            stands : StandsFor opening steps s (record c { table = w.recorded.roomy })
-            stands = stands_roomy opening steps s c h t.0 w.recorded.roomy w.recorded.room
+            stands : StandsAmong rs opening steps s (record c { table = w.recorded.roomy })
+            stands = stands_roomy rs opening steps s c h t.0 w.recorded.roomy w.recorded.room
 
             told : IsOwnChanged (after_register_all w.recorded.roomy t (option_to_list found.depends_on)) table t.0 (HasDoneMore (Delete k) Deleted (End n ∷ []))
             told = own_changed (after_register_all w.recorded.roomy t (option_to_list found.depends_on)) table t.0 (HasDoneMore (Delete k) Deleted (End n ∷ [])) w.recorded.done
@@ -140,10 +141,10 @@ module _ (opening : Map) (steps : List Step) (s : State) (c : CoreData) (h : Sta
                 → IsAnswered s (record c { table = w.recorded.roomy }) (tx_id i) here.tx (Delete k) (option_to_list found.depends_on) versions table
 
             claim : Claim here.tx.id
-            claim e' free' w' told' may' = deleted opening steps s (record c { table = w.recorded.roomy }) stands here.tx mine k n e' free' (option_to_list found.depends_on) versions table w' told' on may'
+            claim e' free' w' told' may' = deleted rs opening steps s (record c { table = w.recorded.roomy }) stands here.tx mine k n e' free' (option_to_list found.depends_on) versions table w' told' on may'
 
-            pub deleted_leads : LeadsOn opening steps s (Do t.0 (Delete k)) Accepted (record c { versions = versions; table = table })
-            deleted_leads = answer_leads opening steps s (record c { table = w.recorded.roomy }) stands t here.tx (Delete k) (option_to_list found.depends_on) versions table
+            pub deleted_leads : LeadsAmong rs opening steps s (Do t.0 (Delete k)) Accepted (record c { versions = versions; table = table })
+            deleted_leads = answer_leads rs opening steps s (record c { table = w.recorded.roomy }) stands t here.tx (Delete k) (option_to_list found.depends_on) versions table
                 (subst Claim id claim
                 (subst (λ (st : States). (shown_to st t.0 t.0 (versions_at c.versions.slots c.versions.lists k)).version ≡ Some n) states (ap (λ (x : Shown). x.version) (sym shown) ∙ e))
                 (subst (λ (st : States). cause_at st c.versions.slots t.0 (Some n) ≡ None) states (ap (cause_at (state_of c.table) c.versions.slots t.0) (sym e) ∙ free))

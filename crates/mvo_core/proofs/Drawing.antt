@@ -31,27 +31,32 @@ use Rattle.mvo_tale.specs.declared.tale_place.TalePlace.{TalePlace}
 use Rattle.mvo_tale.specs.declared.tale_place.TalePlace.TheVariants.{Open}
 use Rattle.mvo_tale.specs.Slots.{ends, open_end_at}
 use Rattle.mvo_tale.proofs.Moving.{grouped_opened}
+use Rattle.mvo_tale.proofs.ReadingMoves.{reading_behind}
 use Rattle.mvo_representation.specs.Table.{phase_as, phases_of}
 use Rattle.mvo_representation.specs.Order.{AreWrittenBy as HasWritten, MayAbort, with_fronts}
 use Rattle.mvo_representation.specs.WordLists.{HasWordLists}
 use Rattle.mvo_representation.proofs.Tabled.{active_is}
 use Rattle.mvo_versions.specs.Data.{VersionsData}
+use Rattle.mvo_readonly.specs.Whole.{stage_of}
+use Rattle.mvo_core.specs.Readers.{Readers, reader_in}
 use Rattle.mvo_core.specs.declared.kept_transaction.KeptTransaction.{KeptTransaction}
 use Rattle.mvo_core.specs.Data.{CoreData, own_of}
-use Rattle.mvo_core.specs.Standing.{StandsFor, IsKeptActive, IsKeptPreparing, HasWorks, own_words_of, words_in}
+use Rattle.mvo_core.specs.Standing.{IsKeptActive, IsKeptPreparing, HasWorks, own_words_of, words_in, StandsAmong}
 use Rattle.mvo_core.specs.Causes.{why_not_active, flag_of}
 use Rattle.mvo_core.specs.Aborting.{IsGivenUp}
 use Rattle.mvo_core.specs.Fronts.{comes_at_draw, numbers_in, AreInFront}
 use Rattle.mvo_core.specs.Keeping.{IsWritten, IsWrittenThen, IsPlacedInTale, with_own_at}
-use Rattle.mvo_core.specs.Steps.{came, LeadsOn}
+use Rattle.mvo_core.specs.Steps.{came, LeadsAmong}
 use Rattle.mvo_core.proofs.SamePlaces.{stands_by_places}
 use Rattle.mvo_core.proofs.CausesTold.{none_active}
 use Rattle.mvo_core.proofs.EndCauses.{not_precommitted_is, or_first, or_last}
 use Rattle.mvo_core.proofs.EndLaws.{precommit_in_table, draw_in_order, precommit_in_lists, lists_are_written, fronts_in_numbers}
 use Rattle.mvo_core.proofs.GivenUp.{precommit_given_up}
-use Rattle.mvo_core.proofs.OwnChanged.{IsOwnChanged, own_changed, words_stay}
+use Rattle.mvo_core.proofs.OwnChanged.{IsOwnChanged, own_changed, words_stay, others_changed}
+use Rattle.mvo_core.proofs.ReaderStages.{AreSameReaders, stages_kept}
+use Rattle.mvo_core.proofs.ReaderTales.{places_later, places_with}
 use Rattle.mvo_core.proofs.Rest.{HasRest, stands_then}
-use Rattle.mvo_core.proofs.KeptTale.{tale_opened, ends_upto}
+use Rattle.mvo_core.proofs.KeptTale.{tale_opened_among}
 use Rattle.mvo_core.proofs.TaleMoves.{open_behind, open_last}
 use Rattle.mvo_core.proofs.Carried.{some_own}
 
@@ -78,18 +83,18 @@ clock_written old new t change w = ap (λ x. x.clock) w.is ∙ go (kept_of old t
     go (Some node) = refl
 
 -- it is refused before the clock is looked at
-pub precommit_refused : (opening : Map) (steps : List Step) (s : State) (c : CoreData) → StandsFor opening steps s c → (t : ℕ) (r : Refusal) (new : CoreData) → why_not_active c.table t ≡ Some r → IsGivenUp c t r new
-    → LeadsOn opening steps s (Precommit t) (Refused r) new
-precommit_refused opening steps s c h t r new why left = precommit_given_up opening steps s c new h t r left
-    (sym (not_precommitted_is opening steps s c h t) ∙ or_first (why_not_active c.table t) (when (nat_le MAX_STAMP c.table.clock) ClockSpent) r why)
+pub precommit_refused : (rs : Readers) (opening : Map) (steps : List Step) (s : State) (c : CoreData) → StandsAmong rs opening steps s c → (t : ℕ) (r : Refusal) (new : CoreData) → why_not_active c.table t ≡ Some r → IsGivenUp c t r new
+    → LeadsAmong rs opening steps s (Precommit t) (Refused r) new
+precommit_refused rs opening steps s c h t r new why left = precommit_given_up rs opening steps s c new h t r left
+    (sym (not_precommitted_is rs opening steps s c h t) ∙ or_first (why_not_active c.table t) (when (nat_le MAX_STAMP c.table.clock) ClockSpent) r why)
 
-module _ (opening : Map) (steps : List Step) (s : State) (c : CoreData) (h : StandsFor opening steps s c) where
+module _ (rs : Readers) (opening : Map) (steps : List Step) (s : State) (c : CoreData) (h : StandsAmong rs opening steps s c) where
   -- the ends that were drawn are up to the clock
   pub ends_below : (e : ℕ) → e ≡ c.table.clock + 1 → AllByRecursion (λ earlier. earlier < e) (ends c.tale)
   ends_below e is =
       let clock = h.dependencies.stands.clock in
       each_weaker (λ (earlier : ℕ). earlier ≤ s.clock) (λ (earlier : ℕ). earlier < e) (λ earlier le. omega (arith, le, clock, is)) (ends c.tale)
-      (ends_upto s c.tale h.versions.kept.started h.versions.kept.sound.rising h.tale h.versions.kept.sound.placed)
+      h.places.drawn
 
   module _ (t : TxId) (none : why_not_active c.table t.0 ≡ None) where
     pub was_active : state_of c.table t.0 ≡ Some Active
@@ -97,21 +102,21 @@ module _ (opening : Map) (steps : List Step) (s : State) (c : CoreData) (h : Sta
 
     why : (b : Bool) → nat_le MAX_STAMP c.table.clock ≡ b → why_not_precommit s t.0 ≡ when b ClockSpent
     why b e =
-        sym (not_precommitted_is opening steps s c h t.0)
+        sym (not_precommitted_is rs opening steps s c h t.0)
         ∙ or_last (why_not_active c.table t.0) (when (nat_le MAX_STAMP c.table.clock) ClockSpent) none
         ∙ ap (λ (d : Bool). when d ClockSpent) e
 
     -- ---- the clock is spent, or memory is
-    pub clock_spent_leads : MAX_STAMP ≤ c.table.clock → LeadsOn opening steps s (Precommit t.0) (Refused ClockSpent) c
+    pub clock_spent_leads : MAX_STAMP ≤ c.table.clock → LeadsAmong rs opening steps s (Precommit t.0) (Refused ClockSpent) c
     clock_spent_leads le = record {
       may = subst (λ o. IsRefusal true o ClockSpent) (sym (why true (le-leb MAX_STAMP c.table.clock le))) refl;
-      stands = subst (λ ys. StandsFor opening ys s c) (sym (append-nil steps)) h;
+      stands = subst (λ ys. StandsAmong rs opening ys s c) (sym (append-nil steps)) h;
     }
 
-    pub memory_spent_leads : c.table.clock < MAX_STAMP → LeadsOn opening steps s (Precommit t.0) (Refused OutOfMemory) c
+    pub memory_spent_leads : c.table.clock < MAX_STAMP → LeadsAmong rs opening steps s (Precommit t.0) (Refused OutOfMemory) c
     memory_spent_leads lt = record {
       may = subst (λ o. IsRefusal true o OutOfMemory) (sym (why false (over_limit MAX_STAMP c.table.clock lt))) refl;
-      stands = subst (λ ys. StandsFor opening ys s c) (sym (append-nil steps)) h;
+      stands = subst (λ ys. StandsAmong rs opening ys s c) (sym (append-nil steps)) h;
     }
 
     -- ---- it is Active
@@ -202,10 +207,15 @@ module _ (opening : Map) (steps : List Step) (s : State) (c : CoreData) (h : Sta
             (λ o. new_one, tt);
       }
 
-      rest : HasRest (after_prepare s r (s.clock + 1)) table tale c
-      rest = record {
+      readers : stage_of t.0 rs.unfinished ≡ None → AreSameReaders c.table table
+      readers other u = ap reader_in (own_drawn u) ∙ others_changed c.table placed t.0 (IsPlacedInTale (length c.tale)) change rs.unfinished c.tale h.stages other change.changed.kind u
+
+      rest : stage_of t.0 rs.unfinished ≡ None → HasRest rs (after_prepare s r (s.clock + 1)) table tale c
+      rest other = record {
         works = works;
-        tale = tale_opened s c.tale h.versions.kept.started h.versions.kept.sound.rising h.tale end' (to_stamped (s.clock + 1) r) refl (sym end_is);
+        tale = tale_opened_among s c.tale h.versions.kept.started h.versions.kept.sound.rising h.tale end' (to_stamped (s.clock + 1) r) refl (sym end_is);
+        places = places_with rs s.start (s.clock + 1) c.tale (places_later rs s.start s.clock c.tale h.places (s.clock + 1) (omega arith)) end' (omega (arith, end_is));
+        stages = stages_kept rs.unfinished c.table table c.tale tale (readers other) (λ q b k. reading_behind c.tale (Open end') q b k) h.stages;
         marks = h.marks;
         grouped = grouped_opened c.tale c.grouped c.closed end' h.grouped;
         start = h.start;
@@ -227,25 +237,25 @@ module _ (opening : Map) (steps : List Step) (s : State) (c : CoreData) (h : Sta
       state_then : after_precommit s t.0 ≡ after_prepare s r (s.clock + 1)
       state_then = ap (after_precommit_of s) found.1
 
-      drawn : why_not_precommit s t.0 ≡ None → StandsFor opening (steps ++ theory.steps_of s (Precommit t.0) Accepted) (after_precommit s t.0) (record c { versions = record c.versions { lists = lists }; table = table; tale = tale })
-      drawn free = stands_then opening steps s c h (Precommit t.0) Accepted table lists tale (free, tt) refl
+      drawn : stage_of t.0 rs.unfinished ≡ None → why_not_precommit s t.0 ≡ None → StandsAmong rs opening (steps ++ theory.steps_of s (Precommit t.0) Accepted) (after_precommit s t.0) (record c { versions = record c.versions { lists = lists }; table = table; tale = tale })
+      drawn other free = stands_then rs opening steps s c h (Precommit t.0) Accepted table lists tale (free, tt) refl
           (fronts_in_numbers (comes_at_draw (state_of c.table) t.0) c.versions.slots c.versions.lists numbers h.versions.numbers)
           (precommit_in_table opening steps s placed t.0 h.versions.kept deps still_active)
           (draw_in_order opening steps s (state_of c.table) (state_of table) c.versions.slots c.versions.lists c.versions.places t.0 end' numbers h.versions was_active others here end_is written h.order)
           (subst (λ z. HasWordLists z c.versions.slots (words_in table)) (sym state_then)
           (subst (HasWordLists (after_prepare s r (s.clock + 1)) c.versions.slots) same_words
           (precommit_in_lists opening steps s (state_of c.table) c.versions.slots c.versions.lists c.versions.places (words_in c.table) r h.versions its_own h.words)))
-          (subst (λ z. HasRest z table tale c) (sym state_then) rest)
+          (subst (λ z. HasRest rs z table tale c) (sym state_then) (rest other))
 
-      stands_drawn : why_not_precommit s t.0 ≡ None → (versions : VersionsData) (new : List TalePlace) → AreInFront (comes_at_draw (state_of c.table) t.0) c.versions versions (words_in c.table t.0) → new ≡ tale
-          → StandsFor opening (steps ++ theory.steps_of s (Precommit t.0) Accepted) (after_precommit s t.0) (record c { versions = versions; table = table; tale = new })
-      stands_drawn free versions new front is =
-          subst (λ (p : VersionsData × List TalePlace). StandsFor opening (steps ++ theory.steps_of s (Precommit t.0) Accepted) (after_precommit s t.0) (record c { versions = p.0; table = table; tale = p.1 }))
+      stands_drawn : stage_of t.0 rs.unfinished ≡ None → why_not_precommit s t.0 ≡ None → (versions : VersionsData) (new : List TalePlace) → AreInFront (comes_at_draw (state_of c.table) t.0) c.versions versions (words_in c.table t.0) → new ≡ tale
+          → StandsAmong rs opening (steps ++ theory.steps_of s (Precommit t.0) Accepted) (after_precommit s t.0) (record c { versions = versions; table = table; tale = new })
+      stands_drawn other free versions new front is =
+          subst (λ (p : VersionsData × List TalePlace). StandsAmong rs opening (steps ++ theory.steps_of s (Precommit t.0) Accepted) (after_precommit s t.0) (record c { versions = p.0; table = table; tale = p.1 }))
           (λ i. (record { slots = sym front.slots i; lists = sym front.lists i; places = versions.places }, sym is i))
-          (stands_by_places opening _ _ _ versions.places front.places (drawn free))
+          (stands_by_places rs opening _ _ _ versions.places front.places (drawn other free))
 
     -- by what the table answers: with the clock below its limit, the end
-    module _ (place : ℕ) (last : place ≡ length c.tale) (e : Stamp) (drawn : e.0 ≡ c.table.clock + 1) (tale : List TalePlace) (opened : tale ≡ c.tale ++ Open e ∷ []) (versions : VersionsData) (front : AreInFront (comes_at_draw (state_of c.table) t.0) c.versions versions (words_in c.table t.0)) (lt : c.table.clock < MAX_STAMP) where
+    module _ (place : ℕ) (last : place ≡ length c.tale) (e : Stamp) (drawn : e.0 ≡ c.table.clock + 1) (tale : List TalePlace) (opened : tale ≡ c.tale ++ Open e ∷ []) (versions : VersionsData) (front : AreInFront (comes_at_draw (state_of c.table) t.0) c.versions versions (words_in c.table t.0)) (lt : c.table.clock < MAX_STAMP) (other : stage_of t.0 rs.unfinished ≡ None) where
       free : why_not_precommit s t.0 ≡ None
       free = why false (over_limit MAX_STAMP c.table.clock lt)
 
@@ -253,7 +263,7 @@ module _ (opening : Map) (steps : List Step) (s : State) (c : CoreData) (h : Sta
       unspent = ap (λ (b : Bool). cond b (Some ClockSpent) None) (over_limit MAX_STAMP c.table.clock lt)
 
       pub draw_leads : (result : Result Stamp Refusal) (table : Txns (Node KeptTransaction)) → OnOk result (IsWrittenThen c.table table t.0 (IsPlacedInTale place) (λ x. txns.table_after_prepare x t.0)) → IfErr result (λ why. spent_clock c.table.clock ≡ Some why)
-          → LeadsOn opening steps s (Precommit t.0) (came result) (record c { versions = versions; table = table; tale = tale })
+          → LeadsAmong rs opening steps s (Precommit t.0) (came result) (record c { versions = versions; table = table; tale = tale })
       draw_leads (Ok d) new w spent =
           let placed = w.between in
           let change = own_changed c.table placed t.0 (IsPlacedInTale (length c.tale)) (subst (λ (n : ℕ). IsWritten c.table placed t.0 (IsPlacedInTale n)) last w.written) in
@@ -261,7 +271,7 @@ module _ (opening : Map) (steps : List Step) (s : State) (c : CoreData) (h : Sta
           let tale_is : tale ≡ c.tale ++ Open (record { 0 = placed.clock + 1 }) ∷ [] = opened ∙ ap (λ (n : ℕ). c.tale ++ Open (record { 0 = n }) ∷ []) (drawn ∙ ap (λ (n : ℕ). n + 1) (sym same_clock)) in
           record {
             may = (free, tt);
-            stands = subst (λ x. StandsFor opening (steps ++ theory.steps_of s (Precommit t.0) Accepted) (after_precommit s t.0) (record c { versions = versions; table = x; tale = tale })) (sym w.is)
-                (stands_drawn placed change free versions tale front tale_is);
+            stands = subst (λ x. StandsAmong rs opening (steps ++ theory.steps_of s (Precommit t.0) Accepted) (after_precommit s t.0) (record c { versions = versions; table = x; tale = tale })) (sym w.is)
+                (stands_drawn placed change other free versions tale front tale_is);
           }
       draw_leads (Err r) new w spent = absurd (none_refusal r (sym unspent ∙ spent))

@@ -13,8 +13,9 @@ use Rattle.mvo_theory.specs.Causes.{unless_active, unless_preparing, next_differ
 use Rattle.mvo_txn.specs.declared.state.TxState.{TxState}
 use Rattle.mvo_txn.specs.declared.state.TxState.TheVariants.{Active, Preparing, Committed, Aborted}
 use Rattle.std.specs.Prelude.{nat_le}
+use Rattle.mvo_core.specs.Readers.{Readers}
 use Rattle.mvo_core.specs.Data.{CoreData}
-use Rattle.mvo_core.specs.Standing.{StandsFor}
+use Rattle.mvo_core.specs.Standing.{StandsAmong}
 use Rattle.mvo_core.specs.Causes.{unless_preparing_as, why_not_active, why_not_preparing}
 use Rattle.mvo_core.proofs.CausesTold.{not_active_is, not_preparing_is, or_next_deep, or_none, some_none}
 
@@ -30,21 +31,21 @@ or_first a b r e = ap (λ o. or_next o b) e
 pub or_last : (a b : Option Refusal) → a ≡ None → or_next a b ≡ b
 or_last a b e = ap (λ o. or_next o b) e
 
-module _ (opening : Map) (steps : List Step) (s : State) (c : CoreData) (h : StandsFor opening steps s c) (t : ℕ) where
+module _ (rs : Readers) (opening : Map) (steps : List Step) (s : State) (c : CoreData) (h : StandsAmong rs opening steps s c) (t : ℕ) where
   pub not_precommitted_is : or_next (why_not_active c.table t) (when (nat_le MAX_STAMP c.table.clock) ClockSpent) ≡ why_not_precommit s t
   not_precommitted_is =
-      ap (λ (a : Option Refusal). or_next a (when (nat_le MAX_STAMP c.table.clock) ClockSpent)) (not_active_is opening steps s c h t)
+      ap (λ (a : Option Refusal). or_next a (when (nat_le MAX_STAMP c.table.clock) ClockSpent)) (not_active_is rs opening steps s c h t)
       ∙ ap (λ (n : ℕ). or_next (first_cause (unless_active s t)) (when (nat_le MAX_STAMP n) ClockSpent)) h.dependencies.stands.clock
       ∙ sym (first_behind (unless_active s t) (when (nat_le MAX_STAMP s.clock) ClockSpent))
 
   pub not_validated_is : or_next (why_not_preparing c.table t) (next_differs s.stamped (preparing_of t s.stamped)) ≡ why_not_validate s t
   not_validated_is =
-      ap (λ (a : Option Refusal). or_next a (next_differs s.stamped (preparing_of t s.stamped))) (not_preparing_is opening steps s c h t)
+      ap (λ (a : Option Refusal). or_next a (next_differs s.stamped (preparing_of t s.stamped))) (not_preparing_is rs opening steps s c h t)
       ∙ sym (first_behind (unless_preparing s t) (next_differs s.stamped (preparing_of t s.stamped)))
 
   pub not_settled_is : or_next (why_not_preparing c.table t) (when (not (was_valid (preparing_of t s.stamped))) NotValidated) ≡ why_not_settle s t
   not_settled_is =
-      ap (λ (a : Option Refusal). or_next a (when (not (was_valid (preparing_of t s.stamped))) NotValidated)) (not_preparing_is opening steps s c h t)
+      ap (λ (a : Option Refusal). or_next a (when (not (was_valid (preparing_of t s.stamped))) NotValidated)) (not_preparing_is rs opening steps s c h t)
       ∙ sym (first_behind (unless_preparing s t) (when (not (was_valid (preparing_of t s.stamped))) NotValidated))
 
 -- ---- none stands: it is Preparing

@@ -11,33 +11,34 @@ use Rattle.mvo_theory.specs.Calls.{Call, IsRefusal, why_not, takes_memory}
 use Rattle.mvo_theory.specs.Calls.Call.{Precommit, Validate, Settle, Rollback}
 use Rattle.mvo_theory.specs.Calls.Result.{Accepted, Refused}
 use Rattle.mvo_txn.specs.Txns.{state_of}
+use Rattle.mvo_core.specs.Readers.{Readers}
 use Rattle.mvo_core.specs.Causes.{why_not_undo}
 use Rattle.mvo_core.specs.Data.{CoreData}
-use Rattle.mvo_core.specs.Standing.{StandsFor}
-use Rattle.mvo_core.specs.Steps.{LeadsOn}
+use Rattle.mvo_core.specs.Standing.{StandsAmong}
+use Rattle.mvo_core.specs.Steps.{LeadsAmong}
 use Rattle.mvo_core.specs.Aborting.{IsGivenUp, IsAborted}
 use Rattle.mvo_core.proofs.CausesTold.{not_undone_is}
 
 -- it is a failure, and the transaction is aborted
 pub failed : (old new : CoreData) (t : ℕ) (r : Refusal) → is_failure r ≡ true → IsAborted old t new → IsGivenUp old t r new
-failed old new t r e aborted opening steps s h =
-    subst (λ (b : Bool). StandsFor opening (steps ++ cond b (Aborts t ∷ []) []) (cond b (after_abort s t) s) new) (sym e) (aborted opening steps s h)
+failed old new t r e aborted rs opening steps s h =
+    subst (λ (b : Bool). StandsAmong rs opening (steps ++ cond b (Aborts t ∷ []) []) (cond b (after_abort s t) s) new) (sym e) (aborted rs opening steps s h)
 
 -- the first cause that stands is the refusal
 pub first_stands : (s : State) (call : Call) (r : Refusal) → why_not s call ≡ Some r → IsRefusal (takes_memory call) (why_not s call) r
 first_stands s call r e = subst (λ o. IsRefusal (takes_memory call) o r) (sym e) refl
 
-module _ (opening : Map) (steps : List Step) (s : State) (old new : CoreData) (h : StandsFor opening steps s old) (t : ℕ) (r : Refusal) (left : IsGivenUp old t r new) where
-  pub precommit_given_up : why_not s (Precommit t) ≡ Some r → LeadsOn opening steps s (Precommit t) (Refused r) new
-  precommit_given_up why = record { may = first_stands s (Precommit t) r why; stands = left opening steps s h }
+module _ (rs : Readers) (opening : Map) (steps : List Step) (s : State) (old new : CoreData) (h : StandsAmong rs opening steps s old) (t : ℕ) (r : Refusal) (left : IsGivenUp old t r new) where
+  pub precommit_given_up : why_not s (Precommit t) ≡ Some r → LeadsAmong rs opening steps s (Precommit t) (Refused r) new
+  precommit_given_up why = record { may = first_stands s (Precommit t) r why; stands = left rs opening steps s h }
 
-  pub validate_given_up : why_not s (Validate t) ≡ Some r → LeadsOn opening steps s (Validate t) (Refused r) new
-  validate_given_up why = record { may = first_stands s (Validate t) r why; stands = left opening steps s h }
+  pub validate_given_up : why_not s (Validate t) ≡ Some r → LeadsAmong rs opening steps s (Validate t) (Refused r) new
+  validate_given_up why = record { may = first_stands s (Validate t) r why; stands = left rs opening steps s h }
 
-  pub settle_given_up : why_not s (Settle t) ≡ Some r → LeadsOn opening steps s (Settle t) (Refused r) new
-  settle_given_up why = record { may = first_stands s (Settle t) r why; stands = left opening steps s h }
+  pub settle_given_up : why_not s (Settle t) ≡ Some r → LeadsAmong rs opening steps s (Settle t) (Refused r) new
+  settle_given_up why = record { may = first_stands s (Settle t) r why; stands = left rs opening steps s h }
 
 -- ---- a rollback
-module _ (opening : Map) (steps : List Step) (s : State) (old new : CoreData) (h : StandsFor opening steps s old) (t : ℕ) where
-  pub rolled_back : why_not_undo (state_of old.table t) ≡ None → IsAborted old t new → LeadsOn opening steps s (Rollback t) Accepted new
-  rolled_back none aborted = record { may = (sym (not_undone_is opening steps s old h t) ∙ none, tt); stands = aborted opening steps s h }
+module _ (rs : Readers) (opening : Map) (steps : List Step) (s : State) (old new : CoreData) (h : StandsAmong rs opening steps s old) (t : ℕ) where
+  pub rolled_back : why_not_undo (state_of old.table t) ≡ None → IsAborted old t new → LeadsAmong rs opening steps s (Rollback t) Accepted new
+  rolled_back none aborted = record { may = (sym (not_undone_is rs opening steps s old h t) ∙ none, tt); stands = aborted rs opening steps s h }

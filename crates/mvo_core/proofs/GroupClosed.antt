@@ -27,6 +27,7 @@ use Rattle.mvo_tale.specs.declared.next_records.NextRecords.{NextRecords}
 use Rattle.mvo_tale.specs.declared.tale_place.TalePlace.{TalePlace}
 use Rattle.mvo_tale.specs.Forgetting.{forgotten}
 use Rattle.mvo_tale.specs.Slots.{open_ends}
+use Rattle.mvo_tale.specs.Others.{others_places}
 use Rattle.mvo_tale.specs.Records.{fits}
 use Rattle.mvo_tale.specs.Next.{AreNextRecords}
 use Rattle.mvo_tale.proofs.KeptPlaces.{tale_closed}
@@ -37,12 +38,13 @@ use Rattle.mvo_representation.specs.Table.{phases_of}
 use Rattle.mvo_representation.proofs.TableSteps.{table_closed}
 use Rattle.mvo_representation.proofs.WordsKept.{close_keeps_lists}
 use Rattle.mvo_representation.proofs.Reworded.{kept_after_close}
+use Rattle.mvo_core.specs.Readers.{Readers, no_readers}
 use Rattle.mvo_core.specs.declared.kept_transaction.KeptTransaction.{KeptTransaction}
 use Rattle.mvo_core.specs.declared.answers.Closed.{Closed}
 use Rattle.mvo_core.specs.Data.{CoreData}
-use Rattle.mvo_core.specs.Standing.{StandsFor, Stands, words_in}
-use Rattle.mvo_core.specs.Closing.{IsClosedNow, IsNotClosed, HasClosed}
-use Rattle.mvo_core.proofs.KeptTale.{opens_above, next_group_kept}
+use Rattle.mvo_core.specs.Standing.{Stands, words_in, StandsAmong}
+use Rattle.mvo_core.specs.Closing.{IsClosedAmong, IsNotClosedAmong, HasClosedAmong}
+use Rattle.mvo_core.proofs.KeptTale.{opens_above_among, next_group_among}
 use Rattle.mvo_core.proofs.Trimmed.{stands_forgotten, low_water_told}
 use Rattle.rtrb.specs.declared.producer.Producer.{Producer}
 
@@ -70,7 +72,7 @@ pub full_is : (b : Bool) (n : ℕ) → (IsTrue b ↔ (n ≡ 0)) → (n == 0) ≡
 full_is true n v = eq-eqb n 0 (v.0 refl)
 full_is false n v = ne_eqb n 0 (λ z. true≢false (sym (v.1 z)))
 
-module _ (opening : Map) (steps : List Step) (s : State) (c : CoreData) (h : StandsFor opening steps s c) (low : ℕ) (told : IsLowWater c.table low) where
+module _ (rs : Readers) (opening : Map) (steps : List Step) (s : State) (c : CoreData) (h : StandsAmong rs opening steps s c) (low : ℕ) (told : IsLowWater c.table low) where
   low_is : low ≡ low_water s
   low_is = low_water_told opening steps s c.table low h.versions.kept h.dependencies.stands told
 
@@ -82,7 +84,7 @@ module _ (opening : Map) (steps : List Step) (s : State) (c : CoreData) (h : Sta
 
   -- ---- what the records of the next group need
   pub ends_above : AllByRecursion (λ e. low < e) (open_ends c.tale)
-  ends_above = subst (λ (n : ℕ). AllByRecursion (λ e. n < e) (open_ends c.tale)) (sym low_is) (opens_above s c.tale h.versions.kept.started h.versions.kept.sound.rising h.tale (low_water s) (closed_at_low opening steps s h.versions.kept).above)
+  ends_above = subst (λ (n : ℕ). AllByRecursion (λ e. n < e) (open_ends c.tale)) (sym low_is) (opens_above_among s c.tale h.versions.kept.started h.versions.kept.sound.rising h.tale (low_water s) (closed_at_low opening steps s h.versions.kept).above)
 
   pub above_closed : IsClosedAt s.marks.closed s → (low == c.closed) ≡ false → c.closed < low
   above_closed closed moved =
@@ -101,14 +103,14 @@ module _ (opening : Map) (steps : List Step) (s : State) (c : CoreData) (h : Sta
     in_state = subst (λ (m : Marks). AreNextRecords c.tale m.closed (low_water s) n) (sym h.marks) (subst (λ (l : ℕ). AreNextRecords c.tale c.closed l n) low_is are)
 
     next_is : IsNextGroup fits s (record { prev = s.marks.closed; mark = n.mark.0; commits = in_state.taken })
-    next_is = next_group_kept s c.tale h.versions.kept.started h.versions.kept.sound.rising h.tale n in_state
+    next_is = next_group_among s c.tale h.versions.kept.started h.versions.kept.sound.rising h.tale h.places.readers.idle n in_state
 
     -- the new mark is the lowest that a group may have
     module _ (up : c.closed < n.mark.0) where
       up_in_state : s.marks.closed ≤ n.mark.0
       up_in_state = subst (λ (m : Marks). m.closed ≤ n.mark.0) (sym h.marks) (omega (arith, up))
 
-      with_group : StandsFor opening steps (after_close s n.mark.0) (record c { closed = n.mark.0; grouped = n.next })
+      with_group : StandsAmong rs opening steps (after_close s n.mark.0) (record c { closed = n.mark.0; grouped = n.next })
       with_group = record {
         versions = record {
           kept = kept_closed opening steps s n.mark.0 h.versions.kept;
@@ -120,7 +122,9 @@ module _ (opening : Map) (steps : List Step) (s : State) (c : CoreData) (h : Sta
         order = h.order;
         works = record { active = h.works.active; preparing = h.works.preparing };
         words = close_in_lists s c.versions.slots (words_in c.table) n.mark.0 h.words;
-        tale = tale_closed s n.mark.0 c.tale up_in_state h.tale;
+        tale = tale_closed s n.mark.0 (others_places c.tale) up_in_state h.tale;
+        places = h.places;
+        stages = h.stages;
         marks = ap (λ (m : Marks). record { opening = m.opening; closed = n.mark.0 }) h.marks;
         grouped = are.next;
         start = h.start;
@@ -128,13 +132,13 @@ module _ (opening : Map) (steps : List Step) (s : State) (c : CoreData) (h : Sta
       }
 
       -- and what is both in a group and trimmed is forgotten
-      pub stands_closed : StandsFor opening steps (after_close s n.mark.0) (record c { tale = forgotten (min c.start n.mark.0) c.tale; closed = n.mark.0; grouped = n.next })
-      stands_closed = stands_forgotten opening steps (after_close s n.mark.0) (record c { closed = n.mark.0; grouped = n.next }) with_group (min c.start n.mark.0)
+      pub stands_closed : StandsAmong rs opening steps (after_close s n.mark.0) (record c { tale = forgotten (min c.start n.mark.0) c.tale; closed = n.mark.0; grouped = n.next })
+      stands_closed = stands_forgotten rs opening steps (after_close s n.mark.0) (record c { closed = n.mark.0; grouped = n.next }) with_group (min c.start n.mark.0)
           (subst (λ (m : ℕ). min c.start n.mark.0 ≤ m) (sym h.start) (min-le_left c.start n.mark.0)) (min-le_right c.start n.mark.0)
 
       pub closed_now : (prev : Stamp) → prev.0 ≡ c.closed → KeepsRules (group_of c.closed n.mark.0 n.records.items)
           → (tale : List TalePlace) → tale ≡ forgotten (min c.start n.mark.0) c.tale
-          → IsClosedNow opening steps s (record { prev = prev; mark = n.mark }) (record c { tale = tale; closed = n.mark.0; grouped = n.next }) (group_of c.closed n.mark.0 n.records.items)
+          → IsClosedAmong rs opening steps s (record { prev = prev; mark = n.mark }) (record c { tale = tale; closed = n.mark.0; grouped = n.next }) (group_of c.closed n.mark.0 n.records.items)
       closed_now prev was rules tale left = record {
         commits = in_state.taken;
         next = subst (λ (m : Marks). IsNextGroup fits s (record { prev = m.closed; mark = n.mark.0; commits = in_state.taken })) h.marks next_is;
@@ -142,7 +146,7 @@ module _ (opening : Map) (steps : List Step) (s : State) (c : CoreData) (h : Sta
         rules = rules;
         prev = sym was;
         mark = refl;
-        stands = subst (λ (xs : List TalePlace). StandsFor opening steps (after_close s n.mark.0) (record c { tale = xs; closed = n.mark.0; grouped = n.next })) (sym left) stands_closed;
+        stands = subst (λ (xs : List TalePlace). StandsAmong rs opening steps (after_close s n.mark.0) (record c { tale = xs; closed = n.mark.0; grouped = n.next })) (sym left) stands_closed;
       }
 
     -- and all are settled up to its mark
@@ -155,16 +159,16 @@ module _ (opening : Map) (steps : List Step) (s : State) (c : CoreData) (h : Sta
   pub closes : (low == c.closed) ≡ false → why_not_close s false ≡ None
   closes ne = why_is false ∙ moved_at low c.closed false ne
 
-  pub not_moved : (full : Bool) → (low == c.closed) ≡ true → IsNotClosed opening steps s full NothingToDo c
+  pub not_moved : (full : Bool) → (low == c.closed) ≡ true → IsNotClosedAmong rs opening steps s full NothingToDo c
   not_moved full q = record { refused = subst (λ o. IsRefusal true o NothingToDo) (sym (why_is full ∙ nothing_at low c.closed full q)) refl; stands = h }
 
   moved_is : (full b : Bool) → (low == c.closed) ≡ false → full ≡ b → first_cause (when b RingFull ∷ []) ≡ why_not_close s full
   moved_is full b ne f = sym (why_is full ∙ moved_at low c.closed full ne ∙ ap (λ (x : Bool). first_cause (when x RingFull ∷ [])) f)
 
-  pub no_slot : (full : Bool) → (low == c.closed) ≡ false → full ≡ true → IsNotClosed opening steps s full RingFull c
+  pub no_slot : (full : Bool) → (low == c.closed) ≡ false → full ≡ true → IsNotClosedAmong rs opening steps s full RingFull c
   no_slot full ne f = record { refused = subst (λ o. IsRefusal true o RingFull) (moved_is full true ne f) refl; stands = h }
 
-  pub no_memory : (full : Bool) → (low == c.closed) ≡ false → full ≡ false → IsNotClosed opening steps s full OutOfMemory c
+  pub no_memory : (full : Bool) → (low == c.closed) ≡ false → full ≡ false → IsNotClosedAmong rs opening steps s full OutOfMemory c
   no_memory full ne f = record { refused = subst (λ o. IsRefusal true o OutOfMemory) (moved_is full false ne f) refl; stands = h }
 
 -- ---- a core stands for the state with the group
@@ -174,15 +178,15 @@ stands_with_group {c} i low told n are up tale left = subst (λ (xs : List TaleP
   opening = i.opening;
   steps = i.steps;
   state = after_close i.state n.mark.0;
-  stands = stands_closed i.opening i.steps i.state c i.stands low told n are up;
-  closed = all_settled i.opening i.steps i.state c i.stands low told n are i.closed;
+  stands = stands_closed no_readers i.opening i.steps i.state c i.stands low told n are up;
+  closed = all_settled no_readers i.opening i.steps i.state c i.stands low told n are i.closed;
 })
 
 -- ---- what the code learns
 pub made : (o : Option GroupData) (x g : GroupData) → SomeIff o (KeepsRules g) g → o ≡ Some x → KeepsRules g × (g ≡ x)
 made o x g h e = let k : SomeIff (Some x) (KeepsRules g) g = subst (λ (v : Option GroupData). SomeIff v (KeepsRules g) g) e h in (k.0, sym k.1)
 
-pub spent_for : {A P : Type 0} (opening : Map) (steps : List Step) (s : State) (ring ring2 : Producer GroupData A P) (c : CoreData) → HasClosed opening steps s ring (Err OutOfMemory) c ring2
-    → (r : Result Closed Refusal) → IsErrAnd r (λ e. e ≡ OutOfMemory) → HasClosed opening steps s ring r c ring2
-spent_for opening steps s ring ring2 c h (Ok a) e = absurd e
-spent_for opening steps s ring ring2 c h (Err r) e = subst (λ (v : Refusal). HasClosed opening steps s ring (Err v) c ring2) (sym e) h
+pub spent_for : {A P : Type 0} (rs : Readers) (opening : Map) (steps : List Step) (s : State) (ring ring2 : Producer GroupData A P) (c : CoreData) → HasClosedAmong rs opening steps s ring (Err OutOfMemory) c ring2
+    → (r : Result Closed Refusal) → IsErrAnd r (λ e. e ≡ OutOfMemory) → HasClosedAmong rs opening steps s ring r c ring2
+spent_for rs opening steps s ring ring2 c h (Ok a) e = absurd e
+spent_for rs opening steps s ring ring2 c h (Err r) e = subst (λ (v : Refusal). HasClosedAmong rs opening steps s ring (Err v) c ring2) (sym e) h

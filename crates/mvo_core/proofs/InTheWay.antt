@@ -40,8 +40,9 @@ use Rattle.mvo_representation.proofs.Effects.{net_effect-at}
 use Rattle.mvo_representation.proofs.OrderFalls.{order_falls, order_has_own_in_front}
 use Rattle.mvo_representation.proofs.Proved.{shows_snapshot, shown_is_there, free_may_be_ended, tells_cause}
 use Rattle.mvo_representation.proofs.Slots.{slot_emptied}
+use Rattle.mvo_core.specs.Readers.{Readers}
 use Rattle.mvo_core.specs.Data.{CoreData}
-use Rattle.mvo_core.specs.Standing.{StandsFor}
+use Rattle.mvo_core.specs.Standing.{StandsAmong}
 use Rattle.mvo_core.specs.Looking.{cause_for, cause_at}
 
 -- ---- who put a version and hasn't ended it has written its key
@@ -70,7 +71,7 @@ no_conflict b false o e = absurd (false≢true e)
 none_there : (w : Bool) (o : Option Cause) → None ≡ cond (false && not w) o None
 none_there w o = refl
 
-module _ (opening : Map) (steps : List Step) (s : State) (c : CoreData) (h : StandsFor opening steps s c) (r : ActiveTx) (f : active_of r.id s.active ≡ Some r) where
+module _ (rs : Readers) (opening : Map) (steps : List Step) (s : State) (c : CoreData) (h : StandsAmong rs opening steps s c) (r : ActiveTx) (f : active_of r.id s.active ≡ Some r) where
   -- a walk over the versions of the key shows what the rules say
   pub in_order : (k : RowKey) → state_of c.table r.id ≡ Some Active → AreVersionsInOrder (state_of c.table) r.id r.id (versions_at c.versions.slots c.versions.lists k)
   in_order k active = record {

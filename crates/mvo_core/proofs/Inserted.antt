@@ -33,25 +33,26 @@ use Rattle.mvo_representation.proofs.OrderOperations.{insert_keeps_order}
 use Rattle.mvo_representation.proofs.OrderSlots.{added_is_now}
 use Rattle.mvo_representation.proofs.Slots.{slot_filled}
 use Rattle.mvo_representation.proofs.WordsWritten.{insert_keeps_lists}
+use Rattle.mvo_core.specs.Readers.{Readers}
 use Rattle.mvo_core.specs.declared.kept_transaction.KeptTransaction.{KeptTransaction}
 use Rattle.mvo_core.specs.Data.{CoreData}
 use Rattle.mvo_core.specs.Inserting.{IsInserted}
 use Rattle.mvo_core.specs.Keeping.{HasDoneMore}
-use Rattle.mvo_core.specs.Standing.{StandsFor, words_in}
-use Rattle.mvo_core.specs.Steps.{LeadsOn}
+use Rattle.mvo_core.specs.Standing.{words_in, StandsAmong}
+use Rattle.mvo_core.specs.Steps.{LeadsAmong}
 use Rattle.mvo_core.proofs.Answered.{HasAnswered, IsAnswered, answer_leads, done_so}
 use Rattle.mvo_core.proofs.Carried.{stands_roomy}
 use Rattle.mvo_core.proofs.Looked.{IsActiveHere, shown_in, none_is, key_is}
 use Rattle.mvo_core.proofs.OwnChanged.{IsOwnChanged, own_changed, own_weaker, words_beside, words_here, words_before, words_registered}
 
-module _ (opening : Map) (steps : List Step) (s : State) (c : CoreData) (h : StandsFor opening steps s c) (t : TxId) (row : RowData) (may : why_not_do s t.0 (Insert row) ≡ None) (here : IsActiveHere s c t.0)
+module _ (rs : Readers) (opening : Map) (steps : List Step) (s : State) (c : CoreData) (h : StandsAmong rs opening steps s c) (t : TxId) (row : RowData) (may : why_not_do s t.0 (Insert row) ≡ None) (here : IsActiveHere s c t.0)
     (unseen : (shown_in c t.0 row.key).version ≡ None) (ids : List TxId) (on : AreDependencies s (Insert row) here.tx ids) (new : VersionsData) (table : Txns (Node KeptTransaction))
     (w : IsInserted c.versions new c.table table t ids row) (indexed : AreIndexed new) where
   roomy : CoreData
   roomy = record c { table = w.recorded.roomy }
 
-  stands : StandsFor opening steps s (record c { table = w.recorded.roomy })
-  stands = stands_roomy opening steps s c h t.0 w.recorded.roomy w.recorded.room
+  stands : StandsAmong rs opening steps s (record c { table = w.recorded.roomy })
+  stands = stands_roomy rs opening steps s c h t.0 w.recorded.roomy w.recorded.room
 
   id : here.tx.id ≡ t.0
   id = id_of t.0 s.active here.tx here.found
@@ -60,7 +61,7 @@ module _ (opening : Map) (steps : List Step) (s : State) (c : CoreData) (h : Sta
   found = ap (λ (n : ℕ). active_of n s.active) id ∙ here.found
 
   empty : fin.get (snapshot s here.tx.id) row.key ≡ None
-  empty = ap (λ (n : ℕ). fin.get (snapshot s n) row.key) id ∙ none_is opening steps s c h t.0 here.tx here.found row.key unseen
+  empty = ap (λ (n : ℕ). fin.get (snapshot s n) row.key) id ∙ none_is rs opening steps s c h t.0 here.tx here.found row.key unseen
 
   -- ---- the version
   added : (version_at c.versions.slots w.number ≡ None) × HaveNow c.versions.slots (with_slot (with_room c.versions.slots) w.number (Some (fresh t.0 row))) w.number.0 (fresh t.0 row)
@@ -111,7 +112,7 @@ module _ (opening : Map) (steps : List Step) (s : State) (c : CoreData) (h : Sta
 
   -- ---- the answer
   pub insert_answers : Inserted ≡ answer_in s t.0 (Insert row)
-  insert_answers = sym (ap (λ b. cond b Exists Inserted) (key_is opening steps s c h t.0 here.tx here.found row.key ∙ ap is_some unseen))
+  insert_answers = sym (ap (λ b. cond b Exists Inserted) (key_is rs opening steps s c h t.0 here.tx here.found row.key ∙ ap is_some unseen))
 
   answered : IsAnswered s (record c { table = w.recorded.roomy }) t here.tx (Insert row) ids new table
   answered = record {
@@ -126,5 +127,5 @@ module _ (opening : Map) (steps : List Step) (s : State) (c : CoreData) (h : Sta
     words = subst (λ a. HasWordLists (after_answer s t.0 (Insert row) a) new.slots (words_in table)) insert_answers words;
   }
 
-  pub inserted_leads : LeadsOn opening steps s (Do t.0 (Insert row)) Accepted (record c { versions = new; table = table })
-  inserted_leads = answer_leads opening steps s (record c { table = w.recorded.roomy }) stands t here.tx (Insert row) ids new table answered
+  pub inserted_leads : LeadsAmong rs opening steps s (Do t.0 (Insert row)) Accepted (record c { versions = new; table = table })
+  inserted_leads = answer_leads rs opening steps s (record c { table = w.recorded.roomy }) stands t here.tx (Insert row) ids new table answered

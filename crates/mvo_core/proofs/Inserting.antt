@@ -24,14 +24,15 @@ use Rattle.mvo_visible.specs.Versions.{versions_at}
 use Rattle.mvo_visible.specs.Shown.{AreVersionsInOrder}
 use Rattle.mvo_versions.specs.Data.{VersionsData, AreIndexed}
 use Rattle.mvo_representation.specs.Dependencies.{AreDependencies}
+use Rattle.mvo_core.specs.Readers.{Readers}
 use Rattle.mvo_core.specs.declared.kept_transaction.KeptTransaction.{KeptTransaction}
 use Rattle.mvo_core.specs.Causes.{why_not_put}
 use Rattle.mvo_core.specs.Data.{CoreData}
 use Rattle.mvo_core.specs.Inserting.{IsInserted}
 use Rattle.mvo_core.specs.Keeping.{IsWritten, HasDoneAsMuch, IsRecorded}
 use Rattle.mvo_core.specs.Looking.{HasSameVersions}
-use Rattle.mvo_core.specs.Standing.{StandsFor}
-use Rattle.mvo_core.specs.Steps.{LeadsOn}
+use Rattle.mvo_core.specs.Standing.{StandsAmong}
+use Rattle.mvo_core.specs.Steps.{LeadsAmong}
 use Rattle.mvo_core.proofs.Answered.{recorded_leads}
 use Rattle.mvo_core.proofs.Asked.{active_if_put}
 use Rattle.mvo_core.proofs.Carried.{stands_as_much}
@@ -45,56 +46,56 @@ none_shown : (o : Option VersionNo) → is_some o ≡ false → o ≡ None
 none_shown None e = refl
 none_shown (Some n) e = absurd (false≢true (sym e))
 
-module _ (opening : Map) (steps : List Step) (s : State) (c : CoreData) (h : StandsFor opening steps s c) (t : TxId) (row : RowData) where
-  pub insert_refused : (r : Refusal) → why_not_put c.table t.0 row ≡ Some r → (new : CoreData) → StandsFor opening (steps ++ steps_of_refusal t.0 r) (after_refusal s t.0 r) new
-      → LeadsOn opening steps s (Do t.0 (Insert row)) (Refused r) new
-  insert_refused r why new stands = refused_leads opening steps s t.0 (Insert row) new r (sym (not_inserted_is opening steps s c h t.0 row) ∙ why) stands
+module _ (rs : Readers) (opening : Map) (steps : List Step) (s : State) (c : CoreData) (h : StandsAmong rs opening steps s c) (t : TxId) (row : RowData) where
+  pub insert_refused : (r : Refusal) → why_not_put c.table t.0 row ≡ Some r → (new : CoreData) → StandsAmong rs opening (steps ++ steps_of_refusal t.0 r) (after_refusal s t.0 r) new
+      → LeadsAmong rs opening steps s (Do t.0 (Insert row)) (Refused r) new
+  insert_refused r why new stands = refused_leads rs opening steps s t.0 (Insert row) new r (sym (not_inserted_is rs opening steps s c h t.0 row) ∙ why) stands
 
   module _ (none : why_not_put c.table t.0 row ≡ None) where
     may : why_not_do s t.0 (Insert row) ≡ None
-    may = sym (not_inserted_is opening steps s c h t.0 row) ∙ none
+    may = sym (not_inserted_is rs opening steps s c h t.0 row) ∙ none
 
     here : IsActiveHere s c t.0
-    here = active_here opening steps s c h t.0 (active_if_put c.table t.0 row none)
+    here = active_here rs opening steps s c h t.0 (active_if_put c.table t.0 row none)
 
     -- for want of memory
-    pub insert_starved : LeadsOn opening steps s (Do t.0 (Insert row)) (Refused OutOfMemory) c
-    insert_starved = spent_leads opening steps s t.0 (Insert row) c may h
+    pub insert_starved : LeadsAmong rs opening steps s (Do t.0 (Insert row)) (Refused OutOfMemory) c
+    insert_starved = spent_leads rs opening steps s t.0 (Insert row) c may h
 
-    pub insert_spent : (table : Txns (Node KeptTransaction)) → IsWritten c.table table t.0 HasDoneAsMuch → LeadsOn opening steps s (Do t.0 (Insert row)) (Refused OutOfMemory) (record c { table = table })
-    insert_spent table w = spent_leads opening steps s t.0 (Insert row) (record c { table = table }) may (stands_as_much opening steps s c h t.0 table w)
+    pub insert_spent : (table : Txns (Node KeptTransaction)) → IsWritten c.table table t.0 HasDoneAsMuch → LeadsAmong rs opening steps s (Do t.0 (Insert row)) (Refused OutOfMemory) (record c { table = table })
+    insert_spent table w = spent_leads rs opening steps s t.0 (Insert row) (record c { table = table }) may (stands_as_much rs opening steps s c h t.0 table w)
 
     pub insert_spent_same : (new : VersionsData) → HasSameVersions c.versions new → (AreIndexed c.versions → AreIndexed new) → (table : Txns (Node KeptTransaction)) → IsWritten c.table table t.0 HasDoneAsMuch
-        → LeadsOn opening steps s (Do t.0 (Insert row)) (Refused OutOfMemory) (record c { versions = new; table = table })
+        → LeadsAmong rs opening steps s (Do t.0 (Insert row)) (Refused OutOfMemory) (record c { versions = new; table = table })
     insert_spent_same new same indexed table w =
-        spent_leads opening steps s t.0 (Insert row) (record c { versions = new; table = table }) may
-        (stands_same_versions opening steps s (record c { table = table }) (stands_as_much opening steps s c h t.0 table w) new same (indexed (record { numbers = h.versions.numbers; order = h.versions.order })))
+        spent_leads rs opening steps s t.0 (Insert row) (record c { versions = new; table = table }) may
+        (stands_same_versions rs opening steps s (record c { table = table }) (stands_as_much rs opening steps s c h t.0 table w) new same (indexed (record { numbers = h.versions.numbers; order = h.versions.order })))
 
     -- answered
     module _ (found : Shown) (is : AreVersionsInOrder (state_of c.table) t.0 t.0 (versions_at c.versions.slots c.versions.lists row.key) → found ≡ shown_in c t.0 row.key) where
       shown : found ≡ shown_in c t.0 row.key
-      shown = is (versions_in_order opening steps s c h t.0 here.state row.key)
+      shown = is (versions_in_order rs opening steps s c h t.0 here.state row.key)
 
       on : AreDependencies s (Insert row) here.tx (option_to_list found.depends_on)
       on = subst (λ (x : Shown). AreDependencies s (Insert row) here.tx (option_to_list x.depends_on)) (sym shown)
-          (names_just opening steps s c h t.0 here.tx here.found row.key (Insert row) refl)
+          (names_just rs opening steps s c h t.0 here.tx here.found row.key (Insert row) refl)
 
       -- where a row stands
       pub exists_answers : is_some found.version ≡ true → Exists ≡ answer_in s t.0 (Insert row)
-      exists_answers seen = sym (ap (λ b. cond b Exists Inserted) (key_is opening steps s c h t.0 here.tx here.found row.key ∙ ap (λ (x : Shown). is_some x.version) (sym shown) ∙ seen))
+      exists_answers seen = sym (ap (λ b. cond b Exists Inserted) (key_is rs opening steps s c h t.0 here.tx here.found row.key ∙ ap (λ (x : Shown). is_some x.version) (sym shown) ∙ seen))
 
       pub exists_leads : is_some found.version ≡ true → (table : Txns (Node KeptTransaction)) → IsRecorded c.table table t (option_to_list found.depends_on) (Insert row) Exists
-          → LeadsOn opening steps s (Do t.0 (Insert row)) Accepted (record c { table = table })
-      exists_leads seen table w = recorded_leads opening steps s c h t here.tx here.found (Insert row) Exists may (exists_answers seen) refl (option_to_list found.depends_on) on table w
+          → LeadsAmong rs opening steps s (Do t.0 (Insert row)) Accepted (record c { table = table })
+      exists_leads seen table w = recorded_leads rs opening steps s c h t here.tx here.found (Insert row) Exists may (exists_answers seen) refl (option_to_list found.depends_on) on table w
 
       -- and where none does
       unseen : is_some found.version ≡ false → (shown_in c t.0 row.key).version ≡ None
       unseen e = ap (λ (x : Shown). x.version) (sym shown) ∙ none_shown found.version e
 
       pub insert_leads : is_some found.version ≡ false → (new : VersionsData) (table : Txns (Node KeptTransaction)) → IsInserted c.versions new c.table table t (option_to_list found.depends_on) row → (AreIndexed c.versions → AreIndexed new)
-          → LeadsOn opening steps s (Do t.0 (Insert row)) Accepted (record c { versions = new; table = table })
+          → LeadsAmong rs opening steps s (Do t.0 (Insert row)) Accepted (record c { versions = new; table = table })
       insert_leads e new table w indexed =
-          inserted_leads opening steps s c h t row may here (unseen e) (option_to_list found.depends_on) on new table w (indexed (record { numbers = h.versions.numbers; order = h.versions.order }))
+          inserted_leads rs opening steps s c h t row may here (unseen e) (option_to_list found.depends_on) on new table w (indexed (record { numbers = h.versions.numbers; order = h.versions.order }))
 
       pub inserted_answers : is_some found.version ≡ false → Inserted ≡ answer_in s t.0 (Insert row)
-      inserted_answers e = sym (ap (λ b. cond b Exists Inserted) (key_is opening steps s c h t.0 here.tx here.found row.key ∙ ap is_some (unseen e)))
+      inserted_answers e = sym (ap (λ b. cond b Exists Inserted) (key_is rs opening steps s c h t.0 here.tx here.found row.key ∙ ap is_some (unseen e)))

@@ -10,24 +10,28 @@ use Rattle.mvo_theory.specs.State.{State, StampedTx}
 use Rattle.mvo_theory.specs.Changes.{with_settled, with_check, with_flag, not_at}
 use Rattle.mvo_theory.specs.Marks.{settled_to, low_water}
 use Rattle.mvo_theory.specs.Groups.{is_due, is_writing, IsLongest, mark_by, due, IsNextGroup}
-use Rattle.mvo_theory.specs.Sound.{IsRising, IsPast, IsStarted, IsPlaced}
-use Rattle.mvo_theory.proofs.Each.{each_append, each_back, each_map, each_weaker}
+use Rattle.mvo_theory.specs.Sound.{IsRising, IsPast, IsStarted}
+use Rattle.mvo_theory.proofs.Each.{each_append, each_back, each_weaker}
 use Rattle.mvo_theory.proofs.Stamped.{rising_both}
+use Rattle.mvo_readonly.specs.ReadAt.{WritesNothing}
 use Rattle.mvo_tale.specs.declared.tale_place.TalePlace.{TalePlace}
 use Rattle.mvo_tale.specs.declared.tale_place.TalePlace.TheVariants.{Open, Reading, Settled, Empty}
 use Rattle.mvo_tale.specs.declared.next_records.NextRecords.{NextRecords}
 use Rattle.mvo_tale.specs.Stored.{StoredCommit}
-use Rattle.mvo_tale.specs.Slots.{ends, open_ends, open_end_at, closed_up}
+use Rattle.mvo_tale.specs.Others.{ends_at_begin, others_places}
+use Rattle.mvo_tale.specs.Slots.{open_ends, open_end_at, closed_up}
 use Rattle.mvo_tale.specs.Forgetting.{forgotten}
 use Rattle.mvo_tale.specs.Kept.{MayGo, IsTale, HasTale}
 use Rattle.mvo_tale.specs.Next.{due_in, AreNextRecords}
 use Rattle.mvo_tale.specs.Records.{fits}
 use Rattle.mvo_tale.specs.Timeline.{ArePlacesOf}
+use Rattle.mvo_tale.specs.WholePlaces.{readers_at}
 use Rattle.mvo_tale.proofs.KeptPlaces.{places_parted, places_joined}
-use Rattle.mvo_tale.proofs.NextGroups.{ends_of_places, open_ends_above, settled_to_places, places_opened}
+use Rattle.mvo_tale.proofs.NextGroups.{open_ends_above, settled_to_places, places_opened}
+use Rattle.mvo_tale.proofs.Others.{others_append, others_set, others_settled, others_open, others_open_ends, others_closed, due_others}
 use Rattle.mvo_core.specs.Receipts.{Receipt, receipt, receipt_of, receipts_of, stored_commits}
 use Rattle.mvo_core.specs.Trimming.{stored_above}
-use Rattle.mvo_core.proofs.TaleMoves.{IsCommitOf, below_apart, filter_kept, places_settled, places_emptied, places_closed, places_flagged, places_checked, none_end}
+use Rattle.mvo_core.proofs.TaleMoves.{IsCommitOf, below_apart, filter_kept, places_settled, places_emptied, places_flagged, places_checked, none_end}
 
 -- ---- those that are past
 rising_back : (xs ys : List StampedTx) → IsRising (xs ++ ys) → IsRising ys
@@ -142,9 +146,9 @@ module _ (s : State) (slots : List TalePlace) (st : IsStarted s) (rising : IsRis
   }
 
   -- one is left
-  pub tale_left_empty : (p t e : ℕ) → open_end_at slots p ≡ Some e → s.start < e
-      → IsTale s.start s.marks.closed s.past (map (with_flag t e) (filter (not_at e) s.stamped)) (closed_up (slice_set slots p Empty))
-  tale_left_empty p t e at above =
+  pub tale_emptied : (p t e : ℕ) → open_end_at slots p ≡ Some e → s.start < e
+      → IsTale s.start s.marks.closed s.past (map (with_flag t e) (filter (not_at e) s.stamped)) (slice_set slots p Empty)
+  tale_emptied p t e at above =
       let emptied = subst (ArePlacesOf (slice_set slots p Empty))
       (filter-append (not_at e) h.kept s.stamped ∙ ap (λ (xs : List StampedTx). xs ++ filter (not_at e) s.stamped) (past_apart s.start e h.kept above kept_past))
       (places_emptied slots (h.kept ++ s.stamped) p e h.places all_rising at) in
@@ -153,9 +157,8 @@ module _ (s : State) (slots : List TalePlace) (st : IsStarted s) (rising : IsRis
         gone = h.gone;
         kept = h.kept;
         parts = h.parts;
-        places = places_closed (slice_set slots p Empty) (h.kept ++ map (with_flag t e) (filter (not_at e) s.stamped))
-            (subst (λ (xs : List TalePlace). ArePlacesOf xs (h.kept ++ map (with_flag t e) (filter (not_at e) s.stamped))) (sym parts.are)
-            (places_joined parts.front parts.back h.kept (map (with_flag t e) (filter (not_at e) s.stamped)) parts.first (places_flagged t e parts.back (filter (not_at e) s.stamped) parts.second)));
+        places = subst (λ (xs : List TalePlace). ArePlacesOf xs (h.kept ++ map (with_flag t e) (filter (not_at e) s.stamped))) (sym parts.are)
+            (places_joined parts.front parts.back h.kept (map (with_flag t e) (filter (not_at e) s.stamped)) parts.first (places_flagged t e parts.back (filter (not_at e) s.stamped) parts.second));
         may = h.may;
       }
 
@@ -182,15 +185,6 @@ module _ (s : State) (slots : List TalePlace) (st : IsStarted s) (rising : IsRis
     may = h.may;
   }
 
-  -- the ends at the places are up to the clock
-  pub ends_upto : AllByRecursion (IsPlaced s.stamped s.clock) s.stamped → AllByRecursion (λ e. e ≤ s.clock) (ends slots)
-  ends_upto placed =
-      subst (AllByRecursion (λ e. e ≤ s.clock)) (sym (ends_of_places slots (h.kept ++ s.stamped) h.places))
-      (each_map (λ (x : StampedTx). x.end) (λ (x : StampedTx). x.end ≤ s.clock) (λ e. e ≤ s.clock) (λ x l. l) (h.kept ++ s.stamped)
-      (each_append (λ (x : StampedTx). x.end ≤ s.clock) h.kept s.stamped
-      (each_weaker (IsPast s.start) (λ (x : StampedTx). x.end ≤ s.clock) (λ x p. let u = p.until in let d = st.drawn in omega (arith, u, d)) h.kept kept_past)
-      (each_weaker (IsPlaced s.stamped s.clock) (λ (x : StampedTx). x.end ≤ s.clock) (λ x p. p.drawn) s.stamped placed)))
-
   -- those that are open end above a mark up to which all are settled
   pub opens_above : (m : ℕ) → AllByRecursion (λ x. x.settled ≡ false → m < x.end) s.stamped → AllByRecursion (λ e. m < e) (open_ends slots)
   opens_above m above =
@@ -209,11 +203,12 @@ module _ (s : State) (slots : List TalePlace) (st : IsStarted s) (rising : IsRis
       ∙ ap (λ (xs : List StampedTx). filter (is_due s.marks.closed) (settled_to (low_water s) xs))
       (sym (append_assoc h.gone h.kept s.stamped) ∙ ap (λ (xs : List StampedTx). xs ++ s.stamped) (sym h.parts))
 
-  pub next_group_kept : (n : NextRecords) → (k : AreNextRecords slots s.marks.closed (low_water s) n) → IsNextGroup fits s (record { prev = s.marks.closed; mark = n.mark.0; commits = k.taken })
-  next_group_kept n k = record {
+  pub next_group_kept : (places : List TalePlace) → due_in s.marks.closed (low_water s) places ≡ due_in s.marks.closed (low_water s) slots → (n : NextRecords) → (k : AreNextRecords places s.marks.closed (low_water s) n)
+      → IsNextGroup fits s (record { prev = s.marks.closed; mark = n.mark.0; commits = k.taken })
+  next_group_kept places same n k = record {
     prev = refl;
-    longest = subst (λ cs. IsLongest fits cs k.taken) due_kept k.longest;
-    mark = k.mark ∙ ap (λ cs. mark_by (low_water s) s.marks.closed k.taken (Rattle.std.specs.Prelude.drop (length k.taken) cs)) due_kept;
+    longest = subst (λ cs. IsLongest fits cs k.taken) (same ∙ due_kept) k.longest;
+    mark = k.mark ∙ ap (λ cs. mark_by (low_water s) s.marks.closed k.taken (Rattle.std.specs.Prelude.drop (length k.taken) cs)) (same ∙ due_kept);
   }
 
   -- the places have just the commits above the start
@@ -223,3 +218,34 @@ module _ (s : State) (slots : List TalePlace) (st : IsStarted s) (rising : IsRis
       ap (stored_above s.start) parts.are
       ∙ none_above s.start parts.front parts.back h.kept parts.first kept_past
       ∙ all_above s.start parts.back s.stamped parts.second st.later
+
+-- ---- the same where read-only transactions have places among the others'
+module _ (s : State) (slots : List TalePlace) (st : IsStarted s) (rising : IsRising s.stamped) (h : HasTale s (others_places slots)) where
+  pub tale_settled_among : (p : ℕ) (c : StoredCommit) → open_end_at slots p ≡ Some c.end → ends_at_begin c ≡ false → s.start < c.end → AllByRecursion (IsCommitOf c) s.stamped
+      → IsTale s.start s.marks.closed s.past (map (with_settled c.end) s.stamped) (others_places (slice_set slots p (Settled c)))
+  tale_settled_among p c at apart above are = subst (IsTale s.start s.marks.closed s.past (map (with_settled c.end) s.stamped)) (sym (others_settled slots p c apart))
+      (tale_settled s (others_places slots) st rising h p c (others_open slots p c.end at) above are)
+
+  pub tale_left_among : (p t e : ℕ) → open_end_at slots p ≡ Some e → s.start < e
+      → IsTale s.start s.marks.closed s.past (map (with_flag t e) (filter (not_at e) s.stamped)) (others_places (closed_up (slice_set slots p Empty)))
+  tale_left_among p t e at above =
+      let emptied = tale_emptied s (others_places slots) st rising h p t e (others_open slots p e at) above in
+      record {
+        gone = emptied.gone;
+        kept = emptied.kept;
+        parts = emptied.parts;
+        places = others_closed (slice_set slots p Empty) (emptied.kept ++ map (with_flag t e) (filter (not_at e) s.stamped))
+            (subst (λ (xs : List TalePlace). ArePlacesOf xs (emptied.kept ++ map (with_flag t e) (filter (not_at e) s.stamped))) (sym (others_set slots p Empty)) emptied.places);
+        may = emptied.may;
+      }
+
+  pub tale_opened_among : (e : Stamp) (x : StampedTx) → x.settled ≡ false → x.end ≡ e.0 → IsTale s.start s.marks.closed s.past (s.stamped ++ x ∷ []) (others_places (slots ++ Open e ∷ []))
+  tale_opened_among e x un is = subst (IsTale s.start s.marks.closed s.past (s.stamped ++ x ∷ [])) (sym (others_append slots (Open e ∷ [])))
+      (tale_opened s (others_places slots) st rising h e x un is)
+
+  pub opens_above_among : (m : ℕ) → AllByRecursion (λ x. x.settled ≡ false → m < x.end) s.stamped → AllByRecursion (λ e. m < e) (open_ends slots)
+  opens_above_among m above = subst (AllByRecursion (λ e. m < e)) (others_open_ends slots) (opens_above s (others_places slots) st rising h m above)
+
+  pub next_group_among : AllByRecursion (λ y. WritesNothing y.history) (readers_at slots) → (n : NextRecords) → (k : AreNextRecords slots s.marks.closed (low_water s) n)
+      → IsNextGroup fits s (record { prev = s.marks.closed; mark = n.mark.0; commits = k.taken })
+  next_group_among idle n k = next_group_kept s (others_places slots) st rising h slots (due_others s.marks.closed (low_water s) slots idle) n k

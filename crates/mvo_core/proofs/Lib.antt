@@ -25,6 +25,9 @@ pub mod Fronting
 pub mod SamePlaces
 pub mod Reporting
 pub mod Rest
+pub mod ReaderTales
+pub mod ReaderStages
+pub mod OthersLead
 pub mod TaleMoves
 pub mod KeptTale
 pub mod Trimmed

@@ -25,11 +25,12 @@ use Rattle.mvo_representation.proofs.OnWhom.{key_named}
 use Rattle.mvo_representation.proofs.OrderFalls.{order_falls, order_has_own_in_front}
 use Rattle.mvo_representation.proofs.Proved.{shows_snapshot, shown_is_there}
 use Rattle.mvo_representation.proofs.Tabled.{active_is}
+use Rattle.mvo_core.specs.Readers.{Readers}
 use Rattle.mvo_core.specs.declared.kept_transaction.KeptTransaction.{KeptTransaction}
 use Rattle.mvo_core.specs.Causes.{why_not_active, flag_of}
 use Rattle.mvo_core.specs.Data.{CoreData, own_of}
 use Rattle.mvo_core.specs.Looking.{row_shown}
-use Rattle.mvo_core.specs.Standing.{StandsFor, IsKeptActive}
+use Rattle.mvo_core.specs.Standing.{IsKeptActive, StandsAmong}
 use Rattle.mvo_core.proofs.CausesTold.{none_active}
 
 -- ---- an Active transaction, in the state and in the table
@@ -41,8 +42,8 @@ pub record IsActiveHere (s : State) (c : CoreData) (t : ℕ) : Type 0 where
   pub kept : own_of c.table t ≡ Some own
   pub history : own.work.history ≡ tx.history
 
-pub active_here : (opening : Map) (steps : List Step) (s : State) (c : CoreData) → StandsFor opening steps s c → (t : ℕ) → why_not_active c.table t ≡ None → IsActiveHere s c t
-active_here opening steps s c h t none =
+pub active_here : (rs : Readers) (opening : Map) (steps : List Step) (s : State) (c : CoreData) → StandsAmong rs opening steps s c → (t : ℕ) → why_not_active c.table t ≡ None → IsActiveHere s c t
+active_here rs opening steps s c h t none =
     let was = none_active (state_of c.table t) (flag_of c.table t) none in
     let found = active_is s t (sym (h.dependencies.stands.phases t) ∙ ap phase_as was) in
     let w = active_holds (IsKeptActive c.table) t s.active found.0 found.1 h.works.active in
@@ -63,7 +64,7 @@ listed : (o : Option TxId) → named_ids o ≡ option_to_list o
 listed None = refl
 listed (Some id) = refl
 
-module _ (opening : Map) (steps : List Step) (s : State) (c : CoreData) (h : StandsFor opening steps s c) (t : ℕ) where
+module _ (rs : Readers) (opening : Map) (steps : List Step) (s : State) (c : CoreData) (h : StandsAmong rs opening steps s c) (t : ℕ) where
   -- a walk finds it
   pub versions_in_order : state_of c.table t ≡ Some Active → (k : RowKey) → AreVersionsInOrder (state_of c.table) t t (versions_at c.versions.slots c.versions.lists k)
   versions_in_order active k = record {

@@ -62,5 +62,6 @@ module _ (table : Txns (Node KeptTransaction)) (t : ℕ) where
               place = refl;
               checked = refl;
               valid = refl;
+              kind = refl;
             };
           }

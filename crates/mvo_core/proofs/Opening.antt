@@ -1,10 +1,11 @@
 -- A core is opened over rows: what it stands for.
-use Rattle.std.proofs.Common.{◌≡◌, ℕ, List, [], ◌∷◌, refl, sym, ap, subst}
+use Rattle.std.proofs.Common.{◌≡◌, ℕ, List, [], ◌∷◌, refl, sym, ap, subst, None}
 use Rattle.std.specs.List.{AllByRecursion}
 use Rattle.std.specs.Option.{option_map}
 use Rattle.std.specs.Ordering.{nat_cmp}
 use Rattle.std.specs.FinMap as fin
 use Rattle.std.specs.FinMap.{get-empty}
+use Rattle.std.proofs.lemmas.List.Sorted.{IsPermutation-refl}
 use Rattle.mvo_types.specs.Keys.{Map}
 use Rattle.mvo_theory.specs.Phases.{phase_in}
 use Rattle.mvo_theory.specs.Ranges.{Row}
@@ -32,8 +33,9 @@ use Rattle.mvo_representation.proofs.WordsKept.{opening_has_lists}
 use Rattle.mvo_collect.specs.Waiting.{WaitingData, AreWaiting, IsNothing}
 use Rattle.mvo_collect.proofs.Needed.{opening_waits}
 use Rattle.mvo_collect.proofs.Over.{opens_over}
+use Rattle.mvo_core.specs.Readers.{HasStage, reader_in}
 use Rattle.mvo_core.specs.declared.kept_transaction.KeptTransaction.{KeptTransaction}
-use Rattle.mvo_core.specs.Data.{CoreData}
+use Rattle.mvo_core.specs.Data.{CoreData, own_of}
 use Rattle.mvo_core.specs.Standing.{HasOpenedOver, Stands, own_words_of, words_in}
 
 opened_table : OpenedTable KeptTransaction
@@ -60,6 +62,9 @@ module _ (rows : Map) (mark : ℕ) (v : VersionsData) (is : AreLoaded rows mark 
       opening_stands_in_order rows mark (state_of (no_txns {P = Node KeptTransaction} mark)) v.slots v.lists versions indexed.numbers
       (subst (AllByRecursion (IsLoadedAt mark)) (sym is) (all_loaded mark (fin.entries rows)))
 
+  none_at : (t : ℕ) → own_of (no_txns {P = Node KeptTransaction} mark) t ≡ None
+  none_at t = ap (λ o. option_map (λ (n : Node KeptTransaction). n.own) (option_map (λ (x : TableSeat (Node KeptTransaction)). x.kept) o)) (get-empty nat_cmp t)
+
   no_words : words_in (no_txns {P = Node KeptTransaction} mark) ≡ (λ t. [])
   no_words = λ i t. ap (λ o. own_words_of (option_map (λ (n : Node KeptTransaction). n.own) (option_map (λ (x : TableSeat (Node KeptTransaction)). x.kept) o))) (get-empty nat_cmp t) i
 
@@ -74,6 +79,8 @@ module _ (rows : Map) (mark : ℕ) (v : VersionsData) (is : AreLoaded rows mark 
     works = record { active = tt; preparing = tt };
     words = words;
     tale = record { gone = []; kept = []; parts = refl; places = tt; may = tt };
+    places = record { drawn = tt; readers = record { reading = refl; stored = λ m le. IsPermutation-refl []; idle = tt } };
+    stages = λ t. subst (λ o. HasStage [] t (reader_in o) None) (sym (none_at t)) tt;
     marks = refl;
     grouped = record { behind = tt; settled = refl; grouped = tt };
     start = refl;

@@ -7,7 +7,9 @@ use Rattle.mvo_types.specs.declared.ids.TxId.{TxId}
 use Rattle.mvo_theory.specs.State.{State}
 use Rattle.mvo_txn.specs.declared.table_seat.TableSeat.{TableSeat}
 use Rattle.mvo_txn.specs.Txns.{Txns, state_of, kept_of, table_after_write}
+use Rattle.mvo_readonly.specs.Whole.{UnfinishedReader, stage_of}
 use Rattle.mvo_deps.specs.declared.node.Node.{Node}
+use Rattle.mvo_tale.specs.declared.tale_place.TalePlace.{TalePlace}
 use Rattle.mvo_deps.specs.Data.{DependencyData, is_id_among, with_dependency, with_dependent}
 use Rattle.mvo_deps.specs.Nodes.{data_of, after_change, changed_if, with_data, noted_on, after_register, after_register_all}
 use Rattle.mvo_deps.proofs.Changes.{get_changed}
@@ -18,8 +20,10 @@ use Rattle.mvo_core.specs.declared.kept_transaction.KeptTransaction.{KeptTransac
 use Rattle.mvo_core.specs.Data.{own_of}
 use Rattle.mvo_core.specs.Standing.{own_words_of, words_in}
 use Rattle.mvo_core.specs.Keeping.{IsWritten, with_own_at}
+use Rattle.mvo_core.specs.Readers.{reader_in, HasStage, HaveStages}
 use Rattle.mvo_core.proofs.Laws.{write_in_table}
 use Rattle.mvo_core.proofs.Carried.{own_here, own_beside, some_own}
+use Rattle.mvo_core.proofs.ReaderStages.{AreSameReaders, none_of_stage, other_reader, readers_but}
 use Rattle.mvo_core.proofs.WrittenThen.{none_own}
 
 -- ---- dependencies are registered
@@ -131,6 +135,17 @@ module _ (old new : Txns (Node KeptTransaction)) (t : ℕ) (change : KeptTransac
           (λ is. ap (words_in new) is ∙ words_here ∙ same ∙ sym words_before ∙ sym (ap (words_in old) is))
           (λ ne. words_beside u ne)
           (cases_eq u t)
+
+-- ---- those that are read-only are as they were
+module _ (old new : Txns (Node KeptTransaction)) (t : ℕ) (change : KeptTransaction → KeptTransaction → Type 0) (w : IsOwnChanged old new t change) where
+  pub readers_changed : reader_in (Some w.after) ≡ reader_in (Some w.before) → AreSameReaders old new
+  readers_changed same = readers_but old new t w.beside (ap reader_in w.is ∙ same ∙ sym (ap reader_in w.was))
+
+  -- where it is none of them
+  pub others_changed : (rs : List UnfinishedReader) (tale : List TalePlace) → HaveStages rs old tale → stage_of t rs ≡ None → w.after.kind ≡ w.before.kind → AreSameReaders old new
+  others_changed rs tale h other kind =
+      let none : reader_in (Some w.before) ≡ None = sym (ap reader_in w.was) ∙ none_of_stage tale t (reader_in (own_of old t)) (subst (HasStage tale t (reader_in (own_of old t))) other (h t)) in
+      readers_changed (other_reader w.before w.after kind none)
 
 -- where dependencies were registered, the lists are those of before
 pub words_registered : (table : Txns (Node KeptTransaction)) (t : TxId) (ids : List TxId) → words_in (after_register_all table t ids) ≡ words_in table

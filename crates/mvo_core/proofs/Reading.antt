@@ -22,13 +22,14 @@ use Rattle.mvo_deps.specs.declared.node.Node.{Node}
 use Rattle.mvo_visible.specs.declared.outcome.Shown.{Shown}
 use Rattle.mvo_visible.specs.Versions.{versions_at}
 use Rattle.mvo_visible.specs.Shown.{AreVersionsInOrder}
+use Rattle.mvo_core.specs.Readers.{Readers}
 use Rattle.mvo_core.specs.declared.kept_transaction.KeptTransaction.{KeptTransaction}
 use Rattle.mvo_core.specs.Causes.{why_not_look}
 use Rattle.mvo_core.specs.Data.{CoreData}
 use Rattle.mvo_core.specs.Keeping.{IsWritten, HasDoneAsMuch, IsRecorded}
 use Rattle.mvo_core.specs.Looking.{row_shown}
-use Rattle.mvo_core.specs.Standing.{StandsFor}
-use Rattle.mvo_core.specs.Steps.{LeadsOn}
+use Rattle.mvo_core.specs.Standing.{StandsAmong}
+use Rattle.mvo_core.specs.Steps.{LeadsAmong}
 use Rattle.mvo_representation.specs.Dependencies.{AreDependencies}
 use Rattle.mvo_core.proofs.Answered.{recorded_leads}
 use Rattle.mvo_core.proofs.Asked.{active_if_looked}
@@ -37,39 +38,39 @@ use Rattle.mvo_core.proofs.CausesTold.{not_read_is}
 use Rattle.mvo_core.proofs.Looked.{IsActiveHere, active_here, shown_in, versions_in_order, row_is, names_just}
 use Rattle.mvo_core.proofs.Refused.{refused_leads, spent_leads}
 
-module _ (opening : Map) (steps : List Step) (s : State) (c : CoreData) (h : StandsFor opening steps s c) (t : TxId) (k : RowKey) where
-  pub read_refused : (r : Refusal) → why_not_look c.table t.0 k.table (Key k) ≡ Some r → (new : CoreData) → StandsFor opening (steps ++ steps_of_refusal t.0 r) (after_refusal s t.0 r) new
-      → LeadsOn opening steps s (Do t.0 (Read k)) (Refused r) new
-  read_refused r why new stands = refused_leads opening steps s t.0 (Read k) new r (sym (not_read_is opening steps s c h t.0 k) ∙ why) stands
+module _ (rs : Readers) (opening : Map) (steps : List Step) (s : State) (c : CoreData) (h : StandsAmong rs opening steps s c) (t : TxId) (k : RowKey) where
+  pub read_refused : (r : Refusal) → why_not_look c.table t.0 k.table (Key k) ≡ Some r → (new : CoreData) → StandsAmong rs opening (steps ++ steps_of_refusal t.0 r) (after_refusal s t.0 r) new
+      → LeadsAmong rs opening steps s (Do t.0 (Read k)) (Refused r) new
+  read_refused r why new stands = refused_leads rs opening steps s t.0 (Read k) new r (sym (not_read_is rs opening steps s c h t.0 k) ∙ why) stands
 
   module _ (none : why_not_look c.table t.0 k.table (Key k) ≡ None) where
     may : why_not_do s t.0 (Read k) ≡ None
-    may = sym (not_read_is opening steps s c h t.0 k) ∙ none
+    may = sym (not_read_is rs opening steps s c h t.0 k) ∙ none
 
     here : IsActiveHere s c t.0
-    here = active_here opening steps s c h t.0 (active_if_looked c.table t.0 k.table (Key k) none)
+    here = active_here rs opening steps s c h t.0 (active_if_looked c.table t.0 k.table (Key k) none)
 
     -- for want of memory
-    pub read_spent : LeadsOn opening steps s (Do t.0 (Read k)) (Refused OutOfMemory) c
-    read_spent = spent_leads opening steps s t.0 (Read k) c may h
+    pub read_spent : LeadsAmong rs opening steps s (Do t.0 (Read k)) (Refused OutOfMemory) c
+    read_spent = spent_leads rs opening steps s t.0 (Read k) c may h
 
-    pub read_spent_roomy : (table : Txns (Node KeptTransaction)) → IsWritten c.table table t.0 HasDoneAsMuch → LeadsOn opening steps s (Do t.0 (Read k)) (Refused OutOfMemory) (record c { table = table })
-    read_spent_roomy table w = spent_leads opening steps s t.0 (Read k) (record c { table = table }) may (stands_as_much opening steps s c h t.0 table w)
+    pub read_spent_roomy : (table : Txns (Node KeptTransaction)) → IsWritten c.table table t.0 HasDoneAsMuch → LeadsAmong rs opening steps s (Do t.0 (Read k)) (Refused OutOfMemory) (record c { table = table })
+    read_spent_roomy table w = spent_leads rs opening steps s t.0 (Read k) (record c { table = table }) may (stands_as_much rs opening steps s c h t.0 table w)
 
     -- answered
     module _ (found : Shown) (is : AreVersionsInOrder (state_of c.table) t.0 t.0 (versions_at c.versions.slots c.versions.lists k) → found ≡ shown_in c t.0 k) (row : Option RowData)
         (told : row ≡ row_shown c.versions.slots found.version) where
       shown : found ≡ shown_in c t.0 k
-      shown = is (versions_in_order opening steps s c h t.0 here.state k)
+      shown = is (versions_in_order rs opening steps s c h t.0 here.state k)
 
       row_there : row ≡ row_at (snapshot s t.0) k
-      row_there = told ∙ ap (λ (x : Shown). row_shown c.versions.slots x.version) shown ∙ row_is opening steps s c h t.0 here.tx here.found k
+      row_there = told ∙ ap (λ (x : Shown). row_shown c.versions.slots x.version) shown ∙ row_is rs opening steps s c h t.0 here.tx here.found k
 
       pub read_answers : Found row ≡ answer_in s t.0 (Read k)
       read_answers = ap Found row_there
 
       pub read_leads : (table : Txns (Node KeptTransaction)) → IsRecorded c.table table t (option_to_list found.depends_on) (Read k) (Found row)
-          → LeadsOn opening steps s (Do t.0 (Read k)) Accepted (record c { table = table })
+          → LeadsAmong rs opening steps s (Do t.0 (Read k)) Accepted (record c { table = table })
       read_leads table w =
-          recorded_leads opening steps s c h t here.tx here.found (Read k) (Found row) may read_answers refl (option_to_list found.depends_on)
-          (subst (λ (x : Shown). AreDependencies s (Read k) here.tx (option_to_list x.depends_on)) (sym shown) (names_just opening steps s c h t.0 here.tx here.found k (Read k) refl)) table w
+          recorded_leads rs opening steps s c h t here.tx here.found (Read k) (Found row) may read_answers refl (option_to_list found.depends_on)
+          (subst (λ (x : Shown). AreDependencies s (Read k) here.tx (option_to_list x.depends_on)) (sym shown) (names_just rs opening steps s c h t.0 here.tx here.found k (Read k) refl)) table w

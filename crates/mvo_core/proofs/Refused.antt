@@ -14,21 +14,22 @@ use Rattle.mvo_theory.specs.Calls as theory
 use Rattle.mvo_theory.specs.Calls.{IsRefusal}
 use Rattle.mvo_theory.specs.Calls.Call.{Do}
 use Rattle.mvo_theory.specs.Calls.Result.{Refused}
+use Rattle.mvo_core.specs.Readers.{Readers}
 use Rattle.mvo_core.specs.Data.{CoreData}
-use Rattle.mvo_core.specs.Standing.{StandsFor}
-use Rattle.mvo_core.specs.Steps.{came, LeadsOn}
+use Rattle.mvo_core.specs.Standing.{StandsAmong}
+use Rattle.mvo_core.specs.Steps.{came, LeadsAmong}
 
-module _ (opening : Map) (steps : List Step) (s : State) (t : ℕ) (op : Op) (c : CoreData) where
+module _ (rs : Readers) (opening : Map) (steps : List Step) (s : State) (t : ℕ) (op : Op) (c : CoreData) where
   -- for its first cause, after which the transaction is Aborted or not
-  pub refused_leads : (r : Refusal) → why_not_do s t op ≡ Some r → StandsFor opening (steps ++ steps_of_refusal t r) (after_refusal s t r) c
-      → LeadsOn opening steps s (Do t op) (Refused r) c
+  pub refused_leads : (r : Refusal) → why_not_do s t op ≡ Some r → StandsAmong rs opening (steps ++ steps_of_refusal t r) (after_refusal s t r) c
+      → LeadsAmong rs opening steps s (Do t op) (Refused r) c
   refused_leads r why h = record { may = subst (λ o. IsRefusal true o r) (sym why) refl; stands = h }
 
   -- for want of memory
-  pub spent_leads : why_not_do s t op ≡ None → StandsFor opening steps s c → LeadsOn opening steps s (Do t op) (Refused OutOfMemory) c
+  pub spent_leads : why_not_do s t op ≡ None → StandsAmong rs opening steps s c → LeadsAmong rs opening steps s (Do t op) (Refused OutOfMemory) c
   spent_leads why h = record {
     may = subst (λ o. IsRefusal true o OutOfMemory) (sym why) refl;
-    stands = subst (λ ys. StandsFor opening ys s c) (sym (append-nil steps)) h;
+    stands = subst (λ ys. StandsAmong rs opening ys s c) (sym (append-nil steps)) h;
   }
 
 -- what a failed allocation comes to

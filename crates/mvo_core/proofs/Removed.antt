@@ -40,11 +40,12 @@ use Rattle.mvo_representation.proofs.OrderOperations.{delete_keeps_order, update
 use Rattle.mvo_representation.proofs.OrderSlots.{added_is_now, changed_is_now}
 use Rattle.mvo_representation.proofs.Slots.{slot_changed, slot_emptied, none_version}
 use Rattle.mvo_representation.proofs.WordsWritten.{delete_keeps_lists, update_keeps_lists}
+use Rattle.mvo_core.specs.Readers.{Readers}
 use Rattle.mvo_core.specs.declared.kept_transaction.KeptTransaction.{KeptTransaction}
 use Rattle.mvo_core.specs.Data.{CoreData}
 use Rattle.mvo_core.specs.Keeping.{HasDoneMore}
 use Rattle.mvo_core.specs.Looking.{cause_at}
-use Rattle.mvo_core.specs.Standing.{StandsFor, words_in}
+use Rattle.mvo_core.specs.Standing.{words_in, StandsAmong}
 use Rattle.mvo_core.proofs.OwnChanged.{IsOwnChanged, own_weaker, words_beside, words_here, words_before, words_registered}
 use Rattle.mvo_core.proofs.Answered.{HasAnswered, IsAnswered, done_so}
 use Rattle.mvo_core.proofs.InTheWay.{shown, shown_there, row_there, may_end}
@@ -76,10 +77,10 @@ still_indexed old new n t w h = subst AreIndexed same (reworded old n (ended_by 
     same : record old { slots = with_change old.slots n (ended_by t) } ≡ new
     same = λ i. record { slots = sym w.slots i; lists = sym w.lists i; places = sym w.places i }
 
-module _ (opening : Map) (steps : List Step) (s : State) (c : CoreData) (h : StandsFor opening steps s c) (r : ActiveTx) (f : active_of r.id s.active ≡ Some r)
-    (k : RowKey) (n : VersionNo) (e : shown opening steps s c h r f k ≡ Some n) (free : cause_at (state_of c.table) c.versions.slots r.id (Some n) ≡ None) where
+module _ (rs : Readers) (opening : Map) (steps : List Step) (s : State) (c : CoreData) (h : StandsAmong rs opening steps s c) (r : ActiveTx) (f : active_of r.id s.active ≡ Some r)
+    (k : RowKey) (n : VersionNo) (e : shown rs opening steps s c h r f k ≡ Some n) (free : cause_at (state_of c.table) c.versions.slots r.id (Some n) ≡ None) where
   abbrev there : IsShown s (state_of c.table) c.versions.slots r.id k n
-  there = shown_there opening steps s c h r f k n e
+  there = shown_there rs opening steps s c h r f k n e
 
   abbrev v : Version
   v = there.version
@@ -88,7 +89,7 @@ module _ (opening : Map) (steps : List Step) (s : State) (c : CoreData) (h : Sta
   Table = Txns (Node KeptTransaction)
 
   may : MayEnd s (phases_of (state_of c.table)) r.id (all_versions c.versions.slots) v
-  may = may_end opening steps s c h r f k n e free
+  may = may_end rs opening steps s c h r f k n e free
 
   ended_now : HaveNow c.versions.slots (with_change c.versions.slots n (ended_by r.id)) n.0 (ended_by r.id v)
   ended_now = changed_is_now c.versions.slots n v (ended_by r.id) there.at
@@ -101,7 +102,7 @@ module _ (opening : Map) (steps : List Step) (s : State) (c : CoreData) (h : Sta
 
   -- ---- a delete
   deleted_is : answer_in s r.id (Delete k) ≡ Deleted
-  deleted_is = ap (λ (o : Option ContentData). cond (is_some o) Deleted Absent) (row_there opening steps s c h r f k n e)
+  deleted_is = ap (λ (o : Option ContentData). cond (is_some o) Deleted Absent) (row_there rs opening steps s c h r f k n e)
 
   module _ (ids : List TxId) (versions : VersionsData) (table : Table) (w : IsReworded c.versions versions n (ended_by r.id))
       (told : IsOwnChanged (after_register_all c.table (tx_id r.id) ids) table r.id (HasDoneMore (Delete k) Deleted (End n ∷ []))) where
@@ -212,7 +213,7 @@ module _ (opening : Map) (steps : List Step) (s : State) (c : CoreData) (h : Sta
         (list_now c.table (tx_id r.id) ids table (Update row) Updated (End n ∷ Begin m ∷ []) told)) h.words
 
     updated_is : answer_in s r.id (Update row) ≡ Updated
-    updated_is = ap (λ (q : RowKey). answer_in s r.id (Update (record row { key = q }))) key ∙ ap (λ (o : Option ContentData). cond (is_some o) Updated Absent) (row_there opening steps s c h r f k n e)
+    updated_is = ap (λ (q : RowKey). answer_in s r.id (Update (record row { key = q }))) key ∙ ap (λ (o : Option ContentData). cond (is_some o) Updated Absent) (row_there rs opening steps s c h r f k n e)
 
     pub updated : AreDependencies s (Update row) r ids → why_not_do s r.id (Update row) ≡ None → IsAnswered s c (tx_id r.id) r (Update row) ids versions table
     updated on why = record {

@@ -14,6 +14,7 @@ use Rattle.mvo_deps.specs.declared.node.Node.{Node}
 use Rattle.mvo_tale.specs.declared.tale_place.TalePlace.{TalePlace}
 use Rattle.mvo_tale.specs.Kept.{HasTale}
 use Rattle.mvo_tale.specs.Next.{AreGroupedTo}
+use Rattle.mvo_tale.specs.Others.{others_places}
 use Rattle.mvo_representation.specs.Versions.{AreVersionsOf}
 use Rattle.mvo_representation.specs.Indexes.{all_versions, HasNumbers}
 use Rattle.mvo_representation.specs.Steps.{IsAfterCall}
@@ -24,21 +25,24 @@ use Rattle.mvo_representation.specs.Table.{phase_as, phases_of}
 use Rattle.mvo_representation.proofs.Facts.{preparing_is}
 use Rattle.mvo_representation.proofs.Tabled.{active_is}
 use Rattle.mvo_hash.specs.Lists.{Lists}
+use Rattle.mvo_core.specs.Readers.{Readers, HaveStages, HasTalePlaces}
 use Rattle.mvo_core.specs.declared.kept_transaction.KeptTransaction.{KeptTransaction}
 use Rattle.mvo_collect.proofs.Over.{each_call_keeps_over}
 use Rattle.mvo_core.specs.Data.{CoreData}
-use Rattle.mvo_core.specs.Standing.{StandsFor, HasWorks, words_in}
+use Rattle.mvo_core.specs.Standing.{HasWorks, words_in, StandsAmong}
 use Rattle.mvo_core.proofs.Laws.{call_keeps}
 
 -- the rest is that of the state: what is kept of each, the tale and the marks
-pub record HasRest (s : State) (table : Txns (Node KeptTransaction)) (slots : List TalePlace) (c : CoreData) : Type 0 where
+pub record HasRest (rs : Readers) (s : State) (table : Txns (Node KeptTransaction)) (slots : List TalePlace) (c : CoreData) : Type 0 where
   pub works : HasWorks s table slots
-  pub tale : HasTale s slots
+  pub tale : HasTale s (others_places slots)
+  pub places : HasTalePlaces rs s.start s.clock slots
+  pub stages : HaveStages rs.unfinished table slots
   pub marks : s.marks ≡ record { opening = c.opening; closed = c.closed }
   pub grouped : AreGroupedTo slots c.grouped c.closed
   pub start : s.start ≡ c.start
 
-module _ (opening : Map) (steps : List Step) (s : State) (c : CoreData) (h : StandsFor opening steps s c) where
+module _ (rs : Readers) (opening : Map) (steps : List Step) (s : State) (c : CoreData) (h : StandsAmong rs opening steps s c) where
   -- one that is Active isn't Preparing
   pub not_preparing_too : (t : ℕ) → state_of c.table t ≡ Some Active → preparing_of t s.stamped ≡ None
   not_preparing_too t was =
@@ -60,8 +64,8 @@ module _ (opening : Map) (steps : List Step) (s : State) (c : CoreData) (h : Sta
       → HasDependencies (after_call s call r) table
       → AllStandInOrder s.start (state_of table) c.versions.slots lists
       → HasWordLists (after_call s call r) c.versions.slots (words_in table)
-      → HasRest (after_call s call r) table tale c
-      → StandsFor opening (steps ++ steps_of s call r) (after_call s call r) (record c { versions = record c.versions { lists = lists }; table = table; tale = tale })
+      → HasRest rs (after_call s call r) table tale c
+      → StandsAmong rs opening (steps ++ steps_of s call r) (after_call s call r) (record c { versions = record c.versions { lists = lists }; table = table; tale = tale })
   stands_then call r table lists tale may same numbers deps order words rest = record {
     versions = record {
       kept = kept_after_call opening steps s call r may h.versions.kept;
@@ -76,6 +80,8 @@ module _ (opening : Map) (steps : List Step) (s : State) (c : CoreData) (h : Sta
     works = rest.works;
     words = words;
     tale = rest.tale;
+    places = rest.places;
+    stages = rest.stages;
     marks = rest.marks;
     grouped = rest.grouped;
     start = rest.start;

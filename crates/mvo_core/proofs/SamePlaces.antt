@@ -5,11 +5,12 @@ use Rattle.mvo_model.specs.Trace.{Step}
 use Rattle.mvo_theory.specs.State.{State}
 use Rattle.mvo_range.specs.Place.{PlaceNumbers as Places}
 use Rattle.mvo_versions.specs.Changes.{HaveSamePlaces}
+use Rattle.mvo_core.specs.Readers.{Readers}
 use Rattle.mvo_core.specs.Data.{CoreData}
-use Rattle.mvo_core.specs.Standing.{StandsFor}
+use Rattle.mvo_core.specs.Standing.{StandsAmong}
 
-pub stands_by_places : (opening : Map) (steps : List Step) (s : State) (c : CoreData) (places : Places) → HaveSamePlaces c.versions.places places → StandsFor opening steps s c → StandsFor opening steps s (record c { versions = record c.versions { places = places } })
-stands_by_places opening steps s c places alike h = record {
+pub stands_by_places : (rs : Readers) (opening : Map) (steps : List Step) (s : State) (c : CoreData) (places : Places) → HaveSamePlaces c.versions.places places → StandsAmong rs opening steps s c → StandsAmong rs opening steps s (record c { versions = record c.versions { places = places } })
+stands_by_places rs opening steps s c places alike h = record {
   versions = record {
     kept = h.versions.kept;
     versions = h.versions.versions;
@@ -21,6 +22,8 @@ stands_by_places opening steps s c places alike h = record {
   works = h.works;
   words = h.words;
   tale = h.tale;
+  places = h.places;
+  stages = h.stages;
   marks = h.marks;
   grouped = h.grouped;
   start = h.start;

@@ -17,9 +17,10 @@ use Rattle.mvo_representation.specs.Table.{phases_of}
 use Rattle.mvo_representation.specs.Versions.{AreVersionsOf}
 use Rattle.mvo_representation.proofs.OrderAborts.{same_stay_in_order}
 use Rattle.mvo_representation.proofs.WordsSaid.{room_keeps_lists}
+use Rattle.mvo_core.specs.Readers.{Readers}
 use Rattle.mvo_core.specs.Data.{CoreData}
 use Rattle.mvo_core.specs.Looking.{HasSameVersions}
-use Rattle.mvo_core.specs.Standing.{StandsFor, words_in}
+use Rattle.mvo_core.specs.Standing.{words_in, StandsAmong}
 
 module _ (old new : VersionsData) (w : HasSameVersions old new) where
   pub same_all : all_versions new.slots ≡ all_versions old.slots
@@ -28,11 +29,11 @@ module _ (old new : VersionsData) (w : HasSameVersions old new) where
   pub same_at : (m : VersionNo) → version_at new.slots m ≡ version_at old.slots m
   same_at m = ⊎_elim (λ e. ap (λ ss. version_at ss m) e) (λ e. subst (λ ss. version_at ss m ≡ version_at old.slots m) (sym e) (room_same old.slots m.0)) w.slots
 
-module _ (opening : Map) (steps : List Step) (s : State) (c : CoreData) (h : StandsFor opening steps s c) (v : VersionsData) (w : HasSameVersions c.versions v) (indexed : AreIndexed v) where
+module _ (rs : Readers) (opening : Map) (steps : List Step) (s : State) (c : CoreData) (h : StandsAmong rs opening steps s c) (v : VersionsData) (w : HasSameVersions c.versions v) (indexed : AreIndexed v) where
   roomy_order : AllStandInOrder s.start (state_of c.table) v.slots c.versions.lists
   roomy_order = same_stay_in_order s.start (state_of c.table) (state_of c.table) c.versions.slots v.slots c.versions.lists (λ u. refl) (same_at c.versions v w) h.order
 
-  pub stands_same_versions : StandsFor opening steps s (record c { versions = v })
+  pub stands_same_versions : StandsAmong rs opening steps s (record c { versions = v })
   stands_same_versions = record {
     versions = record {
       kept = h.versions.kept;
@@ -45,6 +46,8 @@ module _ (opening : Map) (steps : List Step) (s : State) (c : CoreData) (h : Sta
     works = h.works;
     words = room_keeps_lists s c.versions.slots v.slots (words_in c.table) (same_at c.versions v w) h.words;
     tale = h.tale;
+    places = h.places;
+    stages = h.stages;
     marks = h.marks;
     grouped = h.grouped;
     start = h.start;

@@ -14,13 +14,14 @@ use Rattle.mvo_types.specs.declared.entry.Entry.TheVariants.{Range}
 use Rattle.mvo_theory.specs.State.{State, snapshot}
 use Rattle.mvo_txn.specs.Txns.{Txns, state_of}
 use Rattle.mvo_deps.specs.declared.node.Node.{Node}
+use Rattle.mvo_core.specs.Readers.{Readers}
 use Rattle.mvo_core.specs.declared.kept_transaction.KeptTransaction.{KeptTransaction}
 use Rattle.mvo_core.specs.Causes.{why_not_look}
 use Rattle.mvo_core.specs.Data.{CoreData}
 use Rattle.mvo_core.specs.Keeping.{IsRecorded}
 use Rattle.mvo_core.specs.Scanning.{IsSeen, IsScanned}
-use Rattle.mvo_core.specs.Standing.{StandsFor}
-use Rattle.mvo_core.specs.Steps.{LeadsOn}
+use Rattle.mvo_core.specs.Standing.{StandsAmong}
+use Rattle.mvo_core.specs.Steps.{LeadsAmong}
 use Rattle.mvo_core.proofs.Answered.{recorded_leads}
 use Rattle.mvo_core.proofs.Asked.{active_if_looked}
 use Rattle.mvo_core.proofs.Looked.{IsActiveHere, active_here}
@@ -28,24 +29,24 @@ use Rattle.mvo_core.proofs.ScanDepends.{scan_seen, scan_depends}
 use Rattle.mvo_core.proofs.ScanRefused.{may_scan}
 use Rattle.mvo_core.proofs.ScanSame.{rows_are_scan}
 
-module _ (opening : Map) (steps : List Step) (s : State) (c : CoreData) (h : StandsFor opening steps s c) (t : TxId) (of lo hi : ℕ) (none : why_not_look c.table t.0 of (Range of lo hi) ≡ None) where
+module _ (rs : Readers) (opening : Map) (steps : List Step) (s : State) (c : CoreData) (h : StandsAmong rs opening steps s c) (t : TxId) (of lo hi : ℕ) (none : why_not_look c.table t.0 of (Range of lo hi) ≡ None) where
   here : IsActiveHere s c t.0
-  here = active_here opening steps s c h t.0 (active_if_looked c.table t.0 of (Range of lo hi) none)
+  here = active_here rs opening steps s c h t.0 (active_if_looked c.table t.0 of (Range of lo hi) none)
 
   module _ (rows : List RowData) (on : List TxId) (w : IsScanned (state_of c.table) c.versions c.start t.0 of lo hi rows on) where
     seen : IsSeen (state_of c.table) c.versions s.start t.0 of lo hi rows on
-    seen = scan_seen opening steps s c h t.0 of lo hi rows on c.start (sym h.start) here.state w
+    seen = scan_seen rs opening steps s c h t.0 of lo hi rows on c.start (sym h.start) here.state w
 
     rows_there : rows ≡ scan (snapshot s t.0) of lo hi
-    rows_there = seen.rows' ∙ rows_are_scan opening steps s c h t.0 here.tx here.found of lo hi
+    rows_there = seen.rows' ∙ rows_are_scan rs opening steps s c h t.0 here.tx here.found of lo hi
 
     pub scan_answers : Rows rows ≡ answer_in s t.0 (Scan of lo hi)
     scan_answers = ap Rows rows_there
 
     -- with these ids, and these rows
     pub scan_leads : (told : List RowData) → told ≡ rows → (ids : List TxId) → ids ≡ on → (table : Txns (Node KeptTransaction)) → IsRecorded c.table table t ids (Scan of lo hi) (Rows told)
-        → LeadsOn opening steps s (Do t.0 (Scan of lo hi)) Accepted (record c { table = table })
+        → LeadsAmong rs opening steps s (Do t.0 (Scan of lo hi)) Accepted (record c { table = table })
     scan_leads told same ids all table k =
-        recorded_leads opening steps s c h t here.tx here.found (Scan of lo hi) (Rows told) (may_scan opening steps s c h t of lo hi none) (ap Rows (same ∙ rows_there)) refl on
-        (scan_depends opening steps s c h t.0 of lo hi rows on here.tx here.found seen) table
+        recorded_leads rs opening steps s c h t here.tx here.found (Scan of lo hi) (Rows told) (may_scan rs opening steps s c h t of lo hi none) (ap Rows (same ∙ rows_there)) refl on
+        (scan_depends rs opening steps s c h t.0 of lo hi rows on here.tx here.found seen) table
         (subst (λ (xs : List TxId). IsRecorded c.table table t xs (Scan of lo hi) (Rows told)) all k)

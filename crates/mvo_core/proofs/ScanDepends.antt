@@ -10,16 +10,17 @@ use Rattle.mvo_txn.specs.declared.state.TxState.TheVariants.{Active}
 use Rattle.mvo_txn.specs.Txns.{state_of}
 use Rattle.mvo_representation.specs.Dependencies.{AreDependencies}
 use Rattle.mvo_representation.proofs.OnWhom.{scan_named}
+use Rattle.mvo_core.specs.Readers.{Readers}
 use Rattle.mvo_core.specs.Data.{CoreData}
 use Rattle.mvo_core.specs.Scanning.{IsSeen, IsScanned}
-use Rattle.mvo_core.specs.Standing.{StandsFor}
+use Rattle.mvo_core.specs.Standing.{StandsAmong}
 use Rattle.mvo_core.proofs.Looked.{versions_in_order}
 use Rattle.mvo_core.proofs.ScanNamed.{named_by_scan}
 
-module _ (opening : Map) (steps : List Step) (s : State) (c : CoreData) (h : StandsFor opening steps s c) (t : ℕ) (table lo hi : ℕ) (rows : List RowData) (on : List TxId) where
+module _ (rs : Readers) (opening : Map) (steps : List Step) (s : State) (c : CoreData) (h : StandsAmong rs opening steps s c) (t : ℕ) (table lo hi : ℕ) (rows : List RowData) (on : List TxId) where
   -- the versions of each key stand in order, so what is collected is what the rules show
   pub scan_seen : (start : ℕ) → start ≡ s.start → state_of c.table t ≡ Some Active → IsScanned (state_of c.table) c.versions start t table lo hi rows on → IsSeen (state_of c.table) c.versions s.start t table lo hi rows on
-  scan_seen start is active w = subst (λ (n : ℕ). IsSeen (state_of c.table) c.versions n t table lo hi rows on) is (w (versions_in_order opening steps s c h t active))
+  scan_seen start is active w = subst (λ (n : ℕ). IsSeen (state_of c.table) c.versions n t table lo hi rows on) is (w (versions_in_order rs opening steps s c h t active))
 
   pub scan_depends : (r : ActiveTx) → active_of t s.active ≡ Some r → IsSeen (state_of c.table) c.versions s.start t table lo hi rows on → AreDependencies s (Scan table lo hi) r on
   scan_depends r f w =

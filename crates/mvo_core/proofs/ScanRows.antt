@@ -26,9 +26,10 @@ use Rattle.mvo_range.specs.declared.sort_place.SortPlace.{SortPlace}
 use Rattle.mvo_range.specs.Place.{place_cmp, is_between}
 use Rattle.mvo_validate.specs.Entries.{key_at}
 use Rattle.mvo_representation.specs.Table.{IsShown}
+use Rattle.mvo_core.specs.Readers.{Readers}
 use Rattle.mvo_core.specs.Data.{CoreData}
 use Rattle.mvo_core.specs.Scanning.{row_at_sort, row_with_sort, row_at_place, rows_at_places, places_within}
-use Rattle.mvo_core.specs.Standing.{StandsFor}
+use Rattle.mvo_core.specs.Standing.{StandsAmong}
 use Rattle.mvo_core.proofs.Looked.{shown_in, shown_there}
 
 pub none_row : (r : RowData) → ◌≡◌ {A = Option RowData} None (Some r) → ⊥
@@ -83,7 +84,7 @@ less_at p q a b x y e l =
     ∙ same_table (nat_cmp p.table q.table) (ordering_then (nat_cmp p.sort q.sort) (nat_cmp p.key q.key)) (nat_equal p.table q.table e) l
 
 -- ---- the rows that a transaction is shown
-module _ (opening : Map) (steps : List Step) (s : State) (c : CoreData) (h : StandsFor opening steps s c) (t : ℕ) (r : ActiveTx) (f : active_of t s.active ≡ Some r) where
+module _ (rs : Readers) (opening : Map) (steps : List Step) (s : State) (c : CoreData) (h : StandsAmong rs opening steps s c) (t : ℕ) (r : ActiveTx) (f : active_of t s.active ≡ Some r) where
   abbrev here : List SortPlace → List RowData
   here ps = rows_at_places (state_of c.table) c.versions t ps
 
@@ -101,7 +102,7 @@ module _ (opening : Map) (steps : List Step) (s : State) (c : CoreData) (h : Sta
     where
       go : (o : Option VersionNo) → (shown_in c t (key_at p)).version ≡ o → row_with_sort c.versions.slots p.sort o ≡ Some row → IsAt p row
       go None q g = absurd (none_row row g)
-      go (Some n) q g = with_version p row n (shown_there opening steps s c h t r f (key_at p) n q) g
+      go (Some n) q g = with_version p row n (shown_there rs opening steps s c h t r f (key_at p) n q) g
 
   rows_below : (p : SortPlace) (a : RowData) (ps : List SortPlace) → IsAt p a → AllByRecursion (λ q. q.table ≡ p.table) ps → AllByRecursion (λ q. place_cmp p q ≡ Less) ps → AllByRecursion (λ b. scan_cmp a b ≡ Less) (here ps)
   rows_below p a [] x of l = tt

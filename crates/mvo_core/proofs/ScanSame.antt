@@ -40,10 +40,11 @@ use Rattle.mvo_representation.specs.Table.{place_with}
 use Rattle.mvo_representation.proofs.Proved.{rows_are_placed}
 use Rattle.mvo_representation.proofs.RowsPlaced.{none_content}
 use Rattle.mvo_representation.proofs.RangeCheckedBy.{some_there}
+use Rattle.mvo_core.specs.Readers.{Readers}
 use Rattle.mvo_core.specs.Data.{CoreData}
 use Rattle.mvo_core.specs.Looking.{row_shown}
 use Rattle.mvo_core.specs.Scanning.{row_at_sort, row_with_sort, row_at_place, rows_at_places, places_within}
-use Rattle.mvo_core.specs.Standing.{StandsFor}
+use Rattle.mvo_core.specs.Standing.{StandsAmong}
 use Rattle.mvo_core.proofs.Looked.{shown_in, row_is}
 use Rattle.mvo_core.proofs.SameRising.{IsIn, same_rising}
 use Rattle.mvo_core.proofs.ScanNamed.{each_entry}
@@ -192,7 +193,7 @@ within_at table lo hi p z w e =
     ∙ ap (λ (n : ℕ). (p.table == table) && (nat_le lo n && nat_le n hi)) w.sort ∙ e
 
 -- ---- the rows that a transaction is shown
-module _ (opening : Map) (steps : List Step) (s : State) (c : CoreData) (h : StandsFor opening steps s c) (t : ℕ) (r : ActiveTx) (f : active_of t s.active ≡ Some r) (table lo hi : ℕ) where
+module _ (rs : Readers) (opening : Map) (steps : List Step) (s : State) (c : CoreData) (h : StandsAmong rs opening steps s c) (t : ℕ) (r : ActiveTx) (f : active_of t s.active ≡ Some r) (table lo hi : ℕ) where
   abbrev at : SortPlace → Option RowData
   at p = row_at_place (state_of c.table) c.versions t p
 
@@ -201,7 +202,7 @@ module _ (opening : Map) (steps : List Step) (s : State) (c : CoreData) (h : Sta
 
   -- a row that is shown at a place is the snapshot's
   at_is : (p : SortPlace) (z : RowData) → at p ≡ Some z → row_at (snapshot s t) (key_at p) ≡ Some z
-  at_is p z e = sym (row_is opening steps s c h t r f (key_at p)) ∙ go (shown_in c t (key_at p)).version e
+  at_is p z e = sym (row_is rs opening steps s c h t r f (key_at p)) ∙ go (shown_in c t (key_at p)).version e
     where
       by : (b : Bool) (v : Version) → cond b (Some v.row) None ≡ Some z → ◌≡◌ {A = Option RowData} (Some v.row) (Some z)
       by true v i = i
@@ -217,7 +218,7 @@ module _ (opening : Map) (steps : List Step) (s : State) (c : CoreData) (h : Sta
 
   -- the snapshot's row is shown at its place
   is_at : (p : SortPlace) (z : RowData) → z.sort ≡ p.sort → row_at (snapshot s t) (key_at p) ≡ Some z → at p ≡ Some z
-  is_at p z sort e = go (shown_in c t (key_at p)).version (row_is opening steps s c h t r f (key_at p) ∙ e)
+  is_at p z sort e = go (shown_in c t (key_at p)).version (row_is rs opening steps s c h t r f (key_at p) ∙ e)
     where
       with_version : (o : Option Version) → option_map (λ v. v.row) o ≡ Some z → row_at_sort p.sort o ≡ Some z
       with_version None g = absurd (none_row z g)
@@ -235,7 +236,7 @@ module _ (opening : Map) (steps : List Step) (s : State) (c : CoreData) (h : Sta
   forth_at (p ∷ ps) all z i = go (at p) refl i (λ j. forth_at ps all.1 z j)
     where
       shown : (b : RowData) → at p ≡ Some b → IsIn b (scan (snapshot s t) table lo hi)
-      shown b e = in_scan (snapshot s t) table lo hi (key_at p) b (at_is p b e) (within_at table lo hi p b (row_at_is opening steps s c h t r f p b e) all.0)
+      shown b e = in_scan (snapshot s t) table lo hi (key_at p) b (at_is p b e) (within_at table lo hi p b (row_at_is rs opening steps s c h t r f p b e) all.0)
 
       go : (o : Option RowData) → at p ≡ o → IsIn z (option_to_list o ++ here ps) → (IsIn z (here ps) → IsIn z (scan (snapshot s t) table lo hi)) → IsIn z (scan (snapshot s t) table lo hi)
       go None e j again = again j
@@ -272,5 +273,5 @@ module _ (opening : Map) (steps : List Step) (s : State) (c : CoreData) (h : Sta
   pub rows_are_scan : here (places_within c.versions.places table lo hi) ≡ scan (snapshot s t) table lo hi
   rows_are_scan =
       same_rising scan_cmp scan_total (here (places_within c.versions.places table lo hi)) (scan (snapshot s t) table lo hi)
-      (rows_rise opening steps s c h t r f table lo hi) (scan_is (snapshot s t) table lo hi).rise
+      (rows_rise rs opening steps s c h t r f table lo hi) (scan_is (snapshot s t) table lo hi).rise
       (forth_at (places_within c.versions.places table lo hi) (all_between table lo hi (fin.entries c.versions.places))) back

@@ -199,37 +199,6 @@ places_flagged t e (Settled c ∷ slots) (x ∷ xs) h = (record { settled = h.0.
 places_flagged t e (Empty ∷ slots) [] h = places_flagged t e slots [] h
 places_flagged t e (Empty ∷ slots) (x ∷ xs) h = places_flagged t e slots (x ∷ xs) h
 
-empty_and : (ys : List TalePlace) (xs : List StampedTx) → ArePlacesOf ys xs → ArePlacesOf (and_place Empty ys) xs
-empty_and [] xs h = h
-empty_and (y ∷ ys) [] h = h
-empty_and (y ∷ ys) (x ∷ xs) h = h
-
-open_and : (d : Stamp) (ys : List TalePlace) (x : StampedTx) (xs : List StampedTx) → IsPlaceOf (Open d) x → ArePlacesOf ys xs → ArePlacesOf (and_place (Open d) ys) (x ∷ xs)
-open_and d [] x xs g h = (g, h)
-open_and d (y ∷ ys) x xs g h = (g, h)
-
-settled_and : (c : StoredCommit) (ys : List TalePlace) (x : StampedTx) (xs : List StampedTx) → IsPlaceOf (Settled c) x → ArePlacesOf ys xs → ArePlacesOf (and_place (Settled c) ys) (x ∷ xs)
-settled_and c [] x xs g h = (g, h)
-settled_and c (y ∷ ys) x xs g h = (g, h)
-
-places_without : (slots : List TalePlace) (xs : List StampedTx) → ArePlacesOf slots xs → ArePlacesOf (without_empty_back slots) xs
-places_without [] xs h = h
-places_without (Open d ∷ slots) [] h = absurd h
-places_without (Open d ∷ slots) (x ∷ xs) h = open_and d (without_empty_back slots) x xs h.0 (places_without slots xs h.1)
-places_without (Reading b ∷ slots) [] h = absurd h
-places_without (Reading b ∷ slots) (x ∷ xs) h = absurd h
-places_without (Settled c ∷ slots) [] h = absurd h
-places_without (Settled c ∷ slots) (x ∷ xs) h = settled_and c (without_empty_back slots) x xs h.0 (places_without slots xs h.1)
-places_without (Empty ∷ slots) [] h = empty_and (without_empty_back slots) [] (places_without slots [] h)
-places_without (Empty ∷ slots) (x ∷ xs) h = empty_and (without_empty_back slots) (x ∷ xs) (places_without slots (x ∷ xs) h)
-
-pub places_closed : (slots : List TalePlace) (xs : List StampedTx) → ArePlacesOf slots xs → ArePlacesOf (closed_up slots) xs
-places_closed slots xs h = go (without_empty_back slots) (places_without slots xs h)
-  where
-    go : (ws : List TalePlace) → ArePlacesOf ws xs → ArePlacesOf (or_all slots ws) xs
-    go [] k = h
-    go (w ∷ ws) k = k
-
 -- ---- a check leaves them
 pub places_checked : (e : ℕ) (v : Bool) (slots : List TalePlace) (xs : List StampedTx) → ArePlacesOf slots xs → ArePlacesOf slots (map (with_check e v) xs)
 places_checked e v [] [] h = tt

@@ -13,9 +13,10 @@ use Rattle.mvo_txn.specs.declared.state.TxState.{TxState}
 use Rattle.mvo_txn.specs.declared.state.TxState.TheVariants.{Active, Preparing, Committed, Aborted}
 use Rattle.mvo_txn.specs.Txns.{state_of, IsUnended}
 use Rattle.mvo_representation.specs.Table.{phase_as}
+use Rattle.mvo_core.specs.Readers.{Readers}
 use Rattle.mvo_core.specs.declared.kept_transaction.KeptTransaction.{KeptTransaction}
 use Rattle.mvo_core.specs.Data.{CoreData, own_of}
-use Rattle.mvo_core.specs.Standing.{StandsFor, IsKeptActive}
+use Rattle.mvo_core.specs.Standing.{IsKeptActive, StandsAmong}
 use Rattle.mvo_core.specs.Holding.{own_told, HasToldAs, HasJust}
 use Rattle.mvo_core.proofs.Undone.{kept_of_preparing}
 
@@ -71,7 +72,7 @@ told_of_other (Some (Preparing e)) told h b n as' = absurd (n tt)
 told_of_other (Some (Committed e)) told h b n as' = as'
 told_of_other (Some Aborted) told h b n as' = as'
 
-module _ (opening : Map) (steps : List Step) (s : State) (c : CoreData) (h : StandsFor opening steps s c) (t : ℕ) (told : History) (b : Bool) (same : HasToldAs (state_of c.table t) (own_told (own_of c.table t)) told b) where
+module _ (rs : Readers) (opening : Map) (steps : List Step) (s : State) (c : CoreData) (h : StandsAmong rs opening steps s c) (t : ℕ) (told : History) (b : Bool) (same : HasToldAs (state_of c.table t) (own_told (own_of c.table t)) told b) where
   -- the table's phase is the state's
   abbrev phase : phase_as (state_of c.table t) ≡ phase_in s t
   phase = h.dependencies.stands.phases t
@@ -98,6 +99,6 @@ module _ (opening : Map) (steps : List Step) (s : State) (c : CoreData) (h : Sta
   pub has_just : HasJust s t told b
   has_just = (
     λ r f. let k = active_holds (IsKeptActive c.table) t s.active r f h.works.active in by_own k.0.own r.history (active_unended r f) (ap (own_of c.table) (sym k.1) ∙ k.0.kept) k.0.history,
-    λ x f. let k = kept_of_preparing opening steps s c h t x f in by_own k.same.own x.history (preparing_unended x f) (k.kept ∙ ap (λ (o : KeptTransaction). Some o) (sym k.own_is)) k.same.history,
+    λ x f. let k = kept_of_preparing rs opening steps s c h t x f in by_own k.same.own x.history (preparing_unended x f) (k.kept ∙ ap (λ (o : KeptTransaction). Some o) (sym k.own_is)) k.same.history,
     λ f g. told_of_other (state_of c.table t) (own_told (own_of c.table t)) told b (neither_ended f g) same,
   )

@@ -20,10 +20,14 @@ use Rattle.mvo_theory.proofs.Each.{each_filter, each_weaker}
 use Rattle.mvo_theory.proofs.Kept.{kept_trimmed}
 use Rattle.mvo_txn.specs.Txns.{state_of, IsOldestBegin, IsLowWater}
 use Rattle.mvo_deps.specs.declared.node.Node.{Node}
+use Rattle.mvo_readonly.specs.Whole.{WholeState}
 use Rattle.mvo_tale.specs.declared.tale_place.TalePlace.{TalePlace}
 use Rattle.mvo_tale.specs.Forgetting.{forgotten}
-use Rattle.mvo_tale.proofs.KeptPlaces.{tale_trimmed, tale_forgotten}
+use Rattle.mvo_tale.specs.Others.{others_places}
+use Rattle.mvo_tale.specs.WholePlaces.{HasWholeTale}
 use Rattle.mvo_tale.proofs.Moving.{grouped_forgotten}
+use Rattle.mvo_tale.proofs.ReadingMoves.{reading_forgotten}
+use Rattle.mvo_tale.proofs.WholePlaces.{whole_trimmed, whole_forgotten}
 use Rattle.mvo_representation.specs.DependencyLaws.{TrimInTable}
 use Rattle.mvo_representation.specs.Indexes.{all_versions}
 use Rattle.mvo_representation.specs.Words.{ends_of, change_below}
@@ -40,11 +44,14 @@ use Rattle.mvo_representation.proofs.TableMarks.{oldest_begin_is, low_water_is}
 use Rattle.mvo_representation.proofs.TableSteps.{table_trimmed}
 use Rattle.mvo_representation.proofs.WordsKept.{trim_keeps_lists}
 use Rattle.mvo_collect.proofs.Over.{over_trimmed}
+use Rattle.mvo_core.specs.Readers.{Readers}
 use Rattle.mvo_core.specs.declared.kept_transaction.KeptTransaction.{KeptTransaction}
 use Rattle.mvo_core.specs.Data.{CoreData}
-use Rattle.mvo_core.specs.Standing.{StandsFor, IsKeptPreparing, words_in}
-use Rattle.mvo_core.specs.Steps.{LeadsOn}
+use Rattle.mvo_core.specs.Standing.{StandsFor, IsKeptPreparing, words_in, StandsAmong}
+use Rattle.mvo_core.specs.Steps.{LeadsAmong}
 use Rattle.mvo_core.specs.Trimming.{may_trim_to, IsTaleOf}
+use Rattle.mvo_core.proofs.ReaderStages.{stages_told}
+use Rattle.mvo_core.proofs.ReaderTales.{each_forgotten, stored_others}
 use Rattle.mvo_core.proofs.KeptTale.{open_forgotten, stored_is}
 
 trim_in_table : TrimInTable KeptTransaction
@@ -62,10 +69,14 @@ oldest_told = oldest_begin_is
 pub low_water_told : TellsLowWater (Node KeptTransaction)
 low_water_told = low_water_is
 
+-- the state with its read-only transactions
+abbrev whole_of : Readers → State → WholeState
+whole_of rs s = record { core = s; readers = rs.unfinished; committed_readers = rs.committed }
+
 -- ---- what is both trimmed and in a group is forgotten
-pub stands_forgotten : (opening : Map) (steps : List Step) (s : State) (c : CoreData) → StandsFor opening steps s c → (upto : ℕ) → upto ≤ s.start → upto ≤ s.marks.closed
-    → StandsFor opening steps s (record c { tale = forgotten upto c.tale })
-stands_forgotten opening steps s c h upto trimmed grouped = record {
+pub stands_forgotten : (rs : Readers) (opening : Map) (steps : List Step) (s : State) (c : CoreData) → StandsAmong rs opening steps s c → (upto : ℕ) → upto ≤ s.start → upto ≤ s.marks.closed
+    → StandsAmong rs opening steps s (record c { tale = forgotten upto c.tale })
+stands_forgotten rs opening steps s c h upto trimmed grouped = let after = whole_forgotten (whole_of rs s) upto c.tale h.versions.kept.started trimmed grouped (record { others = h.tale; readers = h.places.readers }) in record {
   versions = h.versions;
   dependencies = h.dependencies;
   order = h.order;
@@ -82,23 +93,25 @@ stands_forgotten opening steps s c h upto trimmed grouped = record {
         }) s.stamped h.works.preparing;
   };
   words = h.words;
-  tale = tale_forgotten s upto c.tale h.versions.kept.started trimmed grouped h.tale;
+  tale = after.others;
+  places = record { drawn = each_forgotten (λ e. e ≤ s.clock) upto c.tale h.places.drawn; readers = after.readers };
+  stages = stages_told rs.unfinished c.table c.tale (forgotten upto c.tale) (λ q b e. reading_forgotten upto c.tale q b e) h.stages;
   marks = h.marks;
   grouped = grouped_forgotten upto c.tale c.grouped c.closed h.grouped;
   start = h.start;
   over = h.over;
 }
 
--- ---- the core
-module _ (opening : Map) (steps : List Step) (s : State) (c : CoreData) (h : StandsFor opening steps s c) where
-  -- its tale is the one of the state
-  pub tale_is : IsTaleOf s (state_of c.table) c.versions.slots c.tale
-  tale_is = record {
-    stored = stored_is s c.tale h.versions.kept.started h.versions.kept.sound.rising h.tale;
-    legal = h.versions.kept.sound.legal;
-    shown = λ k. row_of_standing (change_below (ends_of (phases_of (state_of c.table))) (suc s.start) k (all_versions c.versions.slots)) (origin_at_start s k) (fin.get s.base k) (h.versions.versions.opened k);
-  }
+-- ---- its tale is the one of the state
+pub tale_is : (opening : Map) (steps : List Step) (s : State) (c : CoreData) → StandsFor opening steps s c → IsTaleOf s (state_of c.table) c.versions.slots c.tale
+tale_is opening steps s c h = record {
+  stored = stored_others s.start c.tale h.places.readers ∙ stored_is s (others_places c.tale) h.versions.kept.started h.versions.kept.sound.rising h.tale;
+  legal = h.versions.kept.sound.legal;
+  shown = λ k. row_of_standing (change_below (ends_of (phases_of (state_of c.table))) (suc s.start) k (all_versions c.versions.slots)) (origin_at_start s k) (fin.get s.base k) (h.versions.versions.opened k);
+}
 
+-- ---- the core
+module _ (rs : Readers) (opening : Map) (steps : List Step) (s : State) (c : CoreData) (h : StandsAmong rs opening steps s c) where
   module _ (m oldest low : ℕ) (begin : IsOldestBegin c.table oldest) (water : IsLowWater c.table low) where
     -- ---- the three tests
     test_is : is_trim s m ≡ may_trim_to m c.start oldest low
@@ -110,10 +123,10 @@ module _ (opening : Map) (steps : List Step) (s : State) (c : CoreData) (h : Sta
     why_is : (b : Bool) → may_trim_to m c.start oldest low ≡ b → why_not_trim s m ≡ first_cause (when (not b) NothingToDo ∷ [])
     why_is b e = ap (λ (d : Bool). first_cause (when (not d) NothingToDo ∷ [])) (test_is ∙ e)
 
-    pub trim_refused : may_trim_to m c.start oldest low ≡ false → LeadsOn opening steps s (Trim m) (Refused NothingToDo) c
+    pub trim_refused : may_trim_to m c.start oldest low ≡ false → LeadsAmong rs opening steps s (Trim m) (Refused NothingToDo) c
     trim_refused isnt = record {
       may = subst (λ o. IsRefusal true o NothingToDo) (sym (why_is false isnt)) refl;
-      stands = subst (λ ys. StandsFor opening ys s c) (sym (append-nil steps)) h;
+      stands = subst (λ ys. StandsAmong rs opening ys s c) (sym (append-nil steps)) h;
     }
 
     -- ---- what is up to the new start goes into its rows
@@ -130,7 +143,10 @@ module _ (opening : Map) (steps : List Step) (s : State) (c : CoreData) (h : Sta
       same_phase : (t : ℕ) → phase_in s t ≡ phase_in (after_trim s m) t
       same_phase t = sym (h.versions.kept.after_trace.phases t) ∙ kept.after_trace.phases t
 
-      trimmed : StandsFor opening steps (after_trim s m) (record c { start = m })
+      tale_then : HasWholeTale (record { core = after_trim s m; readers = rs.unfinished; committed_readers = rs.committed }) c.tale
+      tale_then = whole_trimmed (whole_of rs s) m c.tale h.versions.kept.sound.rising (omega (arith, above)) (record { others = h.tale; readers = h.places.readers })
+
+      trimmed : StandsAmong rs opening steps (after_trim s m) (record c { start = m })
       trimmed = record {
         versions = record {
           kept = kept;
@@ -147,18 +163,20 @@ module _ (opening : Map) (steps : List Step) (s : State) (c : CoreData) (h : Sta
           preparing = each_filter (λ x. not (is_to m x)) (λ x. x.settled ≡ false → IsKeptPreparing c.table c.tale x) (λ x. x.settled ≡ false → IsKeptPreparing c.table c.tale x) (λ x e w. w) s.stamped h.works.preparing;
         };
         words = trim_in_lists opening steps s (state_of c.table) c.versions.slots c.versions.lists c.versions.places (words_in c.table) m h.versions free h.words;
-        tale = tale_trimmed s m c.tale h.versions.kept.sound.rising (omega (arith, above)) h.tale;
+        tale = tale_then.others;
+        places = record { drawn = h.places.drawn; readers = tale_then.readers };
+        stages = h.stages;
         marks = h.marks;
         grouped = h.grouped;
         start = refl;
         over = over_trimmed s m free h.over;
       }
 
-      pub trim_leads : (tale : List TalePlace) → tale ≡ forgotten (min m c.closed) c.tale → LeadsOn opening steps s (Trim m) Accepted (record c { start = m; tale = tale })
+      pub trim_leads : (tale : List TalePlace) → tale ≡ forgotten (min m c.closed) c.tale → LeadsAmong rs opening steps s (Trim m) Accepted (record c { start = m; tale = tale })
       trim_leads tale left = record {
         may = (free, tt);
-        stands = subst (λ ys. StandsFor opening ys (after_trim s m) (record c { start = m; tale = tale })) (sym (append-nil steps))
-            (subst (λ xs. StandsFor opening steps (after_trim s m) (record c { start = m; tale = xs })) (sym left)
-            (stands_forgotten opening steps (after_trim s m) (record c { start = m }) trimmed (min m c.closed) (min-le_left m c.closed)
+        stands = subst (λ ys. StandsAmong rs opening ys (after_trim s m) (record c { start = m; tale = tale })) (sym (append-nil steps))
+            (subst (λ xs. StandsAmong rs opening steps (after_trim s m) (record c { start = m; tale = xs })) (sym left)
+            (stands_forgotten rs opening steps (after_trim s m) (record c { start = m }) trimmed (min m c.closed) (min-le_left m c.closed)
             (subst (λ (q : Marks). min m c.closed ≤ q.closed) (sym h.marks) (min-le_right m c.closed))));
       }

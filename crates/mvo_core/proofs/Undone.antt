@@ -1,6 +1,6 @@
 -- A transaction is aborted: what the core stands for then.
 use Rattle.std.proofs.Common.{◌≡◌, ◌≢◌, ◌⊎◌, inl, inr, ℕ, ◌<◌, true, false, not, List, [], ◌∷◌, ◌++◌, Option, None, Some, refl, sym, ap, ◌∙◌, subst}
-use Rattle.std.specs.Prelude.{◌==◌, filter}
+use Rattle.std.specs.Prelude.{◌==◌, filter, slice_set}
 use Rattle.std.specs.Option.{is_some}
 use Rattle.std.proofs.lemmas.Bool.{eq-eqb, false≢true}
 use Rattle.mvo_types.specs.declared.ids.TxId.{TxId}
@@ -26,18 +26,21 @@ use Rattle.mvo_deps.specs.Data as deps
 use Rattle.mvo_deps.specs.Nodes.{IsReported}
 use Rattle.mvo_deps.specs.Graph.{KeepsGraphAtAbort}
 use Rattle.mvo_tale.specs.declared.tale_place.TalePlace.{TalePlace}
+use Rattle.mvo_tale.specs.declared.tale_place.TalePlace.TheVariants.{Empty}
 use Rattle.mvo_tale.specs.Slots.{open_end_at}
 use Rattle.mvo_tale.proofs.Moving.{grouped_left}
+use Rattle.mvo_tale.proofs.ReadingMoves.{reading_closed, reading_elsewhere, reading_not_open}
 use Rattle.mvo_tale.proofs.Rising.{open_pending}
 use Rattle.mvo_representation.specs.Table.{phase_as, phases_of}
 use Rattle.mvo_representation.specs.Order.{MayAbort, is_put_by, with_fronts}
 use Rattle.mvo_representation.specs.WordLists.{HasWordLists}
 use Rattle.mvo_representation.proofs.Facts.{found_holds}
 use Rattle.mvo_versions.specs.Data.{VersionsData}
+use Rattle.mvo_core.specs.Readers.{Readers, no_readers, HaveStages, reader_in}
 use Rattle.mvo_core.specs.declared.kept_transaction.KeptTransaction.{KeptTransaction}
 use Rattle.mvo_core.specs.Data.{CoreData, own_of}
 use Rattle.mvo_core.specs.Own.{own_place}
-use Rattle.mvo_core.specs.Standing.{StandsFor, Stands, IsKeptActive, IsKeptPreparing, HasWorks, words_in}
+use Rattle.mvo_core.specs.Standing.{StandsFor, Stands, IsKeptActive, IsKeptPreparing, HasWorks, words_in, StandsAmong}
 use Rattle.mvo_core.specs.Causes.{why_not_undo}
 use Rattle.mvo_core.specs.Aborting.{HasOpenPlace, tale_left}
 use Rattle.mvo_core.specs.Fronts.{numbers_in, AreInFront}
@@ -45,9 +48,11 @@ use Rattle.mvo_core.proofs.SamePlaces.{stands_by_places}
 use Rattle.mvo_core.proofs.Begun.{still_closed}
 use Rattle.mvo_core.proofs.Carried.{works_carried}
 use Rattle.mvo_core.proofs.CausesTold.{not_undone_is}
-use Rattle.mvo_core.proofs.Reporting.{says_same, words_same, stands_now, others_stand}
+use Rattle.mvo_core.proofs.ReaderStages.{KeepsReading, stages_same, stages_told}
+use Rattle.mvo_core.proofs.ReaderTales.{places_left}
+use Rattle.mvo_core.proofs.Reporting.{own_same, says_same, words_same, stands_now, others_stand}
 use Rattle.mvo_core.proofs.Rest.{HasRest, not_preparing_too, preparing_there, stands_then}
-use Rattle.mvo_core.proofs.KeptTale.{tale_left_empty}
+use Rattle.mvo_core.proofs.KeptTale.{tale_left_among}
 use Rattle.mvo_core.proofs.TaleMoves.{open_left}
 use Rattle.mvo_core.proofs.EndLaws.{abort_in_table, abort_in_order, abort_in_lists, lists_are_written, fronts_in_numbers}
 
@@ -73,7 +78,7 @@ was_state (Some state) h = (state, refl)
 apart_at : (e : ℕ) (y : StampedTx) → not_at e y ≡ true → y.end ≢ e
 apart_at e y h q = false≢true (sym (ap not (eq-eqb y.end e q)) ∙ h)
 
-module _ (opening : Map) (steps : List Step) (s : State) (c : CoreData) (h : StandsFor opening steps s c) where
+module _ (rs : Readers) (opening : Map) (steps : List Step) (s : State) (c : CoreData) (h : StandsAmong rs opening steps s c) where
   -- ---- what is kept of a Preparing one
   pub record IsKeptOfPreparing (t : ℕ) (x : StampedTx) : Type 0 where
     pub found : preparing_of t s.stamped ≡ Some x
@@ -108,28 +113,30 @@ module _ (opening : Map) (steps : List Step) (s : State) (c : CoreData) (h : Sta
       go : (o : Option TxState) → state_of c.table t ≡ o → HasOpenPlace o c.tale (own_place (own_of c.table t))
       go None was = tt
       go (Some Active) was = tt
-      go (Some (Preparing e)) was = let x = preparing_there opening steps s c h t e was in ap is_some (open_pending c.tale (own_place (own_of c.table t)) x.0.end (place_open t x.0 x.1))
+      go (Some (Preparing e)) was = let x = preparing_there rs opening steps s c h t e was in ap is_some (open_pending c.tale (own_place (own_of c.table t)) x.0.end (place_open t x.0 x.1))
       go (Some (Committed e)) was = tt
       go (Some Aborted) was = tt
 
   -- ---- what the state has beside versions and dependencies
-  module _ (t : ℕ) (table : Txns (Node KeptTransaction)) (w : HasWorks s table c.tale) where
+  module _ (t : ℕ) (table : Txns (Node KeptTransaction)) (w : HasWorks s table c.tale) (g : HaveStages rs.unfinished table c.tale) where
     abbrev place : ℕ
     place = own_place (own_of c.table t)
 
-    rest_of_active : HasRest (after_abort_of s t None) table c.tale c
+    rest_of_active : HasRest rs (after_abort_of s t None) table c.tale c
     rest_of_active = record {
       works = record {
         active = each_filter (λ r. not (r.id == t)) (IsKeptActive table) (IsKeptActive table) (λ r e p. p) s.active w.active;
         preparing = w.preparing;
       };
       tale = h.tale;
+      places = h.places;
+      stages = g;
       marks = h.marks;
       grouped = h.grouped;
       start = h.start;
     }
 
-    rest_of_preparing : (e : Stamp) (x : StampedTx) → preparing_of t s.stamped ≡ Some x → HasRest (after_abort_of s t (Some x)) table (tale_left (Some (Preparing e)) c.tale place) c
+    rest_of_preparing : (e : Stamp) (x : StampedTx) → preparing_of t s.stamped ≡ Some x → HasRest rs (after_abort_of s t (Some x)) table (tale_left (Some (Preparing e)) c.tale place) c
     rest_of_preparing e x f = record {
       works = record {
         active = each_map (active_with_flag t x.end) (IsKeptActive table) (IsKeptActive table) (λ r p. record { own = p.own; kept = p.kept; history = p.history }) s.active w.active;
@@ -147,7 +154,9 @@ module _ (opening : Map) (steps : List Step) (s : State) (c : CoreData) (h : Sta
             })
             s.stamped w.preparing);
       };
-      tale = tale_left_empty s c.tale h.versions.kept.started h.versions.kept.sound.rising h.tale place t x.end at (found_holds (λ y. s.start < y.end) t s.stamped x f h.versions.kept.started.later).0;
+      tale = tale_left_among s c.tale h.versions.kept.started h.versions.kept.sound.rising h.tale place t x.end at (found_holds (λ y. s.start < y.end) t s.stamped x f h.versions.kept.started.later).0;
+      places = places_left rs s.start s.clock c.tale h.places place (ap is_some at);
+      stages = stages_told rs.unfinished table c.tale left keeps g;
       marks = h.marks;
       grouped = grouped_left c.tale c.grouped c.closed place (ap is_some at) h.grouped;
       start = h.start;
@@ -158,19 +167,23 @@ module _ (opening : Map) (steps : List Step) (s : State) (c : CoreData) (h : Sta
       at : open_end_at c.tale place ≡ Some x.end
       at = place_open t x f
 
-    pub rest_aborted : (o : Option TxState) → state_of c.table t ≡ o → IsUnended o → HasRest (after_abort s t) table (tale_left o c.tale place) c
+      -- it isn't the place of one that reads
+      keeps : KeepsReading c.tale left
+      keeps q b k = reading_closed (slice_set c.tale place Empty) q b (reading_elsewhere c.tale place q b Empty (λ is. reading_not_open c.tale q place b x.end k at (sym is)) k)
+
+    pub rest_aborted : (o : Option TxState) → state_of c.table t ≡ o → IsUnended o → HasRest rs (after_abort s t) table (tale_left o c.tale place) c
     rest_aborted None was un = absurd un
-    rest_aborted (Some Active) was un = subst (λ o. HasRest (after_abort_of s t o) table c.tale c) (sym (not_preparing_too opening steps s c h t was)) rest_of_active
+    rest_aborted (Some Active) was un = subst (λ o. HasRest rs (after_abort_of s t o) table c.tale c) (sym (not_preparing_too rs opening steps s c h t was)) rest_of_active
     rest_aborted (Some (Preparing e)) was un =
-        let x = preparing_there opening steps s c h t e was in
-        subst (λ o. HasRest (after_abort_of s t o) table (tale_left (Some (Preparing e)) c.tale place) c) (sym x.1) (rest_of_preparing e x.0 x.1)
+        let x = preparing_there rs opening steps s c h t e was in
+        subst (λ o. HasRest rs (after_abort_of s t o) table (tale_left (Some (Preparing e)) c.tale place) c) (sym x.1) (rest_of_preparing e x.0 x.1)
     rest_aborted (Some (Committed e)) was un = absurd un
     rest_aborted (Some Aborted) was un = absurd un
 
   -- ---- the core
   module _ (t : TxId) (unended : IsUnended (state_of c.table t.0)) (untold table : Txns (Node KeptTransaction)) (is : untold ≡ txns.table_after_change c.table t.0 Aborted) (told : IsReported (deps.after_dependency_abort t) untold table t) (graph : KeepsGraphAtAbort untold table t) where
     may : MayCome s (Rollback t.0) Accepted
-    may = (sym (not_undone_is opening steps s c h t.0) ∙ may_undo (state_of c.table t.0) unended, tt)
+    may = (sym (not_undone_is rs opening steps s c h t.0) ∙ may_undo (state_of c.table t.0) unended, tt)
 
     open' : MayAbort (phases_of (state_of c.table)) t.0
     open' = may_abort (state_of c.table t.0) unended
@@ -187,12 +200,12 @@ module _ (opening : Map) (steps : List Step) (s : State) (c : CoreData) (h : Sta
     here : state_of table t.0 ≡ Some Aborted
     here = let was = was_state (state_of c.table t.0) unended in stands_now (deps.after_dependency_abort t) c.table untold table t Aborted is told was.0 was.1
 
-    undone : StandsFor opening (steps ++ Aborts t.0 ∷ []) (after_abort s t.0) (record c {
+    undone : StandsAmong rs opening (steps ++ Aborts t.0 ∷ []) (after_abort s t.0) (record c {
       versions = record c.versions { lists = with_fronts (is_put_by t.0) c.versions.slots c.versions.lists numbers };
       table = table;
       tale = tale_left (state_of c.table t.0) c.tale (own_place (own_of c.table t.0));
     })
-    undone = stands_then opening steps s c h (Rollback t.0) Accepted table (with_fronts (is_put_by t.0) c.versions.slots c.versions.lists numbers) (tale_left (state_of c.table t.0) c.tale (own_place (own_of c.table t.0))) may refl
+    undone = stands_then rs opening steps s c h (Rollback t.0) Accepted table (with_fronts (is_put_by t.0) c.versions.slots c.versions.lists numbers) (tale_left (state_of c.table t.0) c.tale (own_place (own_of c.table t.0))) may refl
         (fronts_in_numbers (is_put_by t.0) c.versions.slots c.versions.lists numbers h.versions.numbers)
         (abort_in_table opening steps s c.table untold table t h.versions.kept h.dependencies unended is told graph)
         (abort_in_order opening steps s (state_of c.table) (state_of table) c.versions.slots c.versions.lists c.versions.places t.0 numbers h.versions open'
@@ -202,21 +215,23 @@ module _ (opening : Map) (steps : List Step) (s : State) (c : CoreData) (h : Sta
         h.order)
         (subst (HasWordLists (after_abort s t.0) c.versions.slots) same_words
         (abort_in_lists opening steps s (state_of c.table) c.versions.slots c.versions.lists c.versions.places (words_in c.table) t.0 h.versions open' h.words))
-        (rest_aborted t.0 table works (state_of c.table t.0) refl unended)
+        (rest_aborted t.0 table works (stages_same rs.unfinished c.table table c.tale (λ u. ap reader_in (own_same (deps.after_dependency_abort t) c.table untold table t Aborted is told u)) h.stages) (state_of c.table t.0) refl unended)
 
     pub stands_undone : (versions : VersionsData) (tale : List TalePlace) → AreInFront (is_put_by t.0) c.versions versions (words_in table t.0) → tale ≡ tale_left (state_of c.table t.0) c.tale (own_place (own_of c.table t.0))
-        → StandsFor opening (steps ++ Aborts t.0 ∷ []) (after_abort s t.0) (record c { versions = versions; table = table; tale = tale })
+        → StandsAmong rs opening (steps ++ Aborts t.0 ∷ []) (after_abort s t.0) (record c { versions = versions; table = table; tale = tale })
     stands_undone versions tale front left =
-        subst (λ (p : VersionsData × List TalePlace). StandsFor opening (steps ++ Aborts t.0 ∷ []) (after_abort s t.0) (record c { versions = p.0; table = table; tale = p.1 }))
+        subst (λ (p : VersionsData × List TalePlace). StandsAmong rs opening (steps ++ Aborts t.0 ∷ []) (after_abort s t.0) (record c { versions = p.0; table = table; tale = p.1 }))
         (λ i. (record { slots = sym front.slots i; lists = sym front.lists i; places = versions.places }, sym left i))
-        (stands_by_places opening _ _ _ versions.places front.places undone)
+        (stands_by_places rs opening _ _ _ versions.places front.places undone)
 
-    pub stands_aborted : IsClosedAt s.marks.closed s → (versions : VersionsData) (tale : List TalePlace) → AreInFront (is_put_by t.0) c.versions versions (words_in table t.0) → tale ≡ tale_left (state_of c.table t.0) c.tale (own_place (own_of c.table t.0))
-        → Stands (record c { versions = versions; table = table; tale = tale })
-    stands_aborted closed versions tale front left = record {
-      opening = opening;
-      steps = steps ++ Aborts t.0 ∷ [];
-      state = after_abort s t.0;
-      stands = stands_undone versions tale front left;
-      closed = still_closed opening steps s (Rollback t.0) Accepted may h.versions.kept closed;
-    }
+-- ---- a core stands for the state that the abort leaves
+pub stands_aborted : (opening : Map) (steps : List Step) (s : State) (c : CoreData) (h : StandsFor opening steps s c) (t : TxId) (unended : IsUnended (state_of c.table t.0)) (untold table : Txns (Node KeptTransaction))
+    (is : untold ≡ txns.table_after_change c.table t.0 Aborted) (told : IsReported (deps.after_dependency_abort t) untold table t) (graph : KeepsGraphAtAbort untold table t) → IsClosedAt s.marks.closed s → (versions : VersionsData) (tale : List TalePlace) → AreInFront (is_put_by t.0) c.versions versions (words_in table t.0)
+    → tale ≡ tale_left (state_of c.table t.0) c.tale (own_place (own_of c.table t.0)) → Stands (record c { versions = versions; table = table; tale = tale })
+stands_aborted opening steps s c h t unended untold table is told graph closed versions tale front left = record {
+  opening = opening;
+  steps = steps ++ Aborts t.0 ∷ [];
+  state = after_abort s t.0;
+  stands = stands_undone no_readers opening steps s c h t unended untold table is told graph versions tale front left;
+  closed = still_closed opening steps s (Rollback t.0) Accepted (may no_readers opening steps s c h t unended untold table is told graph) h.versions.kept closed;
+}

@@ -33,14 +33,15 @@ use Rattle.mvo_representation.specs.Dependencies.{AreDependencies, tx_id}
 use Rattle.mvo_representation.specs.Steps.{ended_by}
 use Rattle.mvo_versions.specs.Data.{VersionsData}
 use Rattle.mvo_versions.specs.Changes.{IsPut, IsReworded}
+use Rattle.mvo_core.specs.Readers.{Readers}
 use Rattle.mvo_core.specs.declared.kept_transaction.KeptTransaction.{KeptTransaction}
 use Rattle.mvo_core.specs.Causes.{why_not_put}
 use Rattle.mvo_core.specs.Data.{CoreData}
 use Rattle.mvo_core.specs.Ending.{IsReplaced, IsLeft}
 use Rattle.mvo_core.specs.Keeping.{IsWritten, HasDoneAsMuch, HasMadeRoom, HasDoneMore, IsRecorded}
 use Rattle.mvo_core.specs.Looking.{cause_at}
-use Rattle.mvo_core.specs.Standing.{StandsFor}
-use Rattle.mvo_core.specs.Steps.{LeadsOn}
+use Rattle.mvo_core.specs.Standing.{StandsAmong}
+use Rattle.mvo_core.specs.Steps.{LeadsAmong}
 use Rattle.mvo_core.proofs.Answered.{IsAnswered, answer_leads, recorded_leads}
 use Rattle.mvo_core.proofs.Asked.{active_if_put}
 use Rattle.mvo_core.proofs.Carried.{stands_as_much, stands_roomy}
@@ -52,15 +53,15 @@ use Rattle.mvo_core.proofs.Refused.{refused_leads, spent_leads}
 use Rattle.mvo_core.proofs.Removed.{updated}
 use Rattle.mvo_core.proofs.SameVersions.{stands_same_versions}
 
-module _ (opening : Map) (steps : List Step) (s : State) (c : CoreData) (h : StandsFor opening steps s c) (t : TxId) (row : RowData) where
-  pub update_refused : (r : Refusal) → why_not_put c.table t.0 row ≡ Some r → (new : CoreData) → StandsFor opening (steps ++ steps_of_refusal t.0 r) (after_refusal s t.0 r) new
-      → LeadsOn opening steps s (Do t.0 (Update row)) (Refused r) new
-  update_refused r why new stands = refused_leads opening steps s t.0 (Update row) new r
-      (sym (not_updated_is opening steps s c h t.0 row) ∙ ap (λ o. or_next o (conflicts (conflict s t.0 row.key))) why) stands
+module _ (rs : Readers) (opening : Map) (steps : List Step) (s : State) (c : CoreData) (h : StandsAmong rs opening steps s c) (t : TxId) (row : RowData) where
+  pub update_refused : (r : Refusal) → why_not_put c.table t.0 row ≡ Some r → (new : CoreData) → StandsAmong rs opening (steps ++ steps_of_refusal t.0 r) (after_refusal s t.0 r) new
+      → LeadsAmong rs opening steps s (Do t.0 (Update row)) (Refused r) new
+  update_refused r why new stands = refused_leads rs opening steps s t.0 (Update row) new r
+      (sym (not_updated_is rs opening steps s c h t.0 row) ∙ ap (λ o. or_next o (conflicts (conflict s t.0 row.key))) why) stands
 
   module _ (none : why_not_put c.table t.0 row ≡ None) where
     here : IsActiveHere s c t.0
-    here = active_here opening steps s c h t.0 (active_if_put c.table t.0 row none)
+    here = active_here rs opening steps s c h t.0 (active_if_put c.table t.0 row none)
 
     id : here.tx.id ≡ t.0
     id = id_of t.0 s.active here.tx here.found
@@ -69,43 +70,43 @@ module _ (opening : Map) (steps : List Step) (s : State) (c : CoreData) (h : Sta
     mine = ap (λ (n : ℕ). active_of n s.active) id ∙ here.found
 
     behind : why_not_do s t.0 (Update row) ≡ conflicts (conflict s t.0 row.key)
-    behind = sym (not_updated_is opening steps s c h t.0 row) ∙ ap (λ o. or_next o (conflicts (conflict s t.0 row.key))) none
+    behind = sym (not_updated_is rs opening steps s c h t.0 row) ∙ ap (λ o. or_next o (conflicts (conflict s t.0 row.key))) none
 
     module _ (found : Shown) (is : AreVersionsInOrder (state_of c.table) t.0 t.0 (versions_at c.versions.slots c.versions.lists row.key) → found ≡ shown_in c t.0 row.key) where
       shown : found ≡ shown_in c t.0 row.key
-      shown = is (versions_in_order opening steps s c h t.0 here.state row.key)
+      shown = is (versions_in_order rs opening steps s c h t.0 here.state row.key)
 
       way : cause_at (state_of c.table) c.versions.slots t.0 found.version ≡ conflict s t.0 row.key
       way = ap (λ (x : Shown). cause_at (state_of c.table) c.versions.slots t.0 x.version) shown
-          ∙ subst (λ (n : ℕ). cause_at (state_of c.table) c.versions.slots n (shown_in c n row.key).version ≡ conflict s n row.key) id (in_the_way_is opening steps s c h here.tx mine row.key)
+          ∙ subst (λ (n : ℕ). cause_at (state_of c.table) c.versions.slots n (shown_in c n row.key).version ≡ conflict s n row.key) id (in_the_way_is rs opening steps s c h here.tx mine row.key)
 
       -- another has ended the version first
       pub update_conflicts : (cause : Cause) → cause_at (state_of c.table) c.versions.slots t.0 found.version ≡ Some cause → (new : CoreData)
-          → StandsFor opening (steps ++ steps_of_refusal t.0 (WriteConflict cause)) (after_refusal s t.0 (WriteConflict cause)) new
-          → LeadsOn opening steps s (Do t.0 (Update row)) (Refused (WriteConflict cause)) new
-      update_conflicts cause told new stands = refused_leads opening steps s t.0 (Update row) new (WriteConflict cause) (behind ∙ ap conflicts (sym way ∙ told)) stands
+          → StandsAmong rs opening (steps ++ steps_of_refusal t.0 (WriteConflict cause)) (after_refusal s t.0 (WriteConflict cause)) new
+          → LeadsAmong rs opening steps s (Do t.0 (Update row)) (Refused (WriteConflict cause)) new
+      update_conflicts cause told new stands = refused_leads rs opening steps s t.0 (Update row) new (WriteConflict cause) (behind ∙ ap conflicts (sym way ∙ told)) stands
 
       module _ (free : cause_at (state_of c.table) c.versions.slots t.0 found.version ≡ None) where
         may : why_not_do s t.0 (Update row) ≡ None
         may = behind ∙ ap conflicts (sym way ∙ free)
 
         answer_is : answer_in s t.0 (Update row) ≡ cond (is_some found.version) Updated Absent
-        answer_is = ap (λ b. cond b Updated Absent) (key_is opening steps s c h t.0 here.tx here.found row.key) ∙ ap (λ (x : Shown). cond (is_some x.version) Updated Absent) (sym shown)
+        answer_is = ap (λ b. cond b Updated Absent) (key_is rs opening steps s c h t.0 here.tx here.found row.key) ∙ ap (λ (x : Shown). cond (is_some x.version) Updated Absent) (sym shown)
 
         on : AreDependencies s (Update row) here.tx (option_to_list found.depends_on)
-        on = subst (λ (x : Shown). AreDependencies s (Update row) here.tx (option_to_list x.depends_on)) (sym shown) (names_just opening steps s c h t.0 here.tx here.found row.key (Update row) refl)
+        on = subst (λ (x : Shown). AreDependencies s (Update row) here.tx (option_to_list x.depends_on)) (sym shown) (names_just rs opening steps s c h t.0 here.tx here.found row.key (Update row) refl)
 
         -- for want of memory
-        pub update_starved : LeadsOn opening steps s (Do t.0 (Update row)) (Refused OutOfMemory) c
-        update_starved = spent_leads opening steps s t.0 (Update row) c may h
+        pub update_starved : LeadsAmong rs opening steps s (Do t.0 (Update row)) (Refused OutOfMemory) c
+        update_starved = spent_leads rs opening steps s t.0 (Update row) c may h
 
-        pub update_spent : (table : Txns (Node KeptTransaction)) → IsWritten c.table table t.0 HasDoneAsMuch → LeadsOn opening steps s (Do t.0 (Update row)) (Refused OutOfMemory) (record c { table = table })
-        update_spent table w = spent_leads opening steps s t.0 (Update row) (record c { table = table }) may (stands_as_much opening steps s c h t.0 table w)
+        pub update_spent : (table : Txns (Node KeptTransaction)) → IsWritten c.table table t.0 HasDoneAsMuch → LeadsAmong rs opening steps s (Do t.0 (Update row)) (Refused OutOfMemory) (record c { table = table })
+        update_spent table w = spent_leads rs opening steps s t.0 (Update row) (record c { table = table }) may (stands_as_much rs opening steps s c h t.0 table w)
 
         pub update_left : (versions : VersionsData) (table : Txns (Node KeptTransaction)) → IsLeft c.versions versions c.table table t
-            → LeadsOn opening steps s (Do t.0 (Update row)) (Refused OutOfMemory) (record c { versions = versions; table = table })
-        update_left versions table w = spent_leads opening steps s t.0 (Update row) (record c { versions = versions; table = table }) may
-            (stands_same_versions opening steps s (record c { table = table }) (stands_as_much opening steps s c h t.0 table w.own) versions w.versions
+            → LeadsAmong rs opening steps s (Do t.0 (Update row)) (Refused OutOfMemory) (record c { versions = versions; table = table })
+        update_left versions table w = spent_leads rs opening steps s t.0 (Update row) (record c { versions = versions; table = table }) may
+            (stands_same_versions rs opening steps s (record c { table = table }) (stands_as_much rs opening steps s c h t.0 table w.own) versions w.versions
             (w.indexed (record { numbers = h.versions.numbers; order = h.versions.order })))
 
         -- nothing is there
@@ -113,8 +114,8 @@ module _ (opening : Map) (steps : List Step) (s : State) (c : CoreData) (h : Sta
         absent_answers e = sym (answer_is ∙ ap (λ (o : Option VersionNo). cond (is_some o) Updated Absent) e)
 
         pub absent_leads : found.version ≡ None → (table : Txns (Node KeptTransaction)) → IsRecorded c.table table t (option_to_list found.depends_on) (Update row) Absent
-            → LeadsOn opening steps s (Do t.0 (Update row)) Accepted (record c { table = table })
-        absent_leads e table w = recorded_leads opening steps s c h t here.tx here.found (Update row) Absent may (absent_answers e) refl (option_to_list found.depends_on) on table w
+            → LeadsAmong rs opening steps s (Do t.0 (Update row)) Accepted (record c { table = table })
+        absent_leads e table w = recorded_leads rs opening steps s c h t here.tx here.found (Update row) Absent may (absent_answers e) refl (option_to_list found.depends_on) on table w
 
         -- the row is put in place of the version
         module _ (n : VersionNo) (e : found.version ≡ Some n) where
@@ -123,14 +124,14 @@ module _ (opening : Map) (steps : List Step) (s : State) (c : CoreData) (h : Sta
 
           -- it is there
           pub updated_live : IsSome (version_at c.versions.slots n)
-          updated_live = ap is_some (shown_there opening steps s c h t.0 here.tx here.found row.key n (ap (λ (x : Shown). x.version) (sym shown) ∙ e)).at
+          updated_live = ap is_some (shown_there rs opening steps s c h t.0 here.tx here.found row.key n (ap (λ (x : Shown). x.version) (sym shown) ∙ e)).at
 
           module _ (versions : VersionsData) (table : Txns (Node KeptTransaction)) (w : IsReplaced c.versions versions c.table table t (option_to_list found.depends_on) n row) where
             states : state_of c.table ≡ state_of w.recorded.roomy
             states = λ i u. sym ((own_changed c.table w.recorded.roomy t.0 HasMadeRoom w.recorded.room).states u) i
 
-            stands : StandsFor opening steps s (record c { table = w.recorded.roomy })
-            stands = stands_roomy opening steps s c h t.0 w.recorded.roomy w.recorded.room
+            stands : StandsAmong rs opening steps s (record c { table = w.recorded.roomy })
+            stands = stands_roomy rs opening steps s c h t.0 w.recorded.roomy w.recorded.room
 
             told : IsOwnChanged (after_register_all w.recorded.roomy t (option_to_list found.depends_on)) table t.0 (HasDoneMore (Update row) Updated (End n ∷ Begin w.place ∷ []))
             told = own_changed (after_register_all w.recorded.roomy t (option_to_list found.depends_on)) table t.0 (HasDoneMore (Update row) Updated (End n ∷ Begin w.place ∷ [])) w.recorded.done
@@ -143,11 +144,11 @@ module _ (opening : Map) (steps : List Step) (s : State) (c : CoreData) (h : Sta
                 → IsAnswered s (record c { table = w.recorded.roomy }) (tx_id i) here.tx (Update row) (option_to_list found.depends_on) versions table
 
             claim : Claim here.tx.id
-            claim e' free' p' w' told' may' = updated opening steps s (record c { table = w.recorded.roomy }) stands here.tx mine row.key n e' free' row refl w.place w.between versions p'
+            claim e' free' p' w' told' may' = updated rs opening steps s (record c { table = w.recorded.roomy }) stands here.tx mine row.key n e' free' row refl w.place w.between versions p'
                 (w.indexed (record { numbers = h.versions.numbers; order = h.versions.order })) w' (option_to_list found.depends_on) table told' on may'
 
-            pub updated_leads : LeadsOn opening steps s (Do t.0 (Update row)) Accepted (record c { versions = versions; table = table })
-            updated_leads = answer_leads opening steps s (record c { table = w.recorded.roomy }) stands t here.tx (Update row) (option_to_list found.depends_on) versions table
+            pub updated_leads : LeadsAmong rs opening steps s (Do t.0 (Update row)) Accepted (record c { versions = versions; table = table })
+            updated_leads = answer_leads rs opening steps s (record c { table = w.recorded.roomy }) stands t here.tx (Update row) (option_to_list found.depends_on) versions table
                 (subst Claim id claim
                 (subst (λ (st : States). (shown_to st t.0 t.0 (versions_at c.versions.slots c.versions.lists row.key)).version ≡ Some n) states (ap (λ (x : Shown). x.version) (sym shown) ∙ e))
                 (subst (λ (st : States). cause_at st c.versions.slots t.0 (Some n) ≡ None) states (ap (cause_at (state_of c.table) c.versions.slots t.0) (sym e) ∙ free))

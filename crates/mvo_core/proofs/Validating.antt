@@ -26,20 +26,24 @@ use Rattle.mvo_representation.specs.Order.{AllStandInOrder}
 use Rattle.mvo_representation.specs.WordLists.{HasWordLists}
 use Rattle.mvo_representation.proofs.Facts.{found_holds}
 use Rattle.mvo_representation.proofs.Unsettled.{alone, found_itself, some_same}
+use Rattle.mvo_readonly.specs.Whole.{stage_of}
+use Rattle.mvo_tale.specs.Others.{others_places}
+use Rattle.mvo_core.proofs.ReaderStages.{stages_same}
+use Rattle.mvo_core.specs.Readers.{Readers}
 use Rattle.mvo_core.specs.declared.kept_transaction.KeptTransaction.{KeptTransaction}
 use Rattle.mvo_core.specs.declared.answers.Validation.TheVariants as validation
 use Rattle.mvo_core.specs.Data.{CoreData, own_of}
 use Rattle.mvo_core.specs.Own.{is_own_valid, own_entry, own_check, is_last_check, checked_as}
-use Rattle.mvo_core.specs.Standing.{StandsFor, IsKeptActive, IsKeptPreparing, words_in}
+use Rattle.mvo_core.specs.Standing.{IsKeptActive, IsKeptPreparing, words_in, StandsAmong}
 use Rattle.mvo_core.specs.Causes.{why_not_preparing, flag_of}
 use Rattle.mvo_core.specs.Checking.{change_between, change_for}
 use Rattle.mvo_core.specs.Aborting.{IsGivenUp}
 use Rattle.mvo_core.specs.Keeping.{IsWritten, IsCounted}
-use Rattle.mvo_core.specs.Steps.{LeadsOn}
+use Rattle.mvo_core.specs.Steps.{LeadsAmong}
 use Rattle.mvo_core.proofs.EndCauses.{not_validated_is, preparing_unended, or_first, or_last}
 use Rattle.mvo_core.proofs.EndLaws.{change_named, stamps_fall, check_in_table, check_in_lists}
 use Rattle.mvo_core.proofs.GivenUp.{validate_given_up}
-use Rattle.mvo_core.proofs.OwnChanged.{IsOwnChanged, own_changed, words_stay}
+use Rattle.mvo_core.proofs.OwnChanged.{IsOwnChanged, own_changed, words_stay, others_changed}
 use Rattle.mvo_core.proofs.Rest.{HasRest, preparing_there, stands_then}
 use Rattle.mvo_core.proofs.KeptTale.{tale_checked}
 use Rattle.mvo_core.proofs.Undone.{IsKeptOfPreparing, kept_of_preparing}
@@ -51,12 +55,12 @@ failed_by None = refl
 failed_by (Some stamp) = refl
 
 -- it is refused before it is looked whether the entry differs
-pub validate_refused : (opening : Map) (steps : List Step) (s : State) (c : CoreData) → StandsFor opening steps s c → (t : ℕ) (r : Refusal) (new : CoreData) → why_not_preparing c.table t ≡ Some r → IsGivenUp c t r new
-    → LeadsOn opening steps s (Validate t) (Refused r) new
-validate_refused opening steps s c h t r new why left = validate_given_up opening steps s c new h t r left
-    (sym (not_validated_is opening steps s c h t) ∙ or_first (why_not_preparing c.table t) (next_differs s.stamped (preparing_of t s.stamped)) r why)
+pub validate_refused : (rs : Readers) (opening : Map) (steps : List Step) (s : State) (c : CoreData) → StandsAmong rs opening steps s c → (t : ℕ) (r : Refusal) (new : CoreData) → why_not_preparing c.table t ≡ Some r → IsGivenUp c t r new
+    → LeadsAmong rs opening steps s (Validate t) (Refused r) new
+validate_refused rs opening steps s c h t r new why left = validate_given_up rs opening steps s c new h t r left
+    (sym (not_validated_is rs opening steps s c h t) ∙ or_first (why_not_preparing c.table t) (next_differs s.stamped (preparing_of t s.stamped)) r why)
 
-module _ (opening : Map) (steps : List Step) (s : State) (c : CoreData) (h : StandsFor opening steps s c) where
+module _ (rs : Readers) (opening : Map) (steps : List Step) (s : State) (c : CoreData) (h : StandsAmong rs opening steps s c) where
   -- the stamps of the versions of each key fall
   pub fall : AllHaveFallingStamps (state_of c.table) c.versions.slots c.versions.lists
   fall = stamps_fall opening steps s (state_of c.table) c.versions.slots c.versions.lists c.versions.places h.versions h.order
@@ -79,7 +83,7 @@ module _ (opening : Map) (steps : List Step) (s : State) (c : CoreData) (h : Sta
 
     next_entry : own_entry (own_of c.table t) ≡ slice_get (entries x.history) x.checked
     next_entry =
-        let k = kept_of_preparing opening steps s c h t x found in
+        let k = kept_of_preparing rs opening steps s c h t x found in
         ap own_entry k.kept
         ∙ ap (λ own. slice_get (entries own.work.history) own.checked) (sym k.own_is)
         ∙ ap (λ ts. slice_get (entries ts) k.same.own.checked) k.same.history
@@ -96,19 +100,19 @@ module _ (opening : Map) (steps : List Step) (s : State) (c : CoreData) (h : Sta
     prepared = preparing_unended (state_of c.table t) (flag_of c.table t) none
 
     abbrev found : (x : StampedTx) × (preparing_of t s.stamped ≡ Some x) × (x.end ≡ prepared.0.0)
-    found = preparing_there opening steps s c h t prepared.0 prepared.1
+    found = preparing_there rs opening steps s c h t prepared.0 prepared.1
 
     abbrev x : StampedTx
     x = found.0
 
-    kept : IsKeptOfPreparing opening steps s c h t x
-    kept = kept_of_preparing opening steps s c h t x found.1
+    kept : IsKeptOfPreparing rs opening steps s c h t x
+    kept = kept_of_preparing rs opening steps s c h t x found.1
 
     valid_is : is_own_valid (own_of c.table t) ≡ x.valid
     valid_is = ap is_own_valid kept.kept ∙ ap (λ own. own.valid) (sym kept.own_is) ∙ kept.same.valid
 
     why : (o : Option Refusal) → next_differs s.stamped (preparing_of t s.stamped) ≡ o → why_not_validate s t ≡ o
-    why o e = sym (not_validated_is opening steps s c h t) ∙ or_last (why_not_preparing c.table t) (next_differs s.stamped (preparing_of t s.stamped)) none ∙ e
+    why o e = sym (not_validated_is rs opening steps s c h t) ∙ or_last (why_not_preparing c.table t) (next_differs s.stamped (preparing_of t s.stamped)) none ∙ e
 
     pub own_there : IsSome (own_of c.table t)
     own_there = ap is_some kept.kept
@@ -124,15 +128,15 @@ module _ (opening : Map) (steps : List Step) (s : State) (c : CoreData) (h : Sta
       none_differs : next_differs s.stamped (preparing_of t s.stamped) ≡ None
       none_differs = ap (next_differs s.stamped) found.1 ∙ ap (λ (b : Bool). cond b None (entry_differs s.stamped x (slice_get (entries x.history) x.checked))) x_valid
 
-      rest_same : HasRest s c.table c.tale c
-      rest_same = record { works = h.works; tale = h.tale; marks = h.marks; grouped = h.grouped; start = h.start }
+      rest_same : HasRest rs s c.table c.tale c
+      rest_same = record { works = h.works; tale = h.tale; places = h.places; stages = h.stages; marks = h.marks; grouped = h.grouped; start = h.start }
 
-      pub valid_leads : LeadsOn opening steps s (Validate t) Accepted c
+      pub valid_leads : LeadsAmong rs opening steps s (Validate t) Accepted c
       valid_leads = record {
         may = (why None none_differs, tt);
-        stands = stands_then opening steps s c h (Validate t) Accepted c.table c.versions.lists c.tale (why None none_differs, tt) refl h.versions.numbers
+        stands = stands_then rs opening steps s c h (Validate t) Accepted c.table c.versions.lists c.tale (why None none_differs, tt) refl h.versions.numbers
             (check_in_table s c.table t h.dependencies) h.order (check_in_lists s c.versions.slots (words_in c.table) t h.words)
-            (subst (λ z. HasRest z c.table c.tale c) (sym same_state) rest_same);
+            (subst (λ z. HasRest rs z c.table c.tale c) (sym same_state) rest_same);
       }
 
       pub valid_answers : validation.Valid ≡ cond (is_valid_now s t) validation.Valid validation.More
@@ -151,8 +155,8 @@ module _ (opening : Map) (steps : List Step) (s : State) (c : CoreData) (h : Sta
 
       -- the entry differs
       pub differs_leads : (stamp : Stamp) (new : CoreData) → Some stamp.0 ≡ change_for (state_of c.table t) (state_of c.table) c.versions t (own_entry (own_of c.table t)) → IsGivenUp c t (ValidationFailed stamp) new
-          → LeadsOn opening steps s (Validate t) (Refused (ValidationFailed stamp)) new
-      differs_leads stamp new is left = validate_given_up opening steps s c new h t (ValidationFailed stamp) left (why (Some (ValidationFailed stamp)) (named (Some stamp) is))
+          → LeadsAmong rs opening steps s (Validate t) (Refused (ValidationFailed stamp)) new
+      differs_leads stamp new is left = validate_given_up rs opening steps s c new h t (ValidationFailed stamp) left (why (Some (ValidationFailed stamp)) (named (Some stamp) is))
 
       -- it is as it was
       abbrev last : Bool
@@ -173,7 +177,7 @@ module _ (opening : Map) (steps : List Step) (s : State) (c : CoreData) (h : Sta
           ∙ ap checked_as (last_is kept.own kept.kept)
           ∙ sym (ap (λ (b : Bool). cond b validation.Valid validation.More) (ap is_valid_at found.1 ∙ ap (λ (b : Bool). b || last) x_unvalid))
 
-      module _ (table : Txns (Node KeptTransaction)) (counted : IsWritten c.table table t IsCounted) where
+      module _ (table : Txns (Node KeptTransaction)) (counted : IsWritten c.table table t IsCounted) (other : stage_of t rs.unfinished ≡ None) where
         change : IsOwnChanged c.table table t IsCounted
         change = own_changed c.table table t IsCounted counted
 
@@ -224,7 +228,7 @@ module _ (opening : Map) (steps : List Step) (s : State) (c : CoreData) (h : Sta
             (λ ne. beside_checked y (sym (a.0 o) ∙ ne_eqb y.id t ne) ne (w o))
             (cases_eq y.id t)
 
-        rest_checked : HasRest (after_check s x.end last) table c.tale c
+        rest_checked : HasRest rs (after_check s x.end last) table c.tale c
         rest_checked = record {
           works = record {
             active = each_both (λ r. r.id ≢ t) (IsKeptActive c.table) (IsKeptActive table) (λ r ne w. record { own = w.own; kept = change.beside r.id ne ∙ w.kept; history = w.history }) s.active active_beside h.works.active;
@@ -234,7 +238,9 @@ module _ (opening : Map) (steps : List Step) (s : State) (c : CoreData) (h : Sta
                 (alone s h.versions.kept.single h.versions.kept.sound.rising t x found.1) (found_itself s h.versions.kept.single))
                 h.works.preparing);
           };
-          tale = tale_checked s c.tale h.versions.kept.started h.versions.kept.sound.rising h.tale x.end last;
+          tale = tale_checked s (others_places c.tale) h.versions.kept.started h.versions.kept.sound.rising h.tale x.end last;
+          places = h.places;
+          stages = stages_same rs.unfinished c.table table c.tale (others_changed c.table table t IsCounted change rs.unfinished c.tale h.stages other change.changed.kind) h.stages;
           marks = h.marks;
           grouped = h.grouped;
           start = h.start;
@@ -246,12 +252,12 @@ module _ (opening : Map) (steps : List Step) (s : State) (c : CoreData) (h : Sta
         same_states : state_of c.table ≡ state_of table
         same_states = λ i u. sym (change.states u) i
 
-        pub counted_leads : None ≡ change_for (state_of c.table t) (state_of c.table) c.versions t (own_entry (own_of c.table t)) → LeadsOn opening steps s (Validate t) Accepted (record c { table = table })
+        pub counted_leads : None ≡ change_for (state_of c.table t) (state_of c.table) c.versions t (own_entry (own_of c.table t)) → LeadsAmong rs opening steps s (Validate t) Accepted (record c { table = table })
         counted_leads is = record {
           may = (why None (named None is), tt);
-          stands = stands_then opening steps s c h (Validate t) Accepted table c.versions.lists c.tale (why None (named None is), tt) refl h.versions.numbers
+          stands = stands_then rs opening steps s c h (Validate t) Accepted table c.versions.lists c.tale (why None (named None is), tt) refl h.versions.numbers
               (change.dependencies (after_validate s t) (check_in_table s c.table t h.dependencies))
               (subst (λ states. AllStandInOrder s.start states c.versions.slots c.versions.lists) same_states h.order)
               (subst (HasWordLists (after_validate s t) c.versions.slots) (sym (words_stay c.table table t IsCounted change (ap (λ w. w.words) change.changed.work))) (check_in_lists s c.versions.slots (words_in c.table) t h.words))
-              (subst (λ z. HasRest z table c.tale c) (sym state_then) rest_checked);
+              (subst (λ z. HasRest rs z table c.tale c) (sym state_then) rest_checked);
         }

@@ -33,13 +33,14 @@ use Rattle.mvo_collect.proofs.Awaited.{draw_keeps_waiting}
 use Rattle.mvo_collect.proofs.Collections.{collection_stands, collection_counts}
 use Rattle.mvo_collect.proofs.Needed.{ends_are_listed}
 use Rattle.mvo_collect.proofs.Same.{collect_shows_same}
+use Rattle.mvo_core.specs.Readers.{Readers}
 use Rattle.mvo_core.specs.declared.kept_transaction.KeptTransaction.{KeptTransaction}
 use Rattle.mvo_core.specs.Causes.{why_not_active}
 use Rattle.mvo_core.specs.Collecting.{IsTaken}
 use Rattle.mvo_core.specs.Data.{CoreData}
 use Rattle.mvo_core.specs.Fronts.{comes_at_draw, AreInFront}
 use Rattle.mvo_core.specs.Keeping.{IsWritten, IsWrittenThen, IsPlacedInTale, HasHandedOver}
-use Rattle.mvo_core.specs.Standing.{StandsFor, words_in}
+use Rattle.mvo_core.specs.Standing.{words_in, StandsAmong}
 use Rattle.mvo_core.proofs.Drawing.{clock_written, was_active, others, here, over_limit, none_refusal}
 use Rattle.mvo_core.proofs.OwnChanged.{IsOwnChanged, own_changed}
 use Rattle.mvo_core.proofs.Reporting.{stands_now, others_stand}
@@ -47,7 +48,7 @@ use Rattle.mvo_core.proofs.Undone.{was_state}
 use Rattle.mvo_core.proofs.Waits.{clock_changed, alike_written, waits_alike, waits_beside, waits_roomy_ended}
 
 -- ---- what the versions, the table and what waits are tied to
-module _ (opening : Map) (steps : List Step) (s : State) (c : CoreData) (h : StandsFor opening steps s c) where
+module _ (rs : Readers) (opening : Map) (steps : List Step) (s : State) (c : CoreData) (h : StandsAmong rs opening steps s c) where
   pub stands_with : (w : WaitingData) → AreWaiting c.table.clock (state_of c.table) c.versions.slots w → VersionsStand opening steps s (state_of c.table) c.versions (words_in c.table) w
   stands_with w waits = record {
     versions = h.versions;
@@ -65,7 +66,7 @@ module _ (opening : Map) (steps : List Step) (s : State) (c : CoreData) (h : Sta
     left : VersionsStand opening steps s (state_of c.table) new (words_in c.table) w'
     left = collection_stands opening steps s (state_of c.table) c.versions new (words_in c.table) w w' r (stands_with w waits) is_here
 
-    pub collected_stands : StandsFor opening steps s (record c { versions = new })
+    pub collected_stands : StandsAmong rs opening steps s (record c { versions = new })
     collected_stands = record {
       versions = left.versions;
       dependencies = h.dependencies;
@@ -73,6 +74,8 @@ module _ (opening : Map) (steps : List Step) (s : State) (c : CoreData) (h : Sta
       works = h.works;
       words = left.lists;
       tale = h.tale;
+      places = h.places;
+      stages = h.stages;
       marks = h.marks;
       grouped = h.grouped;
       start = h.start;
@@ -101,7 +104,7 @@ taken_so start old new w w' Collected q = (q.0, q.1)
 taken_so start old new w w' Nothing q = q.0
 
 -- ---- a transaction draws its end
-module _ (opening : Map) (steps : List Step) (s : State) (c : CoreData) (h : StandsFor opening steps s c) (t : TxId) (none : why_not_active c.table t.0 ≡ None) (place : ℕ) (last : place ≡ length c.tale) (e : Stamp) (drawn : e.0 ≡ c.table.clock + 1) (versions : VersionsData)
+module _ (rs : Readers) (opening : Map) (steps : List Step) (s : State) (c : CoreData) (h : StandsAmong rs opening steps s c) (t : TxId) (none : why_not_active c.table t.0 ≡ None) (place : ℕ) (last : place ≡ length c.tale) (e : Stamp) (drawn : e.0 ≡ c.table.clock + 1) (versions : VersionsData)
     (front : AreInFront (comes_at_draw (state_of c.table) t.0) c.versions versions (words_in c.table t.0)) where
   module _ (placed : Txns (Node KeptTransaction)) (written : IsWritten c.table placed t.0 (IsPlacedInTale place)) where
     change : IsOwnChanged c.table placed t.0 (IsPlacedInTale (length c.tale))
@@ -121,9 +124,9 @@ module _ (opening : Map) (steps : List Step) (s : State) (c : CoreData) (h : Sta
         let states' = state_of (txns.table_after_prepare placed t.0) in
         let ns = end_numbers (words_in c.table t.0) in
         let roomy_waits = waits_roomy_ended c.table.clock (state_of c.table) c.versions.slots w roomy roomy.ended_room room waits in
-        let now = draw_keeps_waiting opening steps s (state_of c.table) states' c.versions (words_in c.table) roomy t.0 e ns (stands_with opening steps s c h roomy roomy_waits)
-        (was_active opening steps s c h t none) (others opening steps s c h t none placed change)
-        (subst (λ (x : Stamp). states' t.0 ≡ Some (Preparing x)) (sym end_is) (here opening steps s c h t none placed change))
+        let now = draw_keeps_waiting opening steps s (state_of c.table) states' c.versions (words_in c.table) roomy t.0 e ns (stands_with rs opening steps s c h roomy roomy_waits)
+        (was_active rs opening steps s c h t none) (others rs opening steps s c h t none placed change)
+        (subst (λ (x : Stamp). states' t.0 ≡ Some (Preparing x)) (sym end_is) (here rs opening steps s c h t none placed change))
         (drawn ∙ ap (λ (n : ℕ). n + 1) h.dependencies.stands.clock)
         (λ n x at named. ends_are_listed s c.versions.slots (words_in c.table) t.0 n x h.words at named) in
         let clock : s.clock + 1 ≡ placed.clock + 1 = ap (λ (n : ℕ). n + 1) (sym (same_clock ∙ h.dependencies.stands.clock)) in

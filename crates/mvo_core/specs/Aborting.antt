@@ -14,7 +14,8 @@ use Rattle.mvo_tale.specs.declared.tale_place.TalePlace.{TalePlace}
 use Rattle.mvo_tale.specs.declared.tale_place.TalePlace.TheVariants.{Empty}
 use Rattle.mvo_tale.specs.Slots.{pending_end_at, closed_up}
 use Rattle.mvo_core.specs.Data.{CoreData}
-use Rattle.mvo_core.specs.Standing.{StandsFor}
+use Rattle.mvo_core.specs.Readers.{Readers}
+use Rattle.mvo_core.specs.Standing.{StandsAmong}
 
 -- ---- a refusal
 -- whom a failure aborts is Active or Preparing
@@ -23,16 +24,16 @@ MayGiveUp c t r = is_failure r ≡ true → IsUnended (state_of c.table t)
 
 -- from each state that the core stands for, it stands for the one that the refusal leaves
 abbrev pub IsGivenUp : CoreData → ℕ → Refusal → CoreData → Type 0
-IsGivenUp old t r new = (opening : Map) (steps : List Step) (s : State)
-    → StandsFor opening steps s old
-    → StandsFor opening (steps ++ steps_of_refusal t r) (after_refusal s t r) new
+IsGivenUp old t r new = (rs : Readers) (opening : Map) (steps : List Step) (s : State)
+    → StandsAmong rs opening steps s old
+    → StandsAmong rs opening (steps ++ steps_of_refusal t r) (after_refusal s t r) new
 
 -- ---- an abort
 -- from each state that the core stands for, it stands for the one after the abort
 abbrev pub IsAborted : CoreData → ℕ → CoreData → Type 0
-IsAborted old t new = (opening : Map) (steps : List Step) (s : State)
-    → StandsFor opening steps s old
-    → StandsFor opening (steps ++ Aborts t ∷ []) (after_abort s t) new
+IsAborted old t new = (rs : Readers) (opening : Map) (steps : List Step) (s : State)
+    → StandsAmong rs opening steps s old
+    → StandsAmong rs opening (steps ++ Aborts t ∷ []) (after_abort s t) new
 
 -- a Preparing one has an open place in the tale
 abbrev pub HasOpenPlace : Option TxState → List TalePlace → ℕ → Type 0

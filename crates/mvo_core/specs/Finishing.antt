@@ -54,6 +54,7 @@ pub record HasPassed (slots : Slots) (t : ℕ) (old new : KeptTransaction) : Typ
   pub place : new.place ≡ old.place
   pub checked : new.checked ≡ old.checked
   pub valid : new.valid ≡ old.valid
+  pub kind : new.kind ≡ old.kind
 
 -- the first word is replaced and taken off, if there is one
 abbrev pub IsFirstReplaced : VersionsData → VersionsData → Txns (Node KeptTransaction)

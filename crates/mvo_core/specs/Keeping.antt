@@ -46,6 +46,7 @@ pub record HasDoneAsMuch (old new : KeptTransaction) : Type 0 where
   pub place : new.place ≡ old.place
   pub checked : new.checked ≡ old.checked
   pub valid : new.valid ≡ old.valid
+  pub kind : new.kind ≡ old.kind
 
 -- the same, with room for more
 pub record HasMadeRoom (old new : KeptTransaction) : Type 0 where
@@ -59,6 +60,7 @@ pub record IsTold (op : Op) (answer : AnswerData) (old new : KeptTransaction) : 
   pub place : new.place ≡ old.place
   pub checked : new.checked ≡ old.checked
   pub valid : new.valid ≡ old.valid
+  pub kind : new.kind ≡ old.kind
 
 -- it has done one operation more, which put these words
 pub record HasDoneMore (op : Op) (answer : AnswerData) (put : List WordPlace)
@@ -68,6 +70,7 @@ pub record HasDoneMore (op : Op) (answer : AnswerData) (put : List WordPlace)
   pub place : new.place ≡ old.place
   pub checked : new.checked ≡ old.checked
   pub valid : new.valid ≡ old.valid
+  pub kind : new.kind ≡ old.kind
 
 -- its first word is taken off
 pub record HasDropped (old new : KeptTransaction) : Type 0 where
@@ -76,6 +79,7 @@ pub record HasDropped (old new : KeptTransaction) : Type 0 where
   pub place : new.place ≡ old.place
   pub checked : new.checked ≡ old.checked
   pub valid : new.valid ≡ old.valid
+  pub kind : new.kind ≡ old.kind
 
 -- its operations are taken out. The words stay
 pub record HasHandedOver (old new : KeptTransaction) : Type 0 where
@@ -84,6 +88,7 @@ pub record HasHandedOver (old new : KeptTransaction) : Type 0 where
   pub place : new.place ≡ old.place
   pub checked : new.checked ≡ old.checked
   pub valid : new.valid ≡ old.valid
+  pub kind : new.kind ≡ old.kind
 
 -- it has this place in the tale, and none of its entries is checked
 pub record IsPlacedInTale (place : ℕ) (old new : KeptTransaction) : Type 0 where
@@ -91,6 +96,7 @@ pub record IsPlacedInTale (place : ℕ) (old new : KeptTransaction) : Type 0 whe
   pub is : new.place ≡ place
   pub checked : new.checked ≡ 0
   pub valid : new.valid ≡ false
+  pub kind : new.kind ≡ old.kind
 
 -- one more of its entries is checked. The last one isn't counted: it is valid then
 pub record IsCounted (old new : KeptTransaction) : Type 0 where
@@ -99,6 +105,7 @@ pub record IsCounted (old new : KeptTransaction) : Type 0 where
   pub checked :
       new.checked ≡ (if is_last_check old then old.checked else old.checked + 1)
   pub valid : new.valid ≡ is_last_check old
+  pub kind : new.kind ≡ old.kind
 
 -- with room made for it, it depends on these, and has done one operation more
 pub record IsRecorded (old new : Txns (Node KeptTransaction)) (t : TxId) (ids : List TxId) (op : Op)

@@ -4,9 +4,11 @@ pub use Rattle.mvo_collect.specs.Garbage
 pub mod Data
 pub mod Seen
 pub mod Causes
+pub mod Readers
 pub mod Standing
 pub mod View
 pub mod Steps
+pub mod WholeStanding
 pub mod Own
 pub mod Keeping
 pub mod Closing

@@ -12,6 +12,7 @@ use Rattle.mvo_tale.specs.declared.tale_place.TalePlace.{TalePlace}
 use Rattle.mvo_tale.specs.Slots.{open_end_at}
 use Rattle.mvo_tale.specs.Kept.{HasTale}
 use Rattle.mvo_tale.specs.Next.{AreGroupedTo}
+use Rattle.mvo_tale.specs.Others.{others_places}
 use Rattle.mvo_representation.specs.Laws as representation
 use Rattle.mvo_representation.specs.Dependencies.{HasDependencies}
 use Rattle.mvo_representation.specs.Order.{AllStandInOrder}
@@ -19,6 +20,7 @@ use Rattle.mvo_representation.specs.WordLists.{HasWordLists}
 use Rattle.mvo_collect.specs.Begun.{AreOver}
 use Rattle.mvo_core.specs.declared.kept_transaction.KeptTransaction.{KeptTransaction}
 use Rattle.mvo_core.specs.Data.{CoreData, own_of}
+use Rattle.mvo_core.specs.Readers.{Readers, no_readers, HaveStages, HasTalePlaces}
 
 -- ---- what is kept of each transaction is what the state has of it
 pub record IsKeptActive (table : Txns (Node KeptTransaction)) (r : ActiveTx) : Type 0 where
@@ -50,8 +52,10 @@ abbrev pub words_in : Txns (Node KeptTransaction) → ℕ → List WordPlace
 words_in table t = own_words_of (own_of table t)
 
 -- ---- the core
--- it stands for the state, to which the steps since the opening lead
-pub record StandsFor (opening : Map) (steps : List Step) (s : State) (c : CoreData) : Type 0 where
+-- It stands for the state, to which the steps since the opening lead: that of the others, in which
+-- a read-only transaction is Active until it ends. Beside it are these read-only ones.
+pub record StandsAmong (rs : Readers) (opening : Map) (steps : List Step) (s : State)
+    (c : CoreData) : Type 0 where
   pub versions :
       representation.VersionsStandFor opening steps s (state_of c.table)
       c.versions.slots c.versions.lists c.versions.places
@@ -59,11 +63,17 @@ pub record StandsFor (opening : Map) (steps : List Step) (s : State) (c : CoreDa
   pub order : AllStandInOrder s.start (state_of c.table) c.versions.slots c.versions.lists
   pub works : HasWorks s c.table c.tale
   pub words : HasWordLists s c.versions.slots (words_in c.table)
-  pub tale : HasTale s c.tale
+  pub tale : HasTale s (others_places c.tale)
+  pub places : HasTalePlaces rs s.start s.clock c.tale
+  pub stages : HaveStages rs.unfinished c.table c.tale
   pub marks : s.marks ≡ record { opening = c.opening; closed = c.closed }
   pub grouped : AreGroupedTo c.tale c.grouped c.closed
   pub start : s.start ≡ c.start
   pub over : AreOver s
+
+-- so it does where no transaction is read-only
+abbrev pub StandsFor : Map → List Step → State → CoreData → Type 0
+StandsFor opening steps s c = StandsAmong no_readers opening steps s c
 
 -- for some state, whatever steps led there. Up to the mark of the group that was closed last all
 -- are settled there

@@ -20,18 +20,24 @@ use Rattle.mvo_core.specs.declared.answers.Validation.TheVariants as validation
 use Rattle.mvo_core.specs.declared.answers.Finishing.{Finishing}
 use Rattle.mvo_core.specs.declared.answers.Finishing.TheVariants as finishing
 use Rattle.mvo_core.specs.Data.{CoreData}
-use Rattle.mvo_core.specs.Standing.{StandsFor}
+use Rattle.mvo_core.specs.Readers.{Readers, no_readers}
+use Rattle.mvo_core.specs.Standing.{StandsAmong, StandsFor}
 
 -- what a call came to
 abbrev pub came : {A : Type 0} → Result A Refusal → theory.Result
 came (Ok a) = Accepted
 came (Err r) = Refused r
 
--- it may come to this in the state, and leads to the named one
-pub record LeadsOn (opening : Map) (steps : List Step) (s : State) (call : Call)
+-- a call of none of these read-only transactions may come to this in the state, and leads to the
+-- named one
+pub record LeadsAmong (rs : Readers) (opening : Map) (steps : List Step) (s : State) (call : Call)
     (r : theory.Result) (new : CoreData) : Type 0 where
   pub may : MayCome s call r
-  pub stands : StandsFor opening (steps ++ steps_of s call r) (after_call s call r) new
+  pub stands : StandsAmong rs opening (steps ++ steps_of s call r) (after_call s call r) new
+
+-- so it does where no transaction is read-only
+abbrev pub LeadsOn : Map → List Step → State → Call → theory.Result → CoreData → Type 0
+LeadsOn opening steps s call r new = LeadsAmong no_readers opening steps s call r new
 
 -- so it does from each state that the core stands for
 abbrev pub IsStep : {A : Type 0} → CoreData → Call → Result A Refusal → CoreData → Type 0

@@ -11,6 +11,22 @@ use std::alloc::{AllocError, Global};
 /// The unfinished transactions.
 pub type Table = TxnTable<Node<KeptTransaction>>;
 
+/// Whether a transaction is read-only, and how far such a one is. For the table a read-only one is
+/// Active until it ends, and Aborted then.
+#[derive(Clone, Copy)]
+pub enum TransactionKind {
+    /// It isn't read-only.
+    Other,
+    /// It reads.
+    Reading,
+    /// It is Preparing.
+    Preparing,
+    /// It is Committed.
+    Committed,
+    /// It is Aborted.
+    Aborted,
+}
+
 /// What the core keeps of an unfinished transaction, beside where it stands and on whom it depends.
 #[derive(Drop)]
 pub struct KeptTransaction {
@@ -22,6 +38,8 @@ pub struct KeptTransaction {
     pub checked: usize,
     /// Whether all of them are.
     pub valid: bool,
+    /// Whether it is read-only, and how far it is then.
+    pub kind: TransactionKind,
 }
 
 impl KeptTransaction {
@@ -85,10 +103,11 @@ impl KeptTransaction {
     }
 }
 
-/// One that has done this work, and nothing else.
+/// One that has done this work, and nothing else, and isn't read-only.
 pub fn begun(alloc: Global, work: Work) -> Node<KeptTransaction>
     ensures dependencies { result.dependencies ≡ no_dependencies }
     ensures work { result.own.work ≡ work }
+    ensures kind { result.own.kind ≡ TransactionKind.Other }
 {
     Node {
         dependencies: Dependencies::new(alloc),
@@ -97,6 +116,7 @@ pub fn begun(alloc: Global, work: Work) -> Node<KeptTransaction>
             place: 0,
             checked: 0,
             valid: false,
+            kind: TransactionKind::Other,
         },
     }
 }

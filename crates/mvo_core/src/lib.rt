@@ -19,9 +19,11 @@ mod refusing;
 mod scanning;
 mod spares;
 mod trimming;
+mod whole_laws;
 
 pub use answers::{Closed, Finishing, Settlement, Validation};
 pub use event_core::Core;
 pub use mvo_collect::Collection;
 pub use mvo_tale::Tale;
 pub use operation::copy_of;
+pub use whole_laws::laws_of_whole_steps;

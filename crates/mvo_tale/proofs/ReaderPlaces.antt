@@ -1,6 +1,6 @@
 -- Each call of a read-only transaction leaves the places of the state after the call.
 use Rattle.std.proofs.Common.{◌≡◌, ℕ, ◌+◌, Bool, true, false, cond, not, ◌||◌, List, [], ◌∷◌, Option, None, Some, refl, sym, ap, ◌∙◌, subst, arith}
-use Rattle.std.specs.Prelude.{nat_le, length}
+use Rattle.std.specs.Prelude.{is_some, nat_le, length}
 use Rattle.std.specs.List.{AllByRecursion}
 use Rattle.mvo_types.specs.declared.refusal.Refusal.{Refusal}
 use Rattle.mvo_types.specs.declared.refusal.Refusal.TheVariants.{NoSuchTransaction, Ended, NotPreparing, NotEnded}
@@ -31,11 +31,14 @@ use Rattle.mvo_readonly.specs.WholeCauses.{why_not_reader, MayComeAtStage, await
 use Rattle.mvo_readonly.specs.WholeCalls.{rolled_back, unless_awaited, core_at_stage, core_reader, with_stage, without_reader, checked_more, settled_unless, readers_at_stage, readers_reader, committed_unless, committed_at_stage, committed_by_reader}
 use Rattle.mvo_readonly.specs.WholeKept.{core_phase, IsUnfinishedReader, IsWholeKept}
 use Rattle.mvo_readonly.proofs.ReaderCalls.{in_core}
+use Rattle.mvo_readonly.proofs.Tales.{never_due}
 use Rattle.mvo_readonly.proofs.Stages.{core_stands, found_active, may_prepare, may_settle, may_fail_do, may_fail_precommit, may_fail_validate, may_fail_settle}
 use Rattle.mvo_tale.specs.declared.tale_place.TalePlace.{TalePlace}
 use Rattle.mvo_tale.specs.Slots.{ends, reading_begin_at, AreRising}
+use Rattle.mvo_tale.specs.Next.{AreGroupedTo}
 use Rattle.mvo_tale.specs.WholePlaces.{has_ended, HasWholeTale}
-use Rattle.mvo_tale.specs.ReaderPlaces.{read_commit, stored_unless, emptied_at, places_after_reader, BeginOpensPlace, ReaderCallsKeepTale}
+use Rattle.mvo_tale.specs.ReaderPlaces.{read_commit, stored_unless, emptied_at, places_after_reader, BeginOpensPlace, ReaderCallsKeepTale, ReaderCallsKeepGrouped}
+use Rattle.mvo_tale.proofs.ReadingPlaces.{grouped_read, grouped_reading_left}
 use Rattle.mvo_tale.proofs.WholePlaces.{whole_begun, whole_staged, whole_settled, whole_left, whole_finished}
 
 none_why : (r : Refusal) → ◌≡◌ {A = Option Refusal} (Some r) None → ⊥
@@ -86,6 +89,16 @@ taken_whole : (o : Option Claim) (s : State) (rs : List UnfinishedReader) (ys : 
 taken_whole None s rs ys slots h = h
 taken_whole (Some c) s rs ys slots h = record { others = h.others; readers = h.readers }
 
+-- it wrote nothing
+told_nothing : (opening : Map) (steps own : List Step) (w : WholeState) → IsWholeKept opening steps own w → (t : ℕ) (p : ReaderStage) → stage_of t w.readers ≡ Some p → core_phase p ≡ IsActive → WritesNothing (history_of_active t w.core.active)
+told_nothing opening steps own w kept t p e a =
+    let at = core_stands steps own w.core t w.readers p e kept.readers in
+    let found = found_active w.core t (in_core opening steps own w t p e kept ∙ a) in
+    let r = found.0 in
+    let is = found_is t w.core.active r found.1 in
+    let told : history_of t own ≡ r.history = subst (λ (u : ℕ). history_of u own ≡ r.history) is.0 (active_holds (λ q. history_of q.id own ≡ q.history) t w.core.active r found.1 kept.kept.after_trace.active).0 in
+    subst WritesNothing (told ∙ sym is.1) at.2
+
 module _ (opening : Map) (steps own : List Step) (w : WholeState) (slots : List TalePlace) (kept : IsWholeKept opening steps own w) (rising : AreRising (ends slots)) (h : HasWholeTale w slots) where
   -- in the core it is Active, and not Preparing
   none_prepares : (t : ℕ) (p : ReaderStage) → stage_of t w.readers ≡ Some p → core_phase p ≡ IsActive → preparing_of t w.core.stamped ≡ None
@@ -96,15 +109,6 @@ module _ (opening : Map) (steps own : List Step) (w : WholeState) (slots : List 
 
   unended_readers : (t : ℕ) (p : ReaderStage) → stage_of t w.readers ≡ Some p → core_phase p ≡ IsActive → AllByRecursion (λ r. r.id ≡ t → has_ended r.stage ≡ false) w.readers
   unended_readers t p e a = each_ended_as false p t w.readers (unended p a) (each_as steps own w.core t p w.readers e kept.readers)
-
-  told_nothing : (t : ℕ) (p : ReaderStage) → stage_of t w.readers ≡ Some p → core_phase p ≡ IsActive → WritesNothing (history_of_active t w.core.active)
-  told_nothing t p e a =
-      let at = core_stands steps own w.core t w.readers p e kept.readers in
-      let found = found_active w.core t (in_core opening steps own w t p e kept ∙ a) in
-      let r = found.0 in
-      let is = found_is t w.core.active r found.1 in
-      let told : history_of t own ≡ r.history = subst (λ (u : ℕ). history_of u own ≡ r.history) is.0 (active_holds (λ q. history_of q.id own ≡ q.history) t w.core.active r found.1 kept.kept.after_trace.active).0 in
-      subst WritesNothing (told ∙ sym is.1) at.2
 
   -- it is aborted
   tale_aborted : (t : ℕ) (p : ReaderStage) (place : ℕ) → stage_of t w.readers ≡ Some p → core_phase p ≡ IsActive → (has_ended p ≡ false → reading_begin_at slots place ≡ Some t)
@@ -124,7 +128,7 @@ module _ (opening : Map) (steps own : List Step) (w : WholeState) (slots : List 
       → HasWholeTale (record { core = after_run w.core (unless_awaited t v); readers = settled_unless t w.readers v; committed_readers = committed_unless w.core t w.committed_readers v }) (stored_unless w.core t place slots v)
   tale_settled t p place e a at (Some x) = record { others = h.others; readers = h.readers }
   tale_settled t p place e a at None =
-      let k = whole_settled w (read_commit w.core t) place slots rising (at (unended p a)) refl (told_nothing t p e a) h in
+      let k = whole_settled w (read_commit w.core t) place slots rising (at (unended p a)) refl (told_nothing opening steps own w kept t p e a) h in
       subst (λ (o : Option StampedTx). HasWholeTale (record { core = after_abort_of w.core t o; readers = with_stage t Committed w.readers; committed_readers = committed_unless w.core t w.committed_readers None }) (stored_unless w.core t place slots None)) (sym (none_prepares t p e a))
       (record { others = k.others; readers = k.readers })
 
@@ -175,3 +179,37 @@ pub reader_calls_keep : ReaderCallsKeepTale
 reader_calls_keep opening steps own w c r p place slots kept e m rising at h =
     subst (λ (o : Option ReaderStage). HasWholeTale (record { core = after_run w.core (core_at_stage w.core c r o); readers = readers_at_stage w.core c r o w.readers; committed_readers = committed_at_stage w.core c r o w.committed_readers }) (places_after_reader w.core c r place slots)) (sym e)
     (tale_reader opening steps own w slots kept rising h c r p place e m at)
+
+-- ---- what is grouped up to a place
+module _ (opening : Map) (steps own : List Step) (w : WholeState) (slots : List TalePlace) (from mark : ℕ) (kept : IsWholeKept opening steps own w) (h : AreGroupedTo slots from mark) where
+  grouped_aborted : (t : ℕ) (p : ReaderStage) (place : ℕ) → core_phase p ≡ IsActive → (has_ended p ≡ false → reading_begin_at slots place ≡ Some t) → AreGroupedTo (emptied_at place slots) from mark
+  grouped_aborted t p place a at = grouped_reading_left slots from mark place (ap is_some (at (unended p a))) h
+
+  grouped_failed : (t : ℕ) (p : ReaderStage) (r : Refusal) (place : ℕ) → (is_failure r ≡ true → core_phase p ≡ IsActive) → (has_ended p ≡ false → reading_begin_at slots place ≡ Some t) → (b : Bool) → is_failure r ≡ b → AreGroupedTo (cond b (emptied_at place slots) slots) from mark
+  grouped_failed t p r place f at true i = grouped_aborted t p place (f i) at
+  grouped_failed t p r place f at false i = h
+
+  grouped_settled_as : (t : ℕ) (p : ReaderStage) (place : ℕ) → stage_of t w.readers ≡ Some p → core_phase p ≡ IsActive → (has_ended p ≡ false → reading_begin_at slots place ≡ Some t) → (v : Option StampedTx) → AreGroupedTo (stored_unless w.core t place slots v) from mark
+  grouped_settled_as t p place e a at (Some x) = h
+  grouped_settled_as t p place e a at None =
+      grouped_read slots from mark place (read_commit w.core t) (ap is_some (at (unended p a))) (never_due 0 1 (history_of_active t w.core.active) (told_nothing opening steps own w kept t p e a)) h
+
+  grouped_reader : (c : Call) (r : Result) (p : ReaderStage) (place : ℕ) → stage_named w.readers (id_named c) ≡ Some p → MayComeAtStage w c (Some p) r → (has_ended p ≡ false → reading_begin_at slots place ≡ id_named c) → AreGroupedTo (places_after_reader w.core c r place slots) from mark
+  grouped_reader Begin r p place e m at = absurd (no_stage p e)
+  grouped_reader (Trim k) r p place e m at = absurd (no_stage p e)
+  grouped_reader (Close fits g full) r p place e m at = absurd (no_stage p e)
+  grouped_reader (Do t op) Accepted p place e m at = h
+  grouped_reader (Precommit t) Accepted p place e m at = h
+  grouped_reader (Validate t) Accepted p place e m at = h
+  grouped_reader (Settle t) Accepted p place e m at = grouped_settled_as t p place e (may_settle w.core t p m.0).0 at (awaited_by_reader w.core t)
+  grouped_reader (Rollback t) Accepted p place e m at = grouped_aborted t p place (rolled_active w.core t p (in_core opening steps own w t p e kept) m.0) at
+  grouped_reader (Finish t) Accepted p place e m at = h
+  grouped_reader (Do t op) (Refused r) p place e m at = grouped_failed t p r place (may_fail_do w t op p r m) at (is_failure r) refl
+  grouped_reader (Precommit t) (Refused r) p place e m at = grouped_failed t p r place (may_fail_precommit w t p r m) at (is_failure r) refl
+  grouped_reader (Validate t) (Refused r) p place e m at = grouped_failed t p r place (may_fail_validate w t p r m) at (is_failure r) refl
+  grouped_reader (Settle t) (Refused r) p place e m at = grouped_failed t p r place (may_fail_settle w t p r m) at (is_failure r) refl
+  grouped_reader (Rollback t) (Refused r) p place e m at = h
+  grouped_reader (Finish t) (Refused r) p place e m at = h
+
+pub reader_calls_grouped : ReaderCallsKeepGrouped
+reader_calls_grouped opening steps own w c r p place from mark slots kept e m at h = grouped_reader opening steps own w slots from mark kept h c r p place e m at

@@ -17,6 +17,7 @@ use Rattle.mvo_tale.specs.declared.tale_place.TalePlace.{TalePlace}
 use Rattle.mvo_tale.specs.declared.tale_place.TalePlace.TheVariants.{Reading, Settled, Empty}
 use Rattle.mvo_tale.specs.Stored.{StoredCommit}
 use Rattle.mvo_tale.specs.Slots.{ends, reading_begin_at, AreRising, closed_up}
+use Rattle.mvo_tale.specs.Next.{AreGroupedTo}
 use Rattle.mvo_tale.specs.WholePlaces.{has_ended, HasWholeTale}
 
 -- the commit of a read-only transaction
@@ -58,6 +59,16 @@ abbrev pub BeginOpensPlace : Type 0
 BeginOpensPlace = (w : WholeState) (slots : List TalePlace) → HasWholeTale w slots
     → HasWholeTale (after_whole_call w BeginReadOnly Accepted)
     (slots ++ Reading (record { 0 = w.core.clock + 1 }) ∷ [])
+
+-- What is grouped up to a place stays so over each call of one.
+abbrev pub ReaderCallsKeepGrouped : Type 0
+ReaderCallsKeepGrouped = (opening : Map) (steps own : List Step) (w : WholeState) (c : Call)
+    (r : Result) (p : ReaderStage) (place from mark : ℕ) (slots : List TalePlace)
+    → IsWholeKept opening steps own w → stage_named w.readers (id_named c) ≡ Some p
+    → MayComeAtStage w c (Some p) r
+    → (has_ended p ≡ false → reading_begin_at slots place ≡ id_named c)
+    → AreGroupedTo slots from mark
+    → AreGroupedTo (places_after_reader w.core c r place slots) from mark
 
 -- Each call of one leaves the places of the state after the call.
 abbrev pub ReaderCallsKeepTale : Type 0

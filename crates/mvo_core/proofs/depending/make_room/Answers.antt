@@ -16,6 +16,7 @@ returns-clause-ok c =
       place = refl;
       checked = refl;
       valid = refl;
+      kind = refl;
     } in
     on_ok (HasRoom c.make_room.new.self)
     (IsWritten c.args.table.now (table_after_write c.args.table.now c.args.tx.id.0 (record node { own = after })) c.args.tx.id.0 HasMadeRoom)
@@ -32,6 +33,7 @@ returns-clause-err c =
       place = refl;
       checked = refl;
       valid = refl;
+      kind = refl;
     } in
     always_err
     (IsWritten c.args.table.now (table_after_write c.args.table.now c.args.tx.id.0 (record node { own = after })) c.args.tx.id.0 HasDoneAsMuch)

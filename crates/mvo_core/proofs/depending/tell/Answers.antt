@@ -15,5 +15,6 @@ returns c =
       place = refl;
       checked = refl;
       valid = refl;
+      kind = refl;
     } in
     written c.args.table.now c.args.tx.id.0 node after (IsTold c.args.op (answer_data c.args.answer)) c.in-Some.ensures.value told

@@ -15,5 +15,6 @@ returns-clause-left c =
       place = refl;
       checked = refl;
       valid = refl;
+      kind = refl;
     } in
     written_changed c.args.table.now c.args.tx.id.0 node after HasHandedOver (sym c.commit-node.ensures.value) handed (Committed c.commit-node.result.0)

@@ -1,8 +1,9 @@
 use Rattle.std.proofs.Common.{sym, subst}
 use Rattle.mvo_txn.specs.Txns.{state_of, IsUnended}
+use Rattle.mvo_core.specs.Readers.{no_readers}
 use Rattle.mvo_core.specs.Data.{CoreData}
 use Rattle.mvo_core.specs.View.{core_data}
-use Rattle.mvo_core.specs.Standing.{StandsFor}
+use Rattle.mvo_core.specs.Standing.{StandsAmong}
 use Rattle.mvo_core.proofs.Undone.{has_open_place, stands_undone, stands_aborted}
 use Rattle.mvo_core.specs.Standing.{words_in}
 use Rattle.mvo_core.proofs.WaitsOn.{aborted_waits}
@@ -13,7 +14,7 @@ leave_tale-requires c =
     let f = c.self.inside in
     let i = c.self.invariant.stands in
     let old : CoreData = core_data f in
-    has_open_place i.opening i.steps i.state old i.stands c.args.tx.id.0
+    has_open_place no_readers i.opening i.steps i.state old i.stands c.args.tx.id.0
 
 pub invariant_of-self : goal.invariant_of-self
 invariant_of-self c =
@@ -29,9 +30,9 @@ invariant_of-self c =
     }
 
 pub returns : goal.returns
-returns c = λ opening steps s h.
+returns c = λ rs opening steps s h.
     let f = c.self.inside in
     let old : CoreData = core_data f in
     let unended : IsUnended (state_of f.table c.args.tx.id.0) = subst (λ (v : CoreData). IsUnended (state_of v.table c.args.tx.id.0)) (sym c.self.view_is) c.requires in
-    stands_undone opening steps s old (subst (StandsFor opening steps s) (sym c.self.view_is) h) c.args.tx.id unended c.abort.new.self c.report_abort.new.table c.abort.ensures c.report_abort.ensures.told c.report_abort.ensures.graph
+    stands_undone rs opening steps s old (subst (StandsAmong rs opening steps s) (sym c.self.view_is) h) c.args.tx.id unended c.abort.new.self c.report_abort.new.table c.abort.ensures c.report_abort.ensures.told c.report_abort.ensures.graph
     c.bring_puts.new.versions c.leave_tale.new.tale c.bring_puts.ensures c.leave_tale.ensures

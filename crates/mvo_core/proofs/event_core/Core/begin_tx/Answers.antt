@@ -3,6 +3,7 @@ use Rattle.mvo_types.specs.declared.refusal.Refusal.TheVariants.{OutOfMemory}
 use Rattle.mvo_tale.specs.declared.tale_place.TalePlace.{TalePlace}
 use Rattle.mvo_txn.specs.Txns.{why_not_begun, IsTableRefusal}
 use Rattle.mvo_theory.specs.Calls.Call.{Begin}
+use Rattle.mvo_core.specs.Readers.{no_readers}
 use Rattle.mvo_core.specs.Data.{CoreData}
 use Rattle.mvo_core.specs.View.{core_data}
 use Rattle.mvo_core.specs.Standing.{Stands, StandsFor}
@@ -14,7 +15,7 @@ use Rattle.mvo_core.proofs.event_core.Core.begin_tx.Goals as goal
 
 pub returns-in-Some-clause-step : goal.returns-in-Some-clause-step
 returns-in-Some-clause-step c = λ opening steps s h.
-    begin_refused opening steps s c.args.self.now h c.in-Some.refusal
+    begin_refused no_readers opening steps s c.args.self.now h c.in-Some.refusal
     (subst (λ o. IsTableRefusal o c.in-Some.refusal) (sym (ap (λ (x : CoreData). why_not_begun x.table) (sym c.self.view_is) ∙ sym c.why_not_begun.ensures ∙ c.in-Some.is)) refl)
 
 pub returns-in_err-work-clause-step : goal.returns-in_err-work-clause-step
@@ -22,7 +23,7 @@ returns-in_err-work-clause-step c = λ opening steps s h.
     let f = c.self.inside in
     let old : CoreData = core_data f in
     subst (λ r. LeadsOn opening steps s Begin r old) (came_spent c.from_residual.result c.from_residual.ensures.1)
-    (begin_refused opening steps s old (subst (StandsFor opening steps s) (sym c.self.view_is) h) OutOfMemory
+    (begin_refused no_readers opening steps s old (subst (StandsFor opening steps s) (sym c.self.view_is) h) OutOfMemory
     (subst (λ o. IsTableRefusal o OutOfMemory) (sym (sym c.why_not_begun.ensures ∙ c.in_default.is)) refl))
 
 pub invariant_of-self-2 : goal.invariant_of-self-2
@@ -33,9 +34,9 @@ invariant_of-self-2 c =
     record {
       stands =
           stands_on i Begin (came c.begin.result) (record old { table = c.begin.new.self })
-          (begin_leads i.opening i.steps i.state old i.stands c.begun.result c.begun.ensures.dependencies
+          (begin_leads no_readers i.opening i.steps i.state old i.stands c.begun.result c.begun.ensures.dependencies
           (ap (λ w. w.history) c.begun.ensures.work ∙ c.give_list.ensures.history ∙ c.in_ok-work.ensures.history)
-          (ap (λ w. w.words) c.begun.ensures.work ∙ c.give_list.ensures.words ∙ c.in_ok-work.ensures.words)
+          (ap (λ w. w.words) c.begun.ensures.work ∙ c.give_list.ensures.words ∙ c.in_ok-work.ensures.words) c.begun.ensures.kind
           c.begin.result c.begin.new.self c.begin.ensures.ok c.begin.ensures.no_cause c.begin.ensures.refused c.begin.ensures.err);
       waiting = begun_waits f.table c.begin.new.self c.begun.result f.versions.slots f.waiting c.begin.result c.begin.ensures.ok c.begin.ensures.err c.self.invariant.waiting;
     }
@@ -46,7 +47,7 @@ returns-clause-step c = λ opening steps s h.
     let old : CoreData = record (core_data f) { tale = c.give_list.new.tale } in
     let g : StandsFor opening steps s (core_data f) = subst (StandsFor opening steps s) (sym c.self.view_is) h in
     let stands : StandsFor opening steps s old = subst (λ (t : List TalePlace). StandsFor opening steps s (record (core_data f) { tale = t })) (sym c.give_list.ensures.tale) g in
-    begin_leads opening steps s old stands c.begun.result c.begun.ensures.dependencies
+    begin_leads no_readers opening steps s old stands c.begun.result c.begun.ensures.dependencies
     (ap (λ w. w.history) c.begun.ensures.work ∙ c.give_list.ensures.history ∙ c.in_ok-work.ensures.history)
-    (ap (λ w. w.words) c.begun.ensures.work ∙ c.give_list.ensures.words ∙ c.in_ok-work.ensures.words)
+    (ap (λ w. w.words) c.begun.ensures.work ∙ c.give_list.ensures.words ∙ c.in_ok-work.ensures.words) c.begun.ensures.kind
     c.begin.result c.begin.new.self c.begin.ensures.ok c.begin.ensures.no_cause c.begin.ensures.refused c.begin.ensures.err

@@ -3,6 +3,7 @@ use Rattle.std.specs.Prelude.{◌==◌}
 use Rattle.rtrb.specs.Ring.{sent, known_free}
 use Rattle.mvo_group.specs.Data.{GroupData, group_of}
 use Rattle.mvo_tale.specs.Forgetting.{forgotten}
+use Rattle.mvo_core.specs.Readers.{no_readers}
 use Rattle.mvo_core.specs.Data.{CoreData}
 use Rattle.mvo_core.specs.View.{core_data}
 use Rattle.mvo_core.specs.Standing.{StandsFor}
@@ -15,7 +16,7 @@ returns-then-eq-clause-step g c = λ opening steps s h.
     let f = c.self.inside in
     let old : CoreData = core_data f in
     let low = c.low_water-low_water.result.0 in (
-      rw (← c.self.view_is) (not_moved opening steps s old (subst (StandsFor opening steps s) (sym c.self.view_is) h) low c.low_water-low_water.ensures (known_free c.args.ring.now == 0) (sym c.eq.ensures ∙ c.if-eq.true)),
+      rw (← c.self.view_is) (not_moved no_readers opening steps s old (subst (StandsFor opening steps s) (sym c.self.view_is) h) low c.low_water-low_water.ensures (known_free c.args.ring.now == 0) (sym c.eq.ensures ∙ c.if-eq.true)),
       (((refl, refl, refl, refl), refl), refl, omega arith),
     )
 
@@ -24,7 +25,7 @@ returns-then-is_full-clause-step g c = λ opening steps s h.
     let f = c.self.inside in
     let old : CoreData = core_data f in
     let low = c.low_water-low_water.result.0 in (
-      rw (← c.self.view_is) (no_slot opening steps s old (subst (StandsFor opening steps s) (sym c.self.view_is) h) low c.low_water-low_water.ensures (known_free c.is_full.new.self == 0) (sym c.eq.ensures ∙ c.if-eq.false) (full_is c.is_full.result (known_free c.is_full.new.self) c.is_full.ensures.value ∙ c.if-is_full.true)),
+      rw (← c.self.view_is) (no_slot no_readers opening steps s old (subst (StandsFor opening steps s) (sym c.self.view_is) h) low c.low_water-low_water.ensures (known_free c.is_full.new.self == 0) (sym c.eq.ensures ∙ c.if-eq.false) (full_is c.is_full.result (known_free c.is_full.new.self) c.is_full.ensures.value ∙ c.if-is_full.true)),
       c.is_full.ensures.looked,
     )
 
@@ -33,7 +34,7 @@ next_records-requires-clause-preparing g c =
     let f = c.self.inside in
     let i = c.self.invariant.stands in
     let old : CoreData = core_data f in
-    ends_above i.opening i.steps i.state old i.stands c.low_water-low_water.result.0 c.low_water-low_water.ensures
+    ends_above no_readers i.opening i.steps i.state old i.stands c.low_water-low_water.result.0 c.low_water-low_water.ensures
 
 pub next_records-requires-clause-above : goal.next_records-requires-clause-above
 next_records-requires-clause-above g c =
@@ -41,14 +42,14 @@ next_records-requires-clause-above g c =
     let i = c.self.invariant.stands in
     let old : CoreData = core_data f in
     let low = c.low_water-low_water.result.0 in
-    above_closed i.opening i.steps i.state old i.stands low c.low_water-low_water.ensures i.closed (sym c.eq.ensures ∙ c.if-eq.false)
+    above_closed no_readers i.opening i.steps i.state old i.stands low c.low_water-low_water.ensures i.closed (sym c.eq.ensures ∙ c.if-eq.false)
 
 pub next_records-requires-clause-drawn : goal.next_records-requires-clause-drawn
 next_records-requires-clause-drawn g c =
     let f = c.self.inside in
     let i = c.self.invariant.stands in
     let old : CoreData = core_data f in
-    let drawn = low_drawn i.opening i.steps i.state old i.stands c.low_water-low_water.result.0 c.low_water-low_water.ensures in
+    let drawn = low_drawn no_readers i.opening i.steps i.state old i.stands c.low_water-low_water.result.0 c.low_water-low_water.ensures in
     let is = i.stands.dependencies.stands.clock in
     let stamped = c.clock.ensures.sound.stamped in
     omega (arith, drawn, is, stamped)
@@ -61,8 +62,8 @@ returns-in_err-next-clause-step g c = λ opening steps s h.
     let full = known_free c.is_full.new.self == 0 in
     let free = full_is c.is_full.result (known_free c.is_full.new.self) c.is_full.ensures.value ∙ c.if-is_full.false in
     subst (λ x. HasClosed opening steps s c.args.ring.now c.from_residual.result x c.is_full.new.self) c.self.view_is
-    (spent_for opening steps s c.args.ring.now c.is_full.new.self old
-    (no_memory opening steps s old (subst (StandsFor opening steps s) (sym c.self.view_is) h) low c.low_water-low_water.ensures full (sym c.eq.ensures ∙ c.if-eq.false) free, c.is_full.ensures.looked)
+    (spent_for no_readers opening steps s c.args.ring.now c.is_full.new.self old
+    (no_memory no_readers opening steps s old (subst (StandsFor opening steps s) (sym c.self.view_is) h) low c.low_water-low_water.ensures full (sym c.eq.ensures ∙ c.if-eq.false) free, c.is_full.ensures.looked)
     c.from_residual.result c.from_residual.ensures.1)
 
 pub invariant_of-self : goal.invariant_of-self
@@ -84,11 +85,11 @@ returns-clause-step g c = λ opening steps s h.
     let stands = subst (StandsFor opening steps s) (sym c.self.view_is) h in
     let now : GroupData = group_of f.closed.0 n.mark.0 n.records.items in
     let is = made c.new.result c.unwrap.result now c.new.ensures c.unwrap.ensures in (
-      closes opening steps s old stands low c.low_water-low_water.ensures (sym c.eq.ensures ∙ c.if-eq.false),
+      closes no_readers opening steps s old stands low c.low_water-low_water.ensures (sym c.eq.ensures ∙ c.if-eq.false),
       (
         now,
         c.push_reserved.ensures.sent.0 ∙ ap (λ xs. xs ++ c.unwrap.result ∷ []) c.is_full.ensures.looked.1 ∙ ap (λ (x : GroupData). sent c.args.ring.now ++ x ∷ []) (sym is.1),
-        closed_now opening steps s old stands low c.low_water-low_water.ensures n c.in_ok-next.ensures.next c.in_ok-next.ensures.rules.above f.closed refl is.0
+        closed_now no_readers opening steps s old stands low c.low_water-low_water.ensures n c.in_ok-next.ensures.next c.in_ok-next.ensures.rules.above f.closed refl is.0
             c.forget.new.self (c.forget.ensures ∙ ap (λ (n : ℕ). forgotten n f.tale) c.lesser.ensures),
       ),
     )

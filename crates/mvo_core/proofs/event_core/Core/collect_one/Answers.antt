@@ -1,6 +1,7 @@
 use Rattle.std.proofs.Common.{sym, subst}
 use Rattle.mvo_collect.specs.Garbage.{horizon}
 use Rattle.mvo_collect.specs.Laws.{IsCountedSo}
+use Rattle.mvo_core.specs.Readers.{no_readers}
 use Rattle.mvo_core.specs.Data.{CoreData}
 use Rattle.mvo_core.specs.View.{core_data}
 use Rattle.mvo_core.specs.Collecting.{ShowsSame}
@@ -18,28 +19,28 @@ invariant_of-self c =
         opening = i.opening;
         steps = i.steps;
         state = i.state;
-        stands = collected_stands i.opening i.steps i.state old i.stands f.waiting c.self.invariant.waiting c.collect_one.result c.collect_one.new.versions c.collect_one.new.waiting c.collect_one.ensures;
+        stands = collected_stands no_readers i.opening i.steps i.state old i.stands f.waiting c.self.invariant.waiting c.collect_one.result c.collect_one.new.versions c.collect_one.new.waiting c.collect_one.ensures;
         closed = i.closed;
       };
-      waiting = collected_waits i.opening i.steps i.state old i.stands f.waiting c.self.invariant.waiting c.collect_one.result c.collect_one.new.versions c.collect_one.new.waiting c.collect_one.ensures;
+      waiting = collected_waits no_readers i.opening i.steps i.state old i.stands f.waiting c.self.invariant.waiting c.collect_one.result c.collect_one.new.versions c.collect_one.new.waiting c.collect_one.ensures;
     }
 
 pub returns-clause-stands : goal.returns-clause-stands
 returns-clause-stands c = λ opening steps s h.
     let f = c.self.inside in
     let old : CoreData = core_data f in
-    collected_stands opening steps s old (subst (StandsFor opening steps s) (sym c.self.view_is) h) f.waiting c.self.invariant.waiting c.collect_one.result c.collect_one.new.versions c.collect_one.new.waiting c.collect_one.ensures
+    collected_stands no_readers opening steps s old (subst (StandsFor opening steps s) (sym c.self.view_is) h) f.waiting c.self.invariant.waiting c.collect_one.result c.collect_one.new.versions c.collect_one.new.waiting c.collect_one.ensures
 
 pub returns-clause-counts : goal.returns-clause-counts
 returns-clause-counts c = λ opening steps s h.
     let f = c.self.inside in
     let old : CoreData = core_data f in
     subst (λ (x : CoreData). IsCountedSo (horizon s) x.versions.slots c.collect_one.new.versions.slots c.collect_one.result) c.self.view_is
-    (collected_counts opening steps s old (subst (StandsFor opening steps s) (sym c.self.view_is) h) f.waiting c.self.invariant.waiting c.collect_one.result c.collect_one.new.versions c.collect_one.new.waiting c.collect_one.ensures)
+    (collected_counts no_readers opening steps s old (subst (StandsFor opening steps s) (sym c.self.view_is) h) f.waiting c.self.invariant.waiting c.collect_one.result c.collect_one.new.versions c.collect_one.new.waiting c.collect_one.ensures)
 
 pub returns-clause-shows : goal.returns-clause-shows
 returns-clause-shows c =
     let f = c.self.inside in
     let old : CoreData = core_data f in
     subst (λ (x : CoreData). ShowsSame x (record old { versions = c.collect_one.new.versions })) c.self.view_is
-    (λ opening steps s h. collected_shows opening steps s old h f.waiting c.self.invariant.waiting c.collect_one.result c.collect_one.new.versions c.collect_one.new.waiting c.collect_one.ensures)
+    (λ opening steps s h. collected_shows no_readers opening steps s old h f.waiting c.self.invariant.waiting c.collect_one.result c.collect_one.new.versions c.collect_one.new.waiting c.collect_one.ensures)

@@ -1,6 +1,7 @@
-use Rattle.std.proofs.Common.{sym, subst}
+use Rattle.std.proofs.Common.{sym, subst, refl}
 use Rattle.mvo_theory.specs.Calls.Call.{Finish}
 use Rattle.mvo_theory.specs.Calls.Result.{Accepted}
+use Rattle.mvo_core.specs.Readers.{no_readers}
 use Rattle.mvo_core.specs.Data.{CoreData}
 use Rattle.mvo_core.specs.View.{core_data}
 use Rattle.mvo_txn.specs.Txns.{state_of}
@@ -15,7 +16,7 @@ final_word-requires c =
     let f = c.self.inside in
     let i = c.self.invariant.stands in
     let old : CoreData = core_data f in
-    drawn_end i.opening i.steps i.state old i.stands c.args.tx.0
+    drawn_end no_readers i.opening i.steps i.state old i.stands c.args.tx.0
 
 pub terminate-node-requires : goal.terminate-node-requires
 terminate-node-requires c =
@@ -31,7 +32,7 @@ invariant_of-self c =
     record {
       stands =
           stands_on i (Finish c.args.tx.0) Accepted (record old { versions = c.replace_next-replaced.new.versions; table = c.replace_next-replaced.new.table })
-          (finish_more i.opening i.steps i.state old i.stands c.args.tx.0 c.in_ok-word.word c.in_ok-word.ensures.ok c.replace_next-replaced.new.versions c.replace_next-replaced.ensures.replaced.between c.replace_next-replaced.new.table
+          (finish_more no_readers i.opening i.steps i.state old i.stands c.args.tx.0 refl c.in_ok-word.word c.in_ok-word.ensures.ok c.replace_next-replaced.new.versions c.replace_next-replaced.ensures.replaced.between c.replace_next-replaced.new.table
           c.replace_next-replaced.ensures.replaced.next c.replace_next-replaced.ensures.replaced.passed c.replace_next-replaced.result.1 c.replace_next-replaced.ensures.next c.if-is_some.ensures).leads;
       waiting = waits_finished f.versions c.replace_next-replaced.new.versions f.table c.replace_next-replaced.ensures.replaced.between c.replace_next-replaced.new.table c.args.tx.0 c.in_ok-word.word c.replace_next-replaced.ensures.replaced.next c.in_ok-word.ensures.ok c.replace_next-replaced.ensures.replaced.passed f.waiting c.count_off.new.waiting c.replace_next-replaced.result.0 c.replace_next-replaced.ensures.first c.count_off.ensures c.self.invariant.waiting;
     }
@@ -40,14 +41,14 @@ pub returns-then-is_some-clause-step : goal.returns-then-is_some-clause-step
 returns-then-is_some-clause-step c = λ opening steps s h.
     let f = c.self.inside in
     let old : CoreData = core_data f in
-    (finish_more opening steps s old (subst (StandsFor opening steps s) (sym c.self.view_is) h) c.args.tx.0 c.in_ok-word.word c.in_ok-word.ensures.ok
+    (finish_more no_readers opening steps s old (subst (StandsFor opening steps s) (sym c.self.view_is) h) c.args.tx.0 refl c.in_ok-word.word c.in_ok-word.ensures.ok
     c.replace_next-replaced.new.versions c.replace_next-replaced.ensures.replaced.between c.replace_next-replaced.new.table c.replace_next-replaced.ensures.replaced.next c.replace_next-replaced.ensures.replaced.passed c.replace_next-replaced.result.1 c.replace_next-replaced.ensures.next c.if-is_some.ensures).leads
 
 pub returns-then-is_some-clause-answer : goal.returns-then-is_some-clause-answer
 returns-then-is_some-clause-answer c = λ opening steps s h.
     let f = c.self.inside in
     let old : CoreData = core_data f in
-    (finish_more opening steps s old (subst (StandsFor opening steps s) (sym c.self.view_is) h) c.args.tx.0 c.in_ok-word.word c.in_ok-word.ensures.ok
+    (finish_more no_readers opening steps s old (subst (StandsFor opening steps s) (sym c.self.view_is) h) c.args.tx.0 refl c.in_ok-word.word c.in_ok-word.ensures.ok
     c.replace_next-replaced.new.versions c.replace_next-replaced.ensures.replaced.between c.replace_next-replaced.new.table c.replace_next-replaced.ensures.replaced.next c.replace_next-replaced.ensures.replaced.passed c.replace_next-replaced.result.1 c.replace_next-replaced.ensures.next c.if-is_some.ensures).answer
 
 -- ---- none is left
@@ -59,7 +60,7 @@ invariant_of-self-2 c =
     record {
       stands =
           stands_on i (Finish c.args.tx.0) Accepted (record old { versions = c.replace_next-replaced.new.versions; table = c.terminate-node.new.self })
-          (finish_done i.opening i.steps i.state old i.stands c.args.tx.0 c.in_ok-word.word c.in_ok-word.ensures.ok c.replace_next-replaced.new.versions c.replace_next-replaced.ensures.replaced.between c.replace_next-replaced.new.table c.terminate-node.new.self
+          (finish_done no_readers i.opening i.steps i.state old i.stands c.args.tx.0 refl c.in_ok-word.word c.in_ok-word.ensures.ok c.replace_next-replaced.new.versions c.replace_next-replaced.ensures.replaced.between c.replace_next-replaced.new.table c.terminate-node.new.self
           c.replace_next-replaced.ensures.replaced.next c.replace_next-replaced.ensures.replaced.passed c.replace_next-replaced.result.1 c.replace_next-replaced.ensures.next c.if-is_some.ensures c.terminate-node.ensures.gone).leads;
       waiting = waits_gone c.replace_next-replaced.new.table c.terminate-node.new.self c.args.tx.0 c.replace_next-replaced.new.versions.slots c.count_off.new.waiting c.terminate-node.ensures.gone (waits_finished f.versions c.replace_next-replaced.new.versions f.table c.replace_next-replaced.ensures.replaced.between c.replace_next-replaced.new.table c.args.tx.0 c.in_ok-word.word c.replace_next-replaced.ensures.replaced.next c.in_ok-word.ensures.ok c.replace_next-replaced.ensures.replaced.passed f.waiting c.count_off.new.waiting c.replace_next-replaced.result.0 c.replace_next-replaced.ensures.first c.count_off.ensures c.self.invariant.waiting);
     }
@@ -68,7 +69,7 @@ pub returns-clause-step : goal.returns-clause-step
 returns-clause-step c = λ opening steps s h.
     let f = c.self.inside in
     let old : CoreData = core_data f in
-    (finish_done opening steps s old (subst (StandsFor opening steps s) (sym c.self.view_is) h) c.args.tx.0 c.in_ok-word.word c.in_ok-word.ensures.ok
+    (finish_done no_readers opening steps s old (subst (StandsFor opening steps s) (sym c.self.view_is) h) c.args.tx.0 refl c.in_ok-word.word c.in_ok-word.ensures.ok
     c.replace_next-replaced.new.versions c.replace_next-replaced.ensures.replaced.between c.replace_next-replaced.new.table c.terminate-node.new.self c.replace_next-replaced.ensures.replaced.next c.replace_next-replaced.ensures.replaced.passed c.replace_next-replaced.result.1 c.replace_next-replaced.ensures.next
     c.if-is_some.ensures c.terminate-node.ensures.gone).leads
 
@@ -76,7 +77,7 @@ pub returns-clause-answer : goal.returns-clause-answer
 returns-clause-answer c = λ opening steps s h.
     let f = c.self.inside in
     let old : CoreData = core_data f in
-    (finish_done opening steps s old (subst (StandsFor opening steps s) (sym c.self.view_is) h) c.args.tx.0 c.in_ok-word.word c.in_ok-word.ensures.ok
+    (finish_done no_readers opening steps s old (subst (StandsFor opening steps s) (sym c.self.view_is) h) c.args.tx.0 refl c.in_ok-word.word c.in_ok-word.ensures.ok
     c.replace_next-replaced.new.versions c.replace_next-replaced.ensures.replaced.between c.replace_next-replaced.new.table c.terminate-node.new.self c.replace_next-replaced.ensures.replaced.next c.replace_next-replaced.ensures.replaced.passed c.replace_next-replaced.result.1 c.replace_next-replaced.ensures.next
     c.if-is_some.ensures c.terminate-node.ensures.gone).answer
 

@@ -1,9 +1,10 @@
-use Rattle.std.proofs.Common.{arith, List, ◌≡◌, ◌<◌, ◌≤◌, ◌+◌, Some, sym, ap, ◌∙◌, subst}
+use Rattle.std.proofs.Common.{arith, List, ◌≡◌, ◌<◌, ◌≤◌, ◌+◌, Some, sym, ap, ◌∙◌, subst, refl}
 use Rattle.mvo_types.specs.declared.limits.TheConstants.{MAX_STAMP}
 use Rattle.mvo_types.specs.declared.ids.Stamp.{Stamp}
 use Rattle.mvo_types.specs.declared.refusal.Refusal.TheVariants.{ClockSpent, OutOfMemory}
 use Rattle.mvo_theory.specs.Calls.Call.{Precommit}
 use Rattle.mvo_theory.specs.Calls.Result.{Refused}
+use Rattle.mvo_core.specs.Readers.{no_readers}
 use Rattle.mvo_core.specs.Data.{CoreData}
 use Rattle.mvo_core.specs.View.{core_data}
 use Rattle.mvo_core.specs.Causes.{why_not_active}
@@ -24,7 +25,7 @@ returns-in-Some-clause-step c = λ opening steps s h.
     let old : CoreData = core_data f in
     let why : why_not_active old.table c.args.tx.0 ≡ Some c.in-Some.refusal = sym c.active-refusal.ensures.refusal ∙ c.in-Some.is in
     subst (λ r. LeadsOn opening steps s (Precommit c.args.tx.0) (Refused r) c.give_up.new.self) (sym c.give_up.ensures.same)
-    (precommit_refused opening steps s c.args.self.now h c.args.tx.0 c.in-Some.refusal c.give_up.new.self
+    (precommit_refused no_readers opening steps s c.args.self.now h c.args.tx.0 c.in-Some.refusal c.give_up.new.self
     (ap (λ (v : CoreData). why_not_active v.table c.args.tx.0) (sym c.self.view_is) ∙ why) c.give_up.ensures.left)
 
 pub returns-then-clock-ge-MAX_STAMP-clause-step : goal.returns-then-clock-ge-MAX_STAMP-clause-step
@@ -33,14 +34,14 @@ returns-then-clock-ge-MAX_STAMP-clause-step c = λ opening steps s h.
     let old : CoreData = core_data f in
     let g : StandsFor opening steps s old = subst (StandsFor opening steps s) (sym c.self.view_is) h in
     subst (LeadsOn opening steps s (Precommit c.args.tx.0) (Refused ClockSpent)) c.self.view_is
-    (clock_spent_leads opening steps s old g c.args.tx (sym c.active-refusal.ensures.refusal ∙ c.in_default.is) (subst (λ n. MAX_STAMP ≤ n) c.clock-clock.ensures.value c.if-clock-ge-MAX_STAMP.true))
+    (clock_spent_leads no_readers opening steps s old g c.args.tx (sym c.active-refusal.ensures.refusal ∙ c.in_default.is) (subst (λ n. MAX_STAMP ≤ n) c.clock-clock.ensures.value c.if-clock-ge-MAX_STAMP.true))
 
 pub open-requires : goal.open-requires
 open-requires c =
     let f = c.self.inside in
     let i = c.self.invariant.stands in
     let old : CoreData = core_data f in
-    ends_below i.opening i.steps i.state old i.stands (c.clock-clock.result.0 + 1) (ap (λ n. n + 1) c.clock-clock.ensures.value)
+    ends_below no_readers i.opening i.steps i.state old i.stands (c.clock-clock.result.0 + 1) (ap (λ n. n + 1) c.clock-clock.ensures.value)
 
 pub returns-in_err-place-clause-step : goal.returns-in_err-place-clause-step
 returns-in_err-place-clause-step c = λ opening steps s h.
@@ -49,14 +50,14 @@ returns-in_err-place-clause-step c = λ opening steps s h.
     let g : StandsFor opening steps s old = subst (StandsFor opening steps s) (sym c.self.view_is) h in
     subst (λ r. LeadsOn opening steps s (Precommit c.args.tx.0) r (record old { tale = c.open.new.self })) (came_spent c.from_residual-in_err-place.result c.from_residual-in_err-place.ensures.1)
     (subst (λ slots. LeadsOn opening steps s (Precommit c.args.tx.0) (Refused OutOfMemory) (record old { tale = slots })) (sym c.in_err-place.ensures.err)
-    (memory_spent_leads opening steps s old g c.args.tx (sym c.active-refusal.ensures.refusal ∙ c.in_default.is) (subst (λ n. n < MAX_STAMP) c.clock-clock.ensures.value c.if-clock-ge-MAX_STAMP.false)))
+    (memory_spent_leads no_readers opening steps s old g c.args.tx (sym c.active-refusal.ensures.refusal ∙ c.in_default.is) (subst (λ n. n < MAX_STAMP) c.clock-clock.ensures.value c.if-clock-ge-MAX_STAMP.false)))
 
 pub prepare-requires : goal.prepare-requires
 prepare-requires c =
     let f = c.self.inside in
     let i = c.self.invariant.stands in
     let old : CoreData = core_data f in
-    was_active i.opening i.steps i.state old i.stands c.args.tx (sym c.active-refusal.ensures.refusal ∙ c.in_default.is)
+    was_active no_readers i.opening i.steps i.state old i.stands c.args.tx (sym c.active-refusal.ensures.refusal ∙ c.in_default.is)
 
 pub invariant_of-self-2 : goal.invariant_of-self-2
 invariant_of-self-2 c =
@@ -69,10 +70,10 @@ invariant_of-self-2 c =
     record {
       stands =
           stands_on i (Precommit c.args.tx.0) (came c.prepare.result) (record old { versions = c.draw_words.new.versions; table = c.prepare.new.table; tale = c.open.new.self })
-          (draw_leads i.opening i.steps i.state old i.stands c.args.tx none c.in_ok-place.place c.in_ok-place.ensures.place
+          (draw_leads no_readers i.opening i.steps i.state old i.stands c.args.tx none c.in_ok-place.place c.in_ok-place.ensures.place
           drawn (ap (λ n. n + 1) c.clock-clock.ensures.value) c.open.new.self c.in_ok-place.ensures.ok c.draw_words.new.versions c.draw_words.ensures.fronts
-          unspent c.prepare.result c.prepare.new.table c.prepare.ensures.ok c.prepare.ensures.refused);
-      waiting = drawn_waits i.opening i.steps i.state old i.stands c.args.tx none c.in_ok-place.place c.in_ok-place.ensures.place drawn (ap (λ n. n + 1) c.clock-clock.ensures.value) c.draw_words.new.versions c.draw_words.ensures.fronts unspent f.waiting c.make_room_for_ended.new.self c.draw_words.new.waiting c.make_room_for_ended.ensures.same c.draw_words.ensures.waits c.self.invariant.waiting c.prepare.result c.prepare.new.table c.prepare.ensures.ok c.prepare.ensures.refused;
+          unspent refl c.prepare.result c.prepare.new.table c.prepare.ensures.ok c.prepare.ensures.refused);
+      waiting = drawn_waits no_readers i.opening i.steps i.state old i.stands c.args.tx none c.in_ok-place.place c.in_ok-place.ensures.place drawn (ap (λ n. n + 1) c.clock-clock.ensures.value) c.draw_words.new.versions c.draw_words.ensures.fronts unspent f.waiting c.make_room_for_ended.new.self c.draw_words.new.waiting c.make_room_for_ended.ensures.same c.draw_words.ensures.waits c.self.invariant.waiting c.prepare.result c.prepare.new.table c.prepare.ensures.ok c.prepare.ensures.refused;
     }
 
 pub returns-clause-step : goal.returns-clause-step
@@ -81,9 +82,9 @@ returns-clause-step c = λ opening steps s h.
     let old : CoreData = core_data f in
     let g : StandsFor opening steps s old = subst (StandsFor opening steps s) (sym c.self.view_is) h in
     let drawn : Stamp = record { 0 = c.clock-clock.result.0 + 1 } in
-    draw_leads opening steps s old g c.args.tx (sym c.active-refusal.ensures.refusal ∙ c.in_default.is) c.in_ok-place.place c.in_ok-place.ensures.place
+    draw_leads no_readers opening steps s old g c.args.tx (sym c.active-refusal.ensures.refusal ∙ c.in_default.is) c.in_ok-place.place c.in_ok-place.ensures.place
     drawn (ap (λ n. n + 1) c.clock-clock.ensures.value) c.open.new.self c.in_ok-place.ensures.ok c.draw_words.new.versions c.draw_words.ensures.fronts
-    (subst (λ n. n < MAX_STAMP) c.clock-clock.ensures.value c.if-clock-ge-MAX_STAMP.false) c.prepare.result c.prepare.new.table c.prepare.ensures.ok c.prepare.ensures.refused
+    (subst (λ n. n < MAX_STAMP) c.clock-clock.ensures.value c.if-clock-ge-MAX_STAMP.false) refl c.prepare.result c.prepare.new.table c.prepare.ensures.ok c.prepare.ensures.refused
 
 pub returns-in_err-make_room_for_ended-clause-step : goal.returns-in_err-make_room_for_ended-clause-step
 returns-in_err-make_room_for_ended-clause-step c = λ opening steps s h.
@@ -91,7 +92,7 @@ returns-in_err-make_room_for_ended-clause-step c = λ opening steps s h.
     let old : CoreData = core_data f in
     let g : StandsFor opening steps s old = subst (StandsFor opening steps s) (sym c.self.view_is) h in
     subst (λ r. LeadsOn opening steps s (Precommit c.args.tx.0) r old) (came_spent c.from_residual.result c.from_residual.ensures.1)
-    (memory_spent_leads opening steps s old g c.args.tx (sym c.active-refusal.ensures.refusal ∙ c.in_default.is) (subst (λ n. n < MAX_STAMP) c.clock-clock.ensures.value c.if-clock-ge-MAX_STAMP.false))
+    (memory_spent_leads no_readers opening steps s old g c.args.tx (sym c.active-refusal.ensures.refusal ∙ c.in_default.is) (subst (λ n. n < MAX_STAMP) c.clock-clock.ensures.value c.if-clock-ge-MAX_STAMP.false))
 
 -- ---- room for what it has ended
 pub invariant_of-self : goal.invariant_of-self

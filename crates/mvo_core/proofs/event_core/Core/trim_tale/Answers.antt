@@ -3,6 +3,7 @@ use Rattle.mvo_theory.specs.Calls.Call.{Trim}
 use Rattle.mvo_theory.specs.Calls.Result.{Accepted, Refused}
 use Rattle.mvo_types.specs.declared.refusal.Refusal.TheVariants.{NothingToDo}
 use Rattle.mvo_tale.specs.Forgetting.{forgotten}
+use Rattle.mvo_core.specs.Readers.{no_readers}
 use Rattle.mvo_core.specs.Data.{CoreData}
 use Rattle.mvo_core.specs.View.{core_data}
 use Rattle.mvo_core.specs.Standing.{StandsFor}
@@ -17,7 +18,7 @@ returns-then-not-is_within-clause-step c = λ opening steps s h.
     let old : CoreData = core_data f in
     let g : StandsFor opening steps s old = subst (StandsFor opening steps s) (sym c.self.view_is) h in
     subst (LeadsOn opening steps s (Trim c.args.upto.0) (Refused NothingToDo)) c.self.view_is
-    (trim_refused opening steps s old g c.args.upto.0 c.oldest_begin-oldest.result.0 c.low_water-low_water.result.0 c.oldest_begin-oldest.ensures c.low_water-low_water.ensures (sym c.is_within.ensures ∙ c.if-not-is_within.true))
+    (trim_refused no_readers opening steps s old g c.args.upto.0 c.oldest_begin-oldest.result.0 c.low_water-low_water.result.0 c.oldest_begin-oldest.ensures c.low_water-low_water.ensures (sym c.is_within.ensures ∙ c.if-not-is_within.true))
 
 pub invariant_of-self : goal.invariant_of-self
 invariant_of-self c =
@@ -27,7 +28,7 @@ invariant_of-self c =
     record {
       stands =
           stands_on i (Trim c.args.upto.0) Accepted (record old { start = c.args.upto.0; tale = c.forget.new.self })
-          (trim_leads i.opening i.steps i.state old i.stands c.args.upto.0 c.oldest_begin-oldest.result.0 c.low_water-low_water.result.0 c.oldest_begin-oldest.ensures c.low_water-low_water.ensures (sym c.is_within.ensures ∙ c.if-not-is_within.false)
+          (trim_leads no_readers i.opening i.steps i.state old i.stands c.args.upto.0 c.oldest_begin-oldest.result.0 c.low_water-low_water.result.0 c.oldest_begin-oldest.ensures c.low_water-low_water.ensures (sym c.is_within.ensures ∙ c.if-not-is_within.false)
           c.forget.new.self (c.forget.ensures ∙ ap (λ (n : ℕ). forgotten n f.tale) c.lesser.ensures));
       waiting = c.self.invariant.waiting;
     }
@@ -37,5 +38,5 @@ returns-clause-step c = λ opening steps s h.
     let f = c.self.inside in
     let old : CoreData = core_data f in
     let g : StandsFor opening steps s old = subst (StandsFor opening steps s) (sym c.self.view_is) h in
-    trim_leads opening steps s old g c.args.upto.0 c.oldest_begin-oldest.result.0 c.low_water-low_water.result.0 c.oldest_begin-oldest.ensures c.low_water-low_water.ensures (sym c.is_within.ensures ∙ c.if-not-is_within.false)
+    trim_leads no_readers opening steps s old g c.args.upto.0 c.oldest_begin-oldest.result.0 c.low_water-low_water.result.0 c.oldest_begin-oldest.ensures c.low_water-low_water.ensures (sym c.is_within.ensures ∙ c.if-not-is_within.false)
     c.forget.new.self (c.forget.ensures ∙ ap (λ (n : ℕ). forgotten n f.tale) c.lesser.ensures)

@@ -1,0 +1,48 @@
+-- What a core stands for with its read-only transactions: a whole state.
+use Rattle.std.specs.Prelude.{◌≡◌, ◌++◌, false, List, None, ⊤}
+use Rattle.mvo_types.specs.Keys.{Map}
+use Rattle.mvo_model.specs.Trace.{Step}
+use Rattle.mvo_theory.specs.Calls.{Call, Result, trace_of}
+use Rattle.mvo_theory.specs.Calls.Call.{Trim}
+use Rattle.mvo_readonly.specs.Whole.{WholeState, id_named, stage_named}
+use Rattle.mvo_readonly.specs.WholeCauses.{WholeCall, MayComeWhole, has_reader_to}
+use Rattle.mvo_readonly.specs.WholeCauses.WholeCall.{CoreCall}
+use Rattle.mvo_readonly.specs.WholeCalls.{core_calls, steps_of_whole_call, after_whole_call}
+use Rattle.mvo_readonly.specs.WholeKept.{IsWholeKept}
+use Rattle.mvo_core.specs.Data.{CoreData}
+use Rattle.mvo_core.specs.Readers.{Readers}
+use Rattle.mvo_core.specs.Standing.{StandsAmong}
+use Rattle.mvo_core.specs.Steps.{LeadsAmong}
+
+abbrev pub readers_of : WholeState → Readers
+readers_of w = record { unfinished = w.readers; committed = w.committed_readers }
+
+-- It stands for the whole state, to which the whole steps since the opening lead, and the core's
+-- own: for the core of the others, with these read-only ones beside them.
+pub record StandsWhole (opening : Map) (steps own : List Step) (w : WholeState)
+    (c : CoreData) : Type 0 where
+  pub core : StandsAmong (readers_of w) opening own w.core c
+  pub kept : IsWholeKept opening steps own w
+
+-- the call may come to this in the whole state, and leads to the named one
+pub record LeadsWhole (opening : Map) (steps own : List Step) (w : WholeState) (a : WholeCall)
+    (r : Result) (new : CoreData) : Type 0 where
+  pub may : MayComeWhole w a r
+  pub stands :
+      StandsWhole opening (steps ++ steps_of_whole_call w a r)
+      (own ++ trace_of w.core (core_calls w a r)) (after_whole_call w a r) new
+
+-- ---- laws
+-- a trim doesn't go up to the begin of one that is unfinished
+abbrev pub IsBelowReaders : WholeState → Call → Type 0
+IsBelowReaders w (Trim m) = has_reader_to m w.readers ≡ false
+IsBelowReaders w call = ⊤
+
+-- What a call of another leads to among the read-only ones it leads to in the whole state: they
+-- stay as they are.
+abbrev pub OthersLeadWhole : Type 0
+OthersLeadWhole = (opening : Map) (steps own : List Step) (w : WholeState) (call : Call)
+    (r : Result) (old new : CoreData) → StandsWhole opening steps own w old
+    → stage_named w.readers (id_named call) ≡ None → IsBelowReaders w call
+    → LeadsAmong (readers_of w) opening own w.core call r new
+    → LeadsWhole opening steps own w (CoreCall call) r new
