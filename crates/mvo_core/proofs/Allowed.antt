@@ -5,7 +5,7 @@ use Rattle.std.proofs.lemmas.Bool.{ltb-false}
 use Rattle.mvo_types.specs.declared.limits.TheConstants.{MAX_TABLE}
 use Rattle.mvo_types.specs.declared.row.RowKey.{RowKey}
 use Rattle.mvo_types.specs.declared.op.Op.TheVariants.{Update, Delete}
-use Rattle.mvo_types.specs.declared.refusal.Refusal.TheVariants.{BadTable, TooManyReads, TooManyWrites}
+use Rattle.mvo_types.specs.declared.refusal.Refusal.TheVariants.{BadTable, TooManyReads, TooManyWrites, ReadOnly}
 use Rattle.mvo_types.specs.AnswerData.{AnswerData}
 use Rattle.mvo_types.specs.AnswerData.AnswerData.{Updated, Deleted}
 use Rattle.mvo_types.specs.RowData.{RowData}
@@ -17,14 +17,14 @@ use Rattle.mvo_deps.specs.declared.node.Node.{Node}
 use Rattle.mvo_work.specs.History.{key_written}
 use Rattle.mvo_work.specs.Limits.{MayFollow}
 use Rattle.mvo_core.specs.declared.kept_transaction.KeptTransaction.{KeptTransaction}
-use Rattle.mvo_core.specs.Causes.{over_writes, is_entry_over, is_write_over, flag_of, why_not_active, why_not_put, why_not_remove}
+use Rattle.mvo_core.specs.Causes.{over_writes, is_entry_over, is_write_over, flag_of, why_not_active, why_not_put, why_not_remove, is_read_only}
 use Rattle.mvo_core.specs.Data.{own_of}
 use Rattle.mvo_core.proofs.Asked.{first_none, rest_none, when_none, row_is_fit, write_is_fit, none_key, some_key}
-use Rattle.mvo_core.proofs.CausesTold.{none_active}
+use Rattle.mvo_core.proofs.CausesTold.{stands_active}
 
 -- one that may be called as an Active one may be aborted
 pub unended_if_active : (table : Txns (Node KeptTransaction)) (t : ℕ) → why_not_active table t ≡ None → IsUnended (state_of table t)
-unended_if_active table t none = subst IsUnended (sym (none_active (state_of table t) (flag_of table t) none)) tt
+unended_if_active table t none = subst IsUnended (sym (stands_active table t none)) tt
 
 -- ---- a removal
 remove_writes : (k : RowKey) (a : AnswerData) (q : RowKey) → key_written (Delete k) a ≡ Some q → k ≡ q
@@ -32,8 +32,11 @@ remove_writes k Deleted q e = some_key k q e
 remove_writes k a q e = absurd (none_key q e)
 
 module _ (table : Txns (Node KeptTransaction)) (t : ℕ) (k : RowKey) (none : why_not_remove table t k ≡ None) where
+  behind_first : first_cause (when (is_read_only (own_of table t)) ReadOnly ∷ when (nat_lt MAX_TABLE k.table) BadTable ∷ when (is_entry_over table t (Key k)) TooManyReads ∷ when (is_write_over table t k) TooManyWrites ∷ []) ≡ None
+  behind_first = rest_none (why_not_active table t) _ none
+
   behind_active : first_cause (when (nat_lt MAX_TABLE k.table) BadTable ∷ when (is_entry_over table t (Key k)) TooManyReads ∷ when (is_write_over table t k) TooManyWrites ∷ []) ≡ None
-  behind_active = rest_none (why_not_active table t) _ none
+  behind_active = rest_none (when (is_read_only (own_of table t)) ReadOnly) _ behind_first
 
   behind_reads : first_cause (when (is_write_over table t k) TooManyWrites ∷ []) ≡ None
   behind_reads = rest_none (when (is_entry_over table t (Key k)) TooManyReads) _ (rest_none (when (nat_lt MAX_TABLE k.table) BadTable) _ behind_active)

@@ -7,7 +7,7 @@ use Rattle.std.proofs.lemmas.Bool.{false≢true, ltb-false}
 use Rattle.mvo_types.specs.declared.ids.TxId.{TxId}
 use Rattle.mvo_types.specs.declared.row.RowKey.{RowKey}
 use Rattle.mvo_types.specs.declared.refusal.Refusal.{Refusal}
-use Rattle.mvo_types.specs.declared.refusal.Refusal.TheVariants.{NoSuchTransaction, Ended, BadTable, DataTooLong, TooManyReads, TooManyWrites}
+use Rattle.mvo_types.specs.declared.refusal.Refusal.TheVariants.{NoSuchTransaction, Ended, BadTable, DataTooLong, TooManyReads, TooManyWrites, ReadOnly}
 use Rattle.mvo_types.specs.RowData.{RowData}
 use Rattle.mvo_types.specs.declared.limits.TheConstants.{MAX_TABLE, MAX_DATA_LEN}
 use Rattle.mvo_types.specs.declared.op.Op.TheVariants.{Insert}
@@ -26,10 +26,11 @@ use Rattle.mvo_txn.specs.declared.state.TxState.TheVariants.{Active, Preparing, 
 use Rattle.mvo_txn.specs.Txns.{Txns, state_of, IsUnended}
 use Rattle.mvo_deps.specs.declared.node.Node.{Node}
 use Rattle.mvo_deps.specs.Graph.{IsUnfinished}
+use Rattle.mvo_core.specs.declared.kept_transaction.TransactionKind.{TransactionKind}
 use Rattle.mvo_core.specs.declared.kept_transaction.KeptTransaction.{KeptTransaction}
-use Rattle.mvo_core.specs.Causes.{over_writes, is_entry_over, is_write_over, flag_of, unless_active_as, why_not_active, why_not_look, why_not_put, why_not_remove}
+use Rattle.mvo_core.specs.Causes.{over_writes, is_entry_over, is_write_over, flag_of, unless_active_as, why_not_active, why_not_look, why_not_put, why_not_remove, is_read_only, kind_kept}
 use Rattle.mvo_core.specs.Data.{own_of}
-use Rattle.mvo_core.proofs.CausesTold.{none_active, some_none}
+use Rattle.mvo_core.proofs.CausesTold.{stands_active, some_none}
 
 -- where no cause of a list stands, none of the first one, and none of the rest
 pub first_none : (a b : Option Refusal) → or_next a b ≡ None → a ≡ None
@@ -55,7 +56,7 @@ module _ (table : Txns (Node KeptTransaction)) (t : ℕ) where
 
   -- something is kept of it
   pub own_if_active : why_not_active table t ≡ None → IsSome (own_of table t)
-  own_if_active none = there_at (get table.seats t) (none_active (state_of table t) (flag_of table t) none)
+  own_if_active none = there_at (get table.seats t) (stands_active table t none)
 
   seat_at : (o : Option (TableSeat (Node KeptTransaction))) → IsSome (option_map (λ n. n.own) (option_map (λ s. s.kept) o)) → is_some o ≡ true
   seat_at None e = e
@@ -78,23 +79,23 @@ some_same r q e = cc
 not_failed : (r q : Refusal) → is_failure r ≡ false → ◌≡◌ {A = Option Refusal} (Some r) (Some q) → is_failure q ≡ true → ⊥
 not_failed r q n e f = false≢true (sym n ∙ ap is_failure (some_same r q e) ∙ f)
 
-failed_at : (o : Option TxState) (flag : Option TxId) (rest : Option Refusal) (r : Refusal) → or_next (unless_active_as o flag) rest ≡ Some r → is_failure r ≡ true → IsUnended o
-failed_at None flag rest r e f = not_failed NoSuchTransaction r refl e f
-failed_at (Some Active) flag rest r e f = tt
-failed_at (Some (Preparing n)) flag rest r e f = tt
-failed_at (Some (Committed n)) flag rest r e f = not_failed Ended r refl e f
-failed_at (Some Aborted) flag rest r e f = not_failed Ended r refl e f
+failed_at : (o : Option TxState) (k : TransactionKind) (flag : Option TxId) (rest : Option Refusal) (r : Refusal) → or_next (unless_active_as o k flag) rest ≡ Some r → is_failure r ≡ true → IsUnended o
+failed_at None k flag rest r e f = not_failed NoSuchTransaction r refl e f
+failed_at (Some Active) k flag rest r e f = tt
+failed_at (Some (Preparing n)) k flag rest r e f = tt
+failed_at (Some (Committed n)) k flag rest r e f = not_failed Ended r refl e f
+failed_at (Some Aborted) k flag rest r e f = not_failed Ended r refl e f
 
 -- it is Active or Preparing, whatever causes come behind those of every call of an Active one
 module _ (table : Txns (Node KeptTransaction)) (t : ℕ) where
   pub may_look_failing : (of : ℕ) (e : Entry) (r : Refusal) → why_not_look table t of e ≡ Some r → is_failure r ≡ true → IsUnended (state_of table t)
-  may_look_failing of e r why f = failed_at (state_of table t) (flag_of table t) _ r why f
+  may_look_failing of e r why f = failed_at (state_of table t) (kind_kept (own_of table t)) (flag_of table t) _ r why f
 
   pub may_put_failing : (row : RowData) (r : Refusal) → why_not_put table t row ≡ Some r → is_failure r ≡ true → IsUnended (state_of table t)
-  may_put_failing row r why f = failed_at (state_of table t) (flag_of table t) _ r why f
+  may_put_failing row r why f = failed_at (state_of table t) (kind_kept (own_of table t)) (flag_of table t) _ r why f
 
   pub may_remove_failing : (k : RowKey) (r : Refusal) → why_not_remove table t k ≡ Some r → is_failure r ≡ true → IsUnended (state_of table t)
-  may_remove_failing k r why f = failed_at (state_of table t) (flag_of table t) _ r why f
+  may_remove_failing k r why f = failed_at (state_of table t) (kind_kept (own_of table t)) (flag_of table t) _ r why f
 
   pub active_if_put : (row : RowData) → why_not_put table t row ≡ None → why_not_active table t ≡ None
   active_if_put row none = first_none _ _ none
@@ -113,8 +114,11 @@ at_most : (m n : ℕ) → nat_lt m n ≡ false → n ≤ m
 at_most m n e = ltb-false m n e
 
 module _ (table : Txns (Node KeptTransaction)) (t : ℕ) (row : RowData) (none : why_not_put table t row ≡ None) where
+  behind_first : first_cause (when (is_read_only (own_of table t)) ReadOnly ∷ when (nat_lt MAX_TABLE row.key.table) BadTable ∷ when (nat_lt MAX_DATA_LEN (length row.bytes)) DataTooLong ∷ when (is_entry_over table t (Key row.key)) TooManyReads ∷ when (is_write_over table t row.key) TooManyWrites ∷ []) ≡ None
+  behind_first = rest_none (why_not_active table t) _ none
+
   behind_active : first_cause (when (nat_lt MAX_TABLE row.key.table) BadTable ∷ when (nat_lt MAX_DATA_LEN (length row.bytes)) DataTooLong ∷ when (is_entry_over table t (Key row.key)) TooManyReads ∷ when (is_write_over table t row.key) TooManyWrites ∷ []) ≡ None
-  behind_active = rest_none (why_not_active table t) _ none
+  behind_active = rest_none (when (is_read_only (own_of table t)) ReadOnly) _ behind_first
 
   behind_table : first_cause (when (nat_lt MAX_DATA_LEN (length row.bytes)) DataTooLong ∷ when (is_entry_over table t (Key row.key)) TooManyReads ∷ when (is_write_over table t row.key) TooManyWrites ∷ []) ≡ None
   behind_table = rest_none (when (nat_lt MAX_TABLE row.key.table) BadTable) _ behind_active

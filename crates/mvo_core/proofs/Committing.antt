@@ -41,6 +41,7 @@ use Rattle.mvo_tale.proofs.ReadingMoves.{reading_elsewhere, reading_not_open}
 use Rattle.mvo_representation.specs.WordLists.{HasWordLists}
 use Rattle.mvo_representation.proofs.Facts.{found_holds}
 use Rattle.mvo_representation.proofs.Unsettled.{alone}
+use Rattle.mvo_readonly.specs.Whole.{stage_of}
 use Rattle.mvo_core.specs.Readers.{Readers, reader_in}
 use Rattle.mvo_core.specs.declared.kept_transaction.KeptTransaction.{KeptTransaction}
 use Rattle.mvo_core.specs.declared.answers.Settlement.TheVariants as settlement
@@ -51,7 +52,7 @@ use Rattle.mvo_core.specs.Causes.{why_not_preparing, flag_of}
 use Rattle.mvo_core.specs.Aborting.{IsGivenUp}
 use Rattle.mvo_core.specs.Keeping.{IsWrittenThen, HasHandedOver}
 use Rattle.mvo_core.specs.Steps.{settled_as, LeadsAmong}
-use Rattle.mvo_core.proofs.EndCauses.{not_settled_is, preparing_unended, or_first, or_last}
+use Rattle.mvo_core.proofs.EndCauses.{not_settled_is, other_prepared, or_first, or_last}
 use Rattle.mvo_core.proofs.EndLaws.{awaited_told, commit_in_table, commit_in_order, commit_in_lists}
 use Rattle.mvo_core.proofs.GivenUp.{settle_given_up}
 use Rattle.mvo_core.proofs.OwnChanged.{IsOwnChanged, own_changed, words_stay}
@@ -71,15 +72,15 @@ apart_by : (a b : ℕ) → (a == b) ≡ false → a ≢ b
 apart_by a b h q = false≢true (sym h ∙ eq-eqb a b q)
 
 -- it is refused before it is looked whether it is validated
-pub settle_refused : (rs : Readers) (opening : Map) (steps : List Step) (s : State) (c : CoreData) → StandsAmong rs opening steps s c → (t : ℕ) (r : Refusal) (new : CoreData) → why_not_preparing c.table t ≡ Some r → IsGivenUp c t r new
+pub settle_refused : (rs : Readers) (opening : Map) (steps : List Step) (s : State) (c : CoreData) → StandsAmong rs opening steps s c → (t : ℕ) → stage_of t rs.unfinished ≡ None → (r : Refusal) (new : CoreData) → why_not_preparing c.table t ≡ Some r → IsGivenUp c t r new
     → LeadsAmong rs opening steps s (Settle t) (Refused r) new
-settle_refused rs opening steps s c h t r new why left = settle_given_up rs opening steps s c new h t r left
-    (sym (not_settled_is rs opening steps s c h t) ∙ or_first (why_not_preparing c.table t) (when (not (was_valid (preparing_of t s.stamped))) NotValidated) r why)
+settle_refused rs opening steps s c h t other r new why left = settle_given_up rs opening steps s c new h t r left
+    (sym (not_settled_is rs opening steps s c h t other) ∙ or_first (why_not_preparing c.table t) (when (not (was_valid (preparing_of t s.stamped))) NotValidated) r why)
 
-module _ (rs : Readers) (opening : Map) (steps : List Step) (s : State) (c : CoreData) (h : StandsAmong rs opening steps s c) (t : TxId) (none : why_not_preparing c.table t.0 ≡ None) where
+module _ (rs : Readers) (opening : Map) (steps : List Step) (s : State) (c : CoreData) (h : StandsAmong rs opening steps s c) (t : TxId) (none : why_not_preparing c.table t.0 ≡ None) (other : stage_of t.0 rs.unfinished ≡ None) where
   -- ---- it is Preparing
   abbrev pub prepared : (e : Stamp) × (state_of c.table t.0 ≡ Some (Preparing e))
-  prepared = preparing_unended (state_of c.table t.0) (flag_of c.table t.0) none
+  prepared = other_prepared rs opening steps s c h t.0 other none
 
   pub found : (x : StampedTx) × (preparing_of t.0 s.stamped ≡ Some x) × (x.end ≡ prepared.0.0)
   found = preparing_there rs opening steps s c h t.0 prepared.0 prepared.1
@@ -92,7 +93,7 @@ module _ (rs : Readers) (opening : Map) (steps : List Step) (s : State) (c : Cor
 
   why : (b : Bool) → is_own_valid (own_of c.table t.0) ≡ b → why_not_settle s t.0 ≡ when (not b) NotValidated
   why b v =
-      sym (not_settled_is rs opening steps s c h t.0)
+      sym (not_settled_is rs opening steps s c h t.0 other)
       ∙ or_last (why_not_preparing c.table t.0) (when (not (was_valid (preparing_of t.0 s.stamped))) NotValidated) none
       ∙ ap (λ (d : Bool). when (not d) NotValidated) (sym valid_is ∙ v)
 

@@ -48,7 +48,7 @@ use Rattle.mvo_core.specs.Fronts.{comes_at_draw, numbers_in, AreInFront}
 use Rattle.mvo_core.specs.Keeping.{IsWritten, IsWrittenThen, IsPlacedInTale, with_own_at}
 use Rattle.mvo_core.specs.Steps.{came, LeadsAmong}
 use Rattle.mvo_core.proofs.SamePlaces.{stands_by_places}
-use Rattle.mvo_core.proofs.CausesTold.{none_active}
+use Rattle.mvo_core.proofs.CausesTold.{stands_active}
 use Rattle.mvo_core.proofs.EndCauses.{not_precommitted_is, or_first, or_last}
 use Rattle.mvo_core.proofs.EndLaws.{precommit_in_table, draw_in_order, precommit_in_lists, lists_are_written, fronts_in_numbers}
 use Rattle.mvo_core.proofs.GivenUp.{precommit_given_up}
@@ -83,10 +83,10 @@ clock_written old new t change w = ap (λ x. x.clock) w.is ∙ go (kept_of old t
     go (Some node) = refl
 
 -- it is refused before the clock is looked at
-pub precommit_refused : (rs : Readers) (opening : Map) (steps : List Step) (s : State) (c : CoreData) → StandsAmong rs opening steps s c → (t : ℕ) (r : Refusal) (new : CoreData) → why_not_active c.table t ≡ Some r → IsGivenUp c t r new
+pub precommit_refused : (rs : Readers) (opening : Map) (steps : List Step) (s : State) (c : CoreData) → StandsAmong rs opening steps s c → (t : ℕ) → stage_of t rs.unfinished ≡ None → (r : Refusal) (new : CoreData) → why_not_active c.table t ≡ Some r → IsGivenUp c t r new
     → LeadsAmong rs opening steps s (Precommit t) (Refused r) new
-precommit_refused rs opening steps s c h t r new why left = precommit_given_up rs opening steps s c new h t r left
-    (sym (not_precommitted_is rs opening steps s c h t) ∙ or_first (why_not_active c.table t) (when (nat_le MAX_STAMP c.table.clock) ClockSpent) r why)
+precommit_refused rs opening steps s c h t other r new why left = precommit_given_up rs opening steps s c new h t r left
+    (sym (not_precommitted_is rs opening steps s c h t other) ∙ or_first (why_not_active c.table t) (when (nat_le MAX_STAMP c.table.clock) ClockSpent) r why)
 
 module _ (rs : Readers) (opening : Map) (steps : List Step) (s : State) (c : CoreData) (h : StandsAmong rs opening steps s c) where
   -- the ends that were drawn are up to the clock
@@ -98,24 +98,24 @@ module _ (rs : Readers) (opening : Map) (steps : List Step) (s : State) (c : Cor
 
   module _ (t : TxId) (none : why_not_active c.table t.0 ≡ None) where
     pub was_active : state_of c.table t.0 ≡ Some Active
-    was_active = none_active (state_of c.table t.0) (flag_of c.table t.0) none
+    was_active = stands_active c.table t.0 none
 
-    why : (b : Bool) → nat_le MAX_STAMP c.table.clock ≡ b → why_not_precommit s t.0 ≡ when b ClockSpent
-    why b e =
-        sym (not_precommitted_is rs opening steps s c h t.0)
+    why : stage_of t.0 rs.unfinished ≡ None → (b : Bool) → nat_le MAX_STAMP c.table.clock ≡ b → why_not_precommit s t.0 ≡ when b ClockSpent
+    why other b e =
+        sym (not_precommitted_is rs opening steps s c h t.0 other)
         ∙ or_last (why_not_active c.table t.0) (when (nat_le MAX_STAMP c.table.clock) ClockSpent) none
         ∙ ap (λ (d : Bool). when d ClockSpent) e
 
     -- ---- the clock is spent, or memory is
-    pub clock_spent_leads : MAX_STAMP ≤ c.table.clock → LeadsAmong rs opening steps s (Precommit t.0) (Refused ClockSpent) c
-    clock_spent_leads le = record {
-      may = subst (λ o. IsRefusal true o ClockSpent) (sym (why true (le-leb MAX_STAMP c.table.clock le))) refl;
+    pub clock_spent_leads : stage_of t.0 rs.unfinished ≡ None → MAX_STAMP ≤ c.table.clock → LeadsAmong rs opening steps s (Precommit t.0) (Refused ClockSpent) c
+    clock_spent_leads other le = record {
+      may = subst (λ o. IsRefusal true o ClockSpent) (sym (why other true (le-leb MAX_STAMP c.table.clock le))) refl;
       stands = subst (λ ys. StandsAmong rs opening ys s c) (sym (append-nil steps)) h;
     }
 
-    pub memory_spent_leads : c.table.clock < MAX_STAMP → LeadsAmong rs opening steps s (Precommit t.0) (Refused OutOfMemory) c
-    memory_spent_leads lt = record {
-      may = subst (λ o. IsRefusal true o OutOfMemory) (sym (why false (over_limit MAX_STAMP c.table.clock lt))) refl;
+    pub memory_spent_leads : stage_of t.0 rs.unfinished ≡ None → c.table.clock < MAX_STAMP → LeadsAmong rs opening steps s (Precommit t.0) (Refused OutOfMemory) c
+    memory_spent_leads other lt = record {
+      may = subst (λ o. IsRefusal true o OutOfMemory) (sym (why other false (over_limit MAX_STAMP c.table.clock lt))) refl;
       stands = subst (λ ys. StandsAmong rs opening ys s c) (sym (append-nil steps)) h;
     }
 
@@ -257,7 +257,7 @@ module _ (rs : Readers) (opening : Map) (steps : List Step) (s : State) (c : Cor
     -- by what the table answers: with the clock below its limit, the end
     module _ (place : ℕ) (last : place ≡ length c.tale) (e : Stamp) (drawn : e.0 ≡ c.table.clock + 1) (tale : List TalePlace) (opened : tale ≡ c.tale ++ Open e ∷ []) (versions : VersionsData) (front : AreInFront (comes_at_draw (state_of c.table) t.0) c.versions versions (words_in c.table t.0)) (lt : c.table.clock < MAX_STAMP) (other : stage_of t.0 rs.unfinished ≡ None) where
       free : why_not_precommit s t.0 ≡ None
-      free = why false (over_limit MAX_STAMP c.table.clock lt)
+      free = why other false (over_limit MAX_STAMP c.table.clock lt)
 
       pub unspent : spent_clock c.table.clock ≡ None
       unspent = ap (λ (b : Bool). cond b (Some ClockSpent) None) (over_limit MAX_STAMP c.table.clock lt)

@@ -24,6 +24,7 @@ use Rattle.mvo_visible.specs.Versions.{versions_at}
 use Rattle.mvo_visible.specs.Shown.{AreVersionsInOrder}
 use Rattle.mvo_versions.specs.Data.{VersionsData, AreIndexed}
 use Rattle.mvo_representation.specs.Dependencies.{AreDependencies}
+use Rattle.mvo_readonly.specs.Whole.{stage_of}
 use Rattle.mvo_core.specs.Readers.{Readers}
 use Rattle.mvo_core.specs.declared.kept_transaction.KeptTransaction.{KeptTransaction}
 use Rattle.mvo_core.specs.Causes.{why_not_put}
@@ -46,14 +47,14 @@ none_shown : (o : Option VersionNo) → is_some o ≡ false → o ≡ None
 none_shown None e = refl
 none_shown (Some n) e = absurd (false≢true (sym e))
 
-module _ (rs : Readers) (opening : Map) (steps : List Step) (s : State) (c : CoreData) (h : StandsAmong rs opening steps s c) (t : TxId) (row : RowData) where
+module _ (rs : Readers) (opening : Map) (steps : List Step) (s : State) (c : CoreData) (h : StandsAmong rs opening steps s c) (t : TxId) (row : RowData) (other : stage_of t.0 rs.unfinished ≡ None) where
   pub insert_refused : (r : Refusal) → why_not_put c.table t.0 row ≡ Some r → (new : CoreData) → StandsAmong rs opening (steps ++ steps_of_refusal t.0 r) (after_refusal s t.0 r) new
       → LeadsAmong rs opening steps s (Do t.0 (Insert row)) (Refused r) new
-  insert_refused r why new stands = refused_leads rs opening steps s t.0 (Insert row) new r (sym (not_inserted_is rs opening steps s c h t.0 row) ∙ why) stands
+  insert_refused r why new stands = refused_leads rs opening steps s t.0 (Insert row) new r (sym (not_inserted_is rs opening steps s c h t.0 other row) ∙ why) stands
 
   module _ (none : why_not_put c.table t.0 row ≡ None) where
     may : why_not_do s t.0 (Insert row) ≡ None
-    may = sym (not_inserted_is rs opening steps s c h t.0 row) ∙ none
+    may = sym (not_inserted_is rs opening steps s c h t.0 other row) ∙ none
 
     here : IsActiveHere s c t.0
     here = active_here rs opening steps s c h t.0 (active_if_put c.table t.0 row none)

@@ -28,6 +28,7 @@ pub mod Rest
 pub mod ReaderTales
 pub mod ReaderStages
 pub mod OthersLead
+pub mod ReadersMoved
 pub mod TaleMoves
 pub mod KeptTale
 pub mod Trimmed

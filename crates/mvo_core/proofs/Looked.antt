@@ -31,7 +31,7 @@ use Rattle.mvo_core.specs.Causes.{why_not_active, flag_of}
 use Rattle.mvo_core.specs.Data.{CoreData, own_of}
 use Rattle.mvo_core.specs.Looking.{row_shown}
 use Rattle.mvo_core.specs.Standing.{IsKeptActive, StandsAmong}
-use Rattle.mvo_core.proofs.CausesTold.{none_active}
+use Rattle.mvo_core.proofs.CausesTold.{stands_active}
 
 -- ---- an Active transaction, in the state and in the table
 pub record IsActiveHere (s : State) (c : CoreData) (t : ℕ) : Type 0 where
@@ -44,7 +44,7 @@ pub record IsActiveHere (s : State) (c : CoreData) (t : ℕ) : Type 0 where
 
 pub active_here : (rs : Readers) (opening : Map) (steps : List Step) (s : State) (c : CoreData) → StandsAmong rs opening steps s c → (t : ℕ) → why_not_active c.table t ≡ None → IsActiveHere s c t
 active_here rs opening steps s c h t none =
-    let was = none_active (state_of c.table t) (flag_of c.table t) none in
+    let was = stands_active c.table t none in
     let found = active_is s t (sym (h.dependencies.stands.phases t) ∙ ap phase_as was) in
     let w = active_holds (IsKeptActive c.table) t s.active found.0 found.1 h.works.active in
     record {

@@ -9,6 +9,7 @@ use Rattle.mvo_tale.specs.Slots.{reading_begin_at}
 use Rattle.mvo_core.specs.declared.kept_transaction.KeptTransaction.{KeptTransaction}
 use Rattle.mvo_core.specs.declared.kept_transaction.TransactionKind.{TransactionKind}
 use Rattle.mvo_core.specs.declared.kept_transaction.TransactionKind.TheVariants.{Other, Reading, Preparing, Committed, Aborted}
+use Rattle.mvo_core.specs.Causes.{is_read_only_kind, is_read_only, kind_kept}
 use Rattle.mvo_core.specs.Data.{own_of}
 use Rattle.mvo_core.specs.Readers.{KeptReader, reader_by, reader_in, HasStage, HaveStages}
 
@@ -63,6 +64,28 @@ still_none Aborted place checked valid p c v e = absurd (some_none _ e)
 -- one that isn't read-only stays so
 pub other_reader : (x y : KeptTransaction) → y.kind ≡ x.kind → reader_in (Some x) ≡ None → reader_in (Some y) ≡ reader_in (Some x)
 other_reader x y kind none = ap (λ k. reader_by k y.place y.checked y.valid) kind ∙ still_none x.kind x.place x.checked x.valid y.place y.checked y.valid none ∙ sym none
+
+read_only_at : (k : TransactionKind) (place checked : ℕ) (valid : Bool) → reader_by k place checked valid ≡ None → is_read_only_kind k ≡ false
+read_only_at Other place checked valid e = refl
+read_only_at Reading place checked valid e = absurd (some_none _ e)
+read_only_at Preparing place checked valid e = absurd (some_none _ e)
+read_only_at Committed place checked valid e = absurd (some_none _ e)
+read_only_at Aborted place checked valid e = absurd (some_none _ e)
+
+pub not_read_only : (o : Option KeptTransaction) → reader_in o ≡ None → is_read_only o ≡ false
+not_read_only None e = refl
+not_read_only (Some own) e = read_only_at own.kind own.place own.checked own.valid e
+
+kind_at_none : (k : TransactionKind) (place checked : ℕ) (valid : Bool) → reader_by k place checked valid ≡ None → k ≡ Other
+kind_at_none Other place checked valid e = refl
+kind_at_none Reading place checked valid e = absurd (some_none _ e)
+kind_at_none Preparing place checked valid e = absurd (some_none _ e)
+kind_at_none Committed place checked valid e = absurd (some_none _ e)
+kind_at_none Aborted place checked valid e = absurd (some_none _ e)
+
+pub none_kind : (o : Option KeptTransaction) → reader_in o ≡ None → kind_kept o ≡ Other
+none_kind None e = refl
+none_kind (Some own) e = kind_at_none own.kind own.place own.checked own.valid e
 
 -- ---- one changes
 pub readers_but : (old new : Txns (Node KeptTransaction)) (t : ℕ) → ((u : ℕ) → u ≢ t → own_of new u ≡ own_of old u) → reader_in (own_of new t) ≡ reader_in (own_of old t) → AreSameReaders old new

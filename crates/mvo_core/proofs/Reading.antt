@@ -22,6 +22,7 @@ use Rattle.mvo_deps.specs.declared.node.Node.{Node}
 use Rattle.mvo_visible.specs.declared.outcome.Shown.{Shown}
 use Rattle.mvo_visible.specs.Versions.{versions_at}
 use Rattle.mvo_visible.specs.Shown.{AreVersionsInOrder}
+use Rattle.mvo_readonly.specs.Whole.{stage_of}
 use Rattle.mvo_core.specs.Readers.{Readers}
 use Rattle.mvo_core.specs.declared.kept_transaction.KeptTransaction.{KeptTransaction}
 use Rattle.mvo_core.specs.Causes.{why_not_look}
@@ -34,18 +35,18 @@ use Rattle.mvo_representation.specs.Dependencies.{AreDependencies}
 use Rattle.mvo_core.proofs.Answered.{recorded_leads}
 use Rattle.mvo_core.proofs.Asked.{active_if_looked}
 use Rattle.mvo_core.proofs.Carried.{stands_as_much}
-use Rattle.mvo_core.proofs.CausesTold.{not_read_is}
+use Rattle.mvo_core.proofs.CausesTold.{not_read_is, MayLook}
 use Rattle.mvo_core.proofs.Looked.{IsActiveHere, active_here, shown_in, versions_in_order, row_is, names_just}
 use Rattle.mvo_core.proofs.Refused.{refused_leads, spent_leads}
 
-module _ (rs : Readers) (opening : Map) (steps : List Step) (s : State) (c : CoreData) (h : StandsAmong rs opening steps s c) (t : TxId) (k : RowKey) where
+module _ (rs : Readers) (opening : Map) (steps : List Step) (s : State) (c : CoreData) (h : StandsAmong rs opening steps s c) (t : TxId) (k : RowKey) (looks : MayLook (stage_of t.0 rs.unfinished)) where
   pub read_refused : (r : Refusal) → why_not_look c.table t.0 k.table (Key k) ≡ Some r → (new : CoreData) → StandsAmong rs opening (steps ++ steps_of_refusal t.0 r) (after_refusal s t.0 r) new
       → LeadsAmong rs opening steps s (Do t.0 (Read k)) (Refused r) new
-  read_refused r why new stands = refused_leads rs opening steps s t.0 (Read k) new r (sym (not_read_is rs opening steps s c h t.0 k) ∙ why) stands
+  read_refused r why new stands = refused_leads rs opening steps s t.0 (Read k) new r (sym (not_read_is rs opening steps s c h t.0 looks k) ∙ why) stands
 
   module _ (none : why_not_look c.table t.0 k.table (Key k) ≡ None) where
     may : why_not_do s t.0 (Read k) ≡ None
-    may = sym (not_read_is rs opening steps s c h t.0 k) ∙ none
+    may = sym (not_read_is rs opening steps s c h t.0 looks k) ∙ none
 
     here : IsActiveHere s c t.0
     here = active_here rs opening steps s c h t.0 (active_if_looked c.table t.0 k.table (Key k) none)

@@ -14,6 +14,8 @@ use Rattle.mvo_types.specs.declared.entry.Entry.TheVariants.{Range}
 use Rattle.mvo_theory.specs.State.{State, snapshot}
 use Rattle.mvo_txn.specs.Txns.{Txns, state_of}
 use Rattle.mvo_deps.specs.declared.node.Node.{Node}
+use Rattle.mvo_readonly.specs.Whole.{stage_of}
+use Rattle.mvo_core.proofs.CausesTold.{MayLook}
 use Rattle.mvo_core.specs.Readers.{Readers}
 use Rattle.mvo_core.specs.declared.kept_transaction.KeptTransaction.{KeptTransaction}
 use Rattle.mvo_core.specs.Causes.{why_not_look}
@@ -29,7 +31,7 @@ use Rattle.mvo_core.proofs.ScanDepends.{scan_seen, scan_depends}
 use Rattle.mvo_core.proofs.ScanRefused.{may_scan}
 use Rattle.mvo_core.proofs.ScanSame.{rows_are_scan}
 
-module _ (rs : Readers) (opening : Map) (steps : List Step) (s : State) (c : CoreData) (h : StandsAmong rs opening steps s c) (t : TxId) (of lo hi : ℕ) (none : why_not_look c.table t.0 of (Range of lo hi) ≡ None) where
+module _ (rs : Readers) (opening : Map) (steps : List Step) (s : State) (c : CoreData) (h : StandsAmong rs opening steps s c) (t : TxId) (of lo hi : ℕ) (none : why_not_look c.table t.0 of (Range of lo hi) ≡ None) (looks : MayLook (stage_of t.0 rs.unfinished)) where
   here : IsActiveHere s c t.0
   here = active_here rs opening steps s c h t.0 (active_if_looked c.table t.0 of (Range of lo hi) none)
 
@@ -47,6 +49,6 @@ module _ (rs : Readers) (opening : Map) (steps : List Step) (s : State) (c : Cor
     pub scan_leads : (told : List RowData) → told ≡ rows → (ids : List TxId) → ids ≡ on → (table : Txns (Node KeptTransaction)) → IsRecorded c.table table t ids (Scan of lo hi) (Rows told)
         → LeadsAmong rs opening steps s (Do t.0 (Scan of lo hi)) Accepted (record c { table = table })
     scan_leads told same ids all table k =
-        recorded_leads rs opening steps s c h t here.tx here.found (Scan of lo hi) (Rows told) (may_scan rs opening steps s c h t of lo hi none) (ap Rows (same ∙ rows_there)) refl on
+        recorded_leads rs opening steps s c h t here.tx here.found (Scan of lo hi) (Rows told) (may_scan rs opening steps s c h t of lo hi looks none) (ap Rows (same ∙ rows_there)) refl on
         (scan_depends rs opening steps s c h t.0 of lo hi rows on here.tx here.found seen) table
         (subst (λ (xs : List TxId). IsRecorded c.table table t xs (Scan of lo hi) (Rows told)) all k)

@@ -33,6 +33,7 @@ use Rattle.mvo_representation.specs.Dependencies.{AreDependencies, tx_id}
 use Rattle.mvo_representation.specs.Steps.{ended_by}
 use Rattle.mvo_versions.specs.Data.{VersionsData}
 use Rattle.mvo_versions.specs.Changes.{IsPut, IsReworded}
+use Rattle.mvo_readonly.specs.Whole.{stage_of}
 use Rattle.mvo_core.specs.Readers.{Readers}
 use Rattle.mvo_core.specs.declared.kept_transaction.KeptTransaction.{KeptTransaction}
 use Rattle.mvo_core.specs.Causes.{why_not_put}
@@ -53,11 +54,11 @@ use Rattle.mvo_core.proofs.Refused.{refused_leads, spent_leads}
 use Rattle.mvo_core.proofs.Removed.{updated}
 use Rattle.mvo_core.proofs.SameVersions.{stands_same_versions}
 
-module _ (rs : Readers) (opening : Map) (steps : List Step) (s : State) (c : CoreData) (h : StandsAmong rs opening steps s c) (t : TxId) (row : RowData) where
+module _ (rs : Readers) (opening : Map) (steps : List Step) (s : State) (c : CoreData) (h : StandsAmong rs opening steps s c) (t : TxId) (row : RowData) (other : stage_of t.0 rs.unfinished ≡ None) where
   pub update_refused : (r : Refusal) → why_not_put c.table t.0 row ≡ Some r → (new : CoreData) → StandsAmong rs opening (steps ++ steps_of_refusal t.0 r) (after_refusal s t.0 r) new
       → LeadsAmong rs opening steps s (Do t.0 (Update row)) (Refused r) new
   update_refused r why new stands = refused_leads rs opening steps s t.0 (Update row) new r
-      (sym (not_updated_is rs opening steps s c h t.0 row) ∙ ap (λ o. or_next o (conflicts (conflict s t.0 row.key))) why) stands
+      (sym (not_updated_is rs opening steps s c h t.0 other row) ∙ ap (λ o. or_next o (conflicts (conflict s t.0 row.key))) why) stands
 
   module _ (none : why_not_put c.table t.0 row ≡ None) where
     here : IsActiveHere s c t.0
@@ -70,7 +71,7 @@ module _ (rs : Readers) (opening : Map) (steps : List Step) (s : State) (c : Cor
     mine = ap (λ (n : ℕ). active_of n s.active) id ∙ here.found
 
     behind : why_not_do s t.0 (Update row) ≡ conflicts (conflict s t.0 row.key)
-    behind = sym (not_updated_is rs opening steps s c h t.0 row) ∙ ap (λ o. or_next o (conflicts (conflict s t.0 row.key))) none
+    behind = sym (not_updated_is rs opening steps s c h t.0 other row) ∙ ap (λ o. or_next o (conflicts (conflict s t.0 row.key))) none
 
     module _ (found : Shown) (is : AreVersionsInOrder (state_of c.table) t.0 t.0 (versions_at c.versions.slots c.versions.lists row.key) → found ≡ shown_in c t.0 row.key) where
       shown : found ≡ shown_in c t.0 row.key

@@ -40,7 +40,7 @@ use Rattle.mvo_core.specs.Checking.{change_between, change_for}
 use Rattle.mvo_core.specs.Aborting.{IsGivenUp}
 use Rattle.mvo_core.specs.Keeping.{IsWritten, IsCounted}
 use Rattle.mvo_core.specs.Steps.{LeadsAmong}
-use Rattle.mvo_core.proofs.EndCauses.{not_validated_is, preparing_unended, or_first, or_last}
+use Rattle.mvo_core.proofs.EndCauses.{not_validated_is, other_prepared, or_first, or_last}
 use Rattle.mvo_core.proofs.EndLaws.{change_named, stamps_fall, check_in_table, check_in_lists}
 use Rattle.mvo_core.proofs.GivenUp.{validate_given_up}
 use Rattle.mvo_core.proofs.OwnChanged.{IsOwnChanged, own_changed, words_stay, others_changed}
@@ -55,10 +55,10 @@ failed_by None = refl
 failed_by (Some stamp) = refl
 
 -- it is refused before it is looked whether the entry differs
-pub validate_refused : (rs : Readers) (opening : Map) (steps : List Step) (s : State) (c : CoreData) → StandsAmong rs opening steps s c → (t : ℕ) (r : Refusal) (new : CoreData) → why_not_preparing c.table t ≡ Some r → IsGivenUp c t r new
+pub validate_refused : (rs : Readers) (opening : Map) (steps : List Step) (s : State) (c : CoreData) → StandsAmong rs opening steps s c → (t : ℕ) → stage_of t rs.unfinished ≡ None → (r : Refusal) (new : CoreData) → why_not_preparing c.table t ≡ Some r → IsGivenUp c t r new
     → LeadsAmong rs opening steps s (Validate t) (Refused r) new
-validate_refused rs opening steps s c h t r new why left = validate_given_up rs opening steps s c new h t r left
-    (sym (not_validated_is rs opening steps s c h t) ∙ or_first (why_not_preparing c.table t) (next_differs s.stamped (preparing_of t s.stamped)) r why)
+validate_refused rs opening steps s c h t other r new why left = validate_given_up rs opening steps s c new h t r left
+    (sym (not_validated_is rs opening steps s c h t other) ∙ or_first (why_not_preparing c.table t) (next_differs s.stamped (preparing_of t s.stamped)) r why)
 
 module _ (rs : Readers) (opening : Map) (steps : List Step) (s : State) (c : CoreData) (h : StandsAmong rs opening steps s c) where
   -- the stamps of the versions of each key fall
@@ -95,9 +95,9 @@ module _ (rs : Readers) (opening : Map) (steps : List Step) (s : State) (c : Cor
         ∙ ap (entry_differs s.stamped x) next_entry
         ∙ sym (ap (next_differs s.stamped) found ∙ ap (λ (b : Bool). cond b None (entry_differs s.stamped x (slice_get (entries x.history) x.checked))) unvalid)
 
-  module _ (t : ℕ) (none : why_not_preparing c.table t ≡ None) where
+  module _ (t : ℕ) (none : why_not_preparing c.table t ≡ None) (other : stage_of t rs.unfinished ≡ None) where
     abbrev prepared : (e : Stamp) × (state_of c.table t ≡ Some (Preparing e))
-    prepared = preparing_unended (state_of c.table t) (flag_of c.table t) none
+    prepared = other_prepared rs opening steps s c h t other none
 
     abbrev found : (x : StampedTx) × (preparing_of t s.stamped ≡ Some x) × (x.end ≡ prepared.0.0)
     found = preparing_there rs opening steps s c h t prepared.0 prepared.1
@@ -112,7 +112,7 @@ module _ (rs : Readers) (opening : Map) (steps : List Step) (s : State) (c : Cor
     valid_is = ap is_own_valid kept.kept ∙ ap (λ own. own.valid) (sym kept.own_is) ∙ kept.same.valid
 
     why : (o : Option Refusal) → next_differs s.stamped (preparing_of t s.stamped) ≡ o → why_not_validate s t ≡ o
-    why o e = sym (not_validated_is rs opening steps s c h t) ∙ or_last (why_not_preparing c.table t) (next_differs s.stamped (preparing_of t s.stamped)) none ∙ e
+    why o e = sym (not_validated_is rs opening steps s c h t other) ∙ or_last (why_not_preparing c.table t) (next_differs s.stamped (preparing_of t s.stamped)) none ∙ e
 
     pub own_there : IsSome (own_of c.table t)
     own_there = ap is_some kept.kept
@@ -177,7 +177,7 @@ module _ (rs : Readers) (opening : Map) (steps : List Step) (s : State) (c : Cor
           ∙ ap checked_as (last_is kept.own kept.kept)
           ∙ sym (ap (λ (b : Bool). cond b validation.Valid validation.More) (ap is_valid_at found.1 ∙ ap (λ (b : Bool). b || last) x_unvalid))
 
-      module _ (table : Txns (Node KeptTransaction)) (counted : IsWritten c.table table t IsCounted) (other : stage_of t rs.unfinished ≡ None) where
+      module _ (table : Txns (Node KeptTransaction)) (counted : IsWritten c.table table t IsCounted) where
         change : IsOwnChanged c.table table t IsCounted
         change = own_changed c.table table t IsCounted counted
 

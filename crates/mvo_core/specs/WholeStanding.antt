@@ -1,7 +1,9 @@
 -- What a core stands for with its read-only transactions: a whole state.
-use Rattle.std.specs.Prelude.{◌≡◌, ◌++◌, false, List, None, ⊤}
+use Rattle.std.specs.Prelude.{ℕ, ◌≡◌, ◌≢◌, ◌++◌, false, List, None, Some, ⊤}
+use Rattle.std.specs.List.{AllByRecursion}
 use Rattle.mvo_types.specs.Keys.{Map}
 use Rattle.mvo_model.specs.Trace.{Step}
+use Rattle.mvo_theory.specs.State.{State}
 use Rattle.mvo_theory.specs.Calls.{Call, Result, trace_of}
 use Rattle.mvo_theory.specs.Calls.Call.{Trim}
 use Rattle.mvo_readonly.specs.Whole.{WholeState, id_named, stage_named}
@@ -9,8 +11,17 @@ use Rattle.mvo_readonly.specs.WholeCauses.{WholeCall, MayComeWhole, has_reader_t
 use Rattle.mvo_readonly.specs.WholeCauses.WholeCall.{CoreCall}
 use Rattle.mvo_readonly.specs.WholeCalls.{core_calls, steps_of_whole_call, after_whole_call}
 use Rattle.mvo_readonly.specs.WholeKept.{IsWholeKept}
+use Rattle.mvo_txn.specs.Txns.{Txns}
+use Rattle.mvo_deps.specs.declared.node.Node.{Node}
+use Rattle.mvo_tale.specs.declared.tale_place.TalePlace.{TalePlace}
+use Rattle.mvo_tale.specs.Kept.{HasTale}
+use Rattle.mvo_tale.specs.Next.{AreGroupedTo}
+use Rattle.mvo_tale.specs.Others.{others_places}
+use Rattle.mvo_tale.specs.Slots.{open_end_at}
+use Rattle.mvo_core.specs.declared.kept_transaction.KeptTransaction.{KeptTransaction}
 use Rattle.mvo_core.specs.Data.{CoreData}
-use Rattle.mvo_core.specs.Readers.{Readers}
+use Rattle.mvo_core.specs.Keeping.{IsWritten}
+use Rattle.mvo_core.specs.Readers.{Readers, HaveStages, HasTalePlaces}
 use Rattle.mvo_core.specs.Standing.{StandsAmong}
 use Rattle.mvo_core.specs.Steps.{LeadsAmong}
 
@@ -33,6 +44,25 @@ pub record LeadsWhole (opening : Map) (steps own : List Step) (w : WholeState) (
       (own ++ trace_of w.core (core_calls w a r)) (after_whole_call w a r) new
 
 -- ---- laws
+-- its operations and its words stay, whatever else is kept of it
+pub record HasSameWork (old new : KeptTransaction) : Type 0 where
+  pub history : new.work.history ≡ old.work.history
+  pub words : new.work.words ≡ old.work.words
+
+-- Where what is kept of one that isn't Preparing for the core, its place in the tale, and the
+-- read-only ones change, and the places of the others stay, the core stands for the same state
+-- among these.
+abbrev pub ReadersMove : Type 0
+ReadersMove = (before after : Readers) (opening : Map) (steps : List Step) (s : State)
+    (c : CoreData) (t : ℕ) (table : Txns (Node KeptTransaction)) (tale : List TalePlace)
+    → StandsAmong before opening steps s c
+    → AllByRecursion (λ x. x.settled ≡ false → x.id ≢ t) s.stamped
+    → IsWritten c.table table t HasSameWork
+    → ((q d : ℕ) → open_end_at c.tale q ≡ Some d → open_end_at tale q ≡ Some d)
+    → HasTale s (others_places tale) → HasTalePlaces after s.start s.clock tale
+    → HaveStages after.unfinished table tale → AreGroupedTo tale c.grouped c.closed
+    → StandsAmong after opening steps s (record c { table = table; tale = tale })
+
 -- a trim doesn't go up to the begin of one that is unfinished
 abbrev pub IsBelowReaders : WholeState → Call → Type 0
 IsBelowReaders w (Trim m) = has_reader_to m w.readers ≡ false

@@ -5,10 +5,11 @@ ghost use Rattle.mvo_core.specs.Causes.{why_not_active, why_not_look};
 ghost use Rattle.mvo_core.specs.Causes.{why_not_put, why_not_remove, why_not_undo};
 ghost use Rattle.mvo_core.specs.Causes.{why_not_write, flag_refusal};
 ghost use Rattle.mvo_core.specs.Causes.{unless_active_as, unless_preparing_as};
+ghost use Rattle.mvo_core.specs.Causes.{unless_reads, unless_checks, is_read_only_kind};
 ghost use Rattle.mvo_core.specs.Standing.{words_in};
 ghost use Rattle.mvo_txn.specs.Txns.{state_of};
 
-use crate::kept_transaction::{KeptTransaction, Table};
+use crate::kept_transaction::{KeptTransaction, Table, TransactionKind};
 use mvo_deps::{Dependencies, Node};
 use mvo_txn::{Located, TableSeat, TxState};
 use mvo_types::{Entry, MAX_DATA_LEN, MAX_TABLE, Refusal, Row, RowKey};
@@ -24,13 +25,24 @@ fn flagged(dependencies: &Dependencies) -> Option<Refusal>
     }
 }
 
+/// Why one that is Active for the table may not be called as an Active one: a read-only one may be
+/// Preparing.
+fn not_reading(node: &Node<KeptTransaction>) -> Option<Refusal>
+    ensures { result ≡ unless_reads node.now.own.kind node.now.dependencies.aborted }
+{
+    match node.own.kind {
+        TransactionKind::Preparing => Some(Refusal::NotActive),
+        _ => flagged(&node.dependencies),
+    }
+}
+
 /// Why one that is unfinished may not be called as an Active one.
 fn not_active_in(seat: &TableSeat<Node<KeptTransaction>>) -> Option<Refusal>
-    ensures { result ≡
-        unless_active_as (Some seat.now.state) seat.now.kept.dependencies.aborted }
+    ensures { result ≡ unless_active_as (Some seat.now.state) seat.now.kept.own.kind
+        seat.now.kept.dependencies.aborted }
 {
     match seat.state {
-        TxState::Active => flagged(&seat.kept.dependencies),
+        TxState::Active => not_reading(&seat.kept),
         TxState::Preparing(_) => Some(Refusal::NotActive),
         TxState::Committed(_) => Some(Refusal::Ended),
         TxState::Aborted => Some(Refusal::Ended),
@@ -48,13 +60,24 @@ pub fn active(table: &Table, tx: Located) -> (Option<Refusal>, usize)
     }
 }
 
+/// Why one that is Active for the table may not be called as a Preparing one, which a read-only one
+/// may be.
+fn not_prepared(node: &Node<KeptTransaction>) -> Option<Refusal>
+    ensures { result ≡ unless_checks node.now.own.kind node.now.dependencies.aborted }
+{
+    match node.own.kind {
+        TransactionKind::Preparing => flagged(&node.dependencies),
+        _ => Some(Refusal::NotPreparing),
+    }
+}
+
 /// Why one that is unfinished may not be called as a Preparing one.
 pub fn not_preparing_in(seat: &TableSeat<Node<KeptTransaction>>) -> Option<Refusal>
-    ensures { result ≡
-        unless_preparing_as (Some seat.now.state) seat.now.kept.dependencies.aborted }
+    ensures { result ≡ unless_preparing_as (Some seat.now.state) seat.now.kept.own.kind
+        seat.now.kept.dependencies.aborted }
 {
     match seat.state {
-        TxState::Active => Some(Refusal::NotPreparing),
+        TxState::Active => not_prepared(&seat.kept),
         TxState::Preparing(_) => flagged(&seat.kept.dependencies),
         TxState::Committed(_) => Some(Refusal::Ended),
         TxState::Aborted => Some(Refusal::Ended),
@@ -96,6 +119,16 @@ pub fn not_looked(table: &Table, tx: Located, of: u8, entry: Entry) -> Option<Re
     None
 }
 
+/// Whether one of this kind is read-only.
+pub fn is_read_only(kind: TransactionKind) -> bool
+    ensures { result ≡ is_read_only_kind kind }
+{
+    match kind {
+        TransactionKind::Other => false,
+        _ => true,
+    }
+}
+
 /// Why one that has done this work may not look at the key and write it.
 #[inline(always)]
 fn not_written(work: &Work, key: RowKey) -> Option<Refusal>
@@ -121,6 +154,9 @@ pub fn not_put(table: &Table, tx: Located, row: &Row) -> Option<Refusal>
         return Some(refusal);
     }
     let key = row.row_key();
+    if is_read_only(seat.kept.own.kind) {
+        return Some(Refusal::ReadOnly);
+    }
     if key.table > MAX_TABLE {
         return Some(Refusal::BadTable);
     }
@@ -140,10 +176,14 @@ pub fn not_removed(table: &Table, tx: Located, key: RowKey) -> Option<Refusal>
     if let Some(refusal) = not_active_in(seat) {
         return Some(refusal);
     }
+    let own = &seat.kept.own;
+    if is_read_only(own.kind) {
+        return Some(Refusal::ReadOnly);
+    }
     if key.table > MAX_TABLE {
         return Some(Refusal::BadTable);
     }
-    not_written(&seat.kept.own.work, key)
+    not_written(&own.work, key)
 }
 
 /// Whether the transaction is Aborted by the refusal.

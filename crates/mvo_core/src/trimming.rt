@@ -1,10 +1,15 @@
 //! The tale: what is stored of the commits, and where it starts.
 ghost use Rattle.std.specs.Prelude.{◌≡◌, min};
+ghost use Rattle.mvo_core.specs.Causes.{is_read_only};
+ghost use Rattle.mvo_core.specs.Data.{own_of};
 ghost use Rattle.mvo_core.specs.Trimming.{may_trim_to};
 
 use crate::event_core::Core;
+use crate::kept_transaction::Table;
+use crate::refusing::is_read_only;
 use mvo_tale::Tale;
-use mvo_types::{Refusal, Stamp};
+use mvo_txn::Located;
+use mvo_types::{Refusal, Stamp, TxId};
 
 impl Core {
     ghost use Rattle.std.specs.Prelude.{◌≡◌, IfOk, IfErr};
@@ -34,7 +39,8 @@ impl Core {
     /// Makes the stamp the start of the tale, and forgets the commits that are trimmed and in a
     /// closed group. Of those in no group yet the stored rows stay for theirs. It takes no memory,
     /// and time by how many commits go, each of which goes once. Refused with NothingToDo alone:
-    /// where the stamp isn't above the start, or is above the oldest begin or the low-water.
+    /// where the stamp isn't above the start, is above the oldest begin or the low-water, or is the
+    /// begin of a read-only transaction that isn't finished.
     pub fn trim_tale(&mut self, upto: Stamp) -> Result<(), Refusal>
         ensures step { IsStep self.old (Trim upto.0) result self.new }
         ensures forgets { IfOk result (λ _. HasForgotten upto.0 self.old.closed self.old self.new) }
@@ -43,6 +49,9 @@ impl Core {
         let oldest = self.table.oldest_begin();
         let low_water = self.table.low_water();
         if !is_within(upto, self.start, oldest, low_water) {
+            return Err(Refusal::NothingToDo);
+        }
+        if is_begin_of_reader(&self.table, upto) {
             return Err(Refusal::NothingToDo);
         }
         self.start = upto;
@@ -57,6 +66,18 @@ fn is_within(upto: Stamp, start: Stamp, oldest: Stamp, low_water: Stamp) -> bool
     ensures { result ≡ may_trim_to upto.0 start.0 oldest.0 low_water.0 }
 {
     start < upto && upto <= oldest && upto <= low_water
+}
+
+/// Whether a read-only transaction that isn't finished began there.
+fn is_begin_of_reader(table: &Table, begin: Stamp) -> bool
+    ensures { result ≡ is_read_only (own_of table.now begin.0) }
+{
+    let id = TxId(begin.0);
+    let seat = table.seat_of(id);
+    match table.get(Located { id, seat }) {
+        Some(seat) => is_read_only(seat.kept.own.kind),
+        None => false,
+    }
 }
 
 /// The lesser of the two.

@@ -1,5 +1,9 @@
 use Rattle.mvo_core.proofs.OthersLead.{others_lead}
+use Rattle.mvo_core.proofs.ReadersMoved.{readers_moved}
 use Rattle.mvo_core.proofs.whole_laws.laws_of_whole_steps.Goals as goal
 
-pub returns : goal.returns
-returns c = record { others = others_lead }
+pub returns-clause-others : goal.returns-clause-others
+returns-clause-others c = others_lead
+
+pub returns-clause-moves : goal.returns-clause-moves
+returns-clause-moves c = readers_moved

@@ -1,4 +1,4 @@
-use Rattle.std.proofs.Common.{sym, ap, ◌∙◌, subst}
+use Rattle.std.proofs.Common.{sym, ap, ◌∙◌, subst, refl}
 use Rattle.mvo_types.specs.declared.op.Op.TheVariants.{Delete}
 use Rattle.mvo_types.specs.declared.refusal.Refusal.TheVariants.{OutOfMemory}
 use Rattle.mvo_types.specs.AnswerData.AnswerData.{Deleted, Absent}
@@ -6,7 +6,7 @@ use Rattle.mvo_theory.specs.Calls.Call.{Do}
 use Rattle.mvo_theory.specs.Calls.Result.{Accepted, Refused}
 use Rattle.mvo_txn.specs.Txns.{state_of, IsUnended}
 use Rattle.mvo_core.specs.Readers.{no_readers}
-use Rattle.mvo_core.specs.Causes.{why_not_remove, flag_of}
+use Rattle.mvo_core.specs.Causes.{why_not_remove}
 use Rattle.mvo_core.specs.Data.{CoreData}
 use Rattle.mvo_core.specs.View.{core_data}
 use Rattle.mvo_core.specs.Standing.{StandsFor}
@@ -14,7 +14,7 @@ use Rattle.mvo_core.specs.Steps.{LeadsOn}
 use Rattle.mvo_core.proofs.Allowed.{unended_if_active, may_remove}
 use Rattle.mvo_core.proofs.Asked.{own_if_active, active_if_removed, may_remove_failing}
 use Rattle.mvo_core.proofs.Begun.{stands_on}
-use Rattle.mvo_core.proofs.CausesTold.{none_active}
+use Rattle.mvo_core.proofs.CausesTold.{stands_active}
 use Rattle.mvo_core.proofs.Refused.{came_spent}
 use Rattle.mvo_core.proofs.Deleting.{delete_starved, delete_refused, delete_conflicts, delete_spent, delete_left, absent_answers, absent_leads, deleted_answers, deleted_live, deleted_leads}
 use Rattle.std.specs.Option.{option_to_list}
@@ -32,7 +32,7 @@ give_up-requires c =
 pub returns-in-Some-clause-step : goal.returns-in-Some-clause-step
 returns-in-Some-clause-step c = λ opening steps s h.
     subst (λ r. LeadsOn opening steps s (Do c.args.tx.0 (Delete c.args.key)) (Refused r) c.give_up.new.self) (sym c.give_up.ensures.same)
-    (delete_refused no_readers opening steps s c.args.self.now h c.args.tx c.args.key c.in-Some.refusal
+    (delete_refused no_readers opening steps s c.args.self.now h c.args.tx c.args.key refl c.in-Some.refusal
     (ap (λ (x : CoreData). why_not_remove x.table c.args.tx.0 c.args.key) (sym c.self.view_is) ∙ sym c.not_removed.ensures ∙ c.in-Some.is) c.give_up.new.self
     (c.give_up.ensures.left no_readers opening steps s h))
 
@@ -46,7 +46,7 @@ returns-in-Some-in_the_way-clause-step c = λ opening steps s h.
     let f = c.self.inside in
     let old : CoreData = core_data f in
     subst (λ r. LeadsOn opening steps s (Do c.args.tx.0 (Delete c.args.key)) (Refused r) c.give_up-in-Some-in_the_way.new.self) (sym c.give_up-in-Some-in_the_way.ensures.same)
-    (delete_conflicts no_readers opening steps s old (subst (StandsFor opening steps s) (sym c.self.view_is) h) c.args.tx c.args.key (sym c.not_removed.ensures ∙ c.in_default.is) c.shown-found.result c.shown-found.ensures c.in-Some-in_the_way.cause (sym c.in_the_way.ensures ∙ c.in-Some-in_the_way.is)
+    (delete_conflicts no_readers opening steps s old (subst (StandsFor opening steps s) (sym c.self.view_is) h) c.args.tx c.args.key refl (sym c.not_removed.ensures ∙ c.in_default.is) c.shown-found.result c.shown-found.ensures c.in-Some-in_the_way.cause (sym c.in_the_way.ensures ∙ c.in-Some-in_the_way.is)
     c.give_up-in-Some-in_the_way.new.self (c.give_up-in-Some-in_the_way.ensures.left no_readers opening steps s h))
 
 pub record_answer-requires-clause-there : goal.record_answer-requires-clause-there
@@ -65,7 +65,7 @@ invariant_of-self c =
     record {
       stands =
           stands_on i (Do c.args.tx.0 (Delete c.args.key)) (Refused OutOfMemory) (record old { table = c.record_answer.new.table })
-          (delete_spent no_readers i.opening i.steps i.state old i.stands c.args.tx c.args.key (sym c.not_removed.ensures ∙ c.in_default.is) c.shown-found.result c.shown-found.ensures (sym c.in_the_way.ensures ∙ c.in_default-in_the_way.is) c.record_answer.new.table c.in_err-record_answer.ensures.err);
+          (delete_spent no_readers i.opening i.steps i.state old i.stands c.args.tx c.args.key refl (sym c.not_removed.ensures ∙ c.in_default.is) c.shown-found.result c.shown-found.ensures (sym c.in_the_way.ensures ∙ c.in_default-in_the_way.is) c.record_answer.new.table c.in_err-record_answer.ensures.err);
       waiting = waits_alike f.table c.record_answer.new.table f.versions.slots f.waiting (alike_written f.table c.record_answer.new.table c.args.tx.0 HasDoneAsMuch c.in_err-record_answer.ensures.err) c.self.invariant.waiting;
     }
 
@@ -74,7 +74,7 @@ returns-in_err-record_answer-clause-step c = λ opening steps s h.
     let f = c.self.inside in
     let old : CoreData = core_data f in
     subst (λ r. LeadsOn opening steps s (Do c.args.tx.0 (Delete c.args.key)) r (record old { table = c.record_answer.new.table })) (came_spent c.from_residual.result c.from_residual.ensures.1)
-    (delete_spent no_readers opening steps s old (subst (StandsFor opening steps s) (sym c.self.view_is) h) c.args.tx c.args.key (sym c.not_removed.ensures ∙ c.in_default.is) c.shown-found.result c.shown-found.ensures (sym c.in_the_way.ensures ∙ c.in_default-in_the_way.is) c.record_answer.new.table c.in_err-record_answer.ensures.err)
+    (delete_spent no_readers opening steps s old (subst (StandsFor opening steps s) (sym c.self.view_is) h) c.args.tx c.args.key refl (sym c.not_removed.ensures ∙ c.in_default.is) c.shown-found.result c.shown-found.ensures (sym c.in_the_way.ensures ∙ c.in_default-in_the_way.is) c.record_answer.new.table c.in_err-record_answer.ensures.err)
 
 pub invariant_of-self-in_default-version : goal.invariant_of-self-in_default-version
 invariant_of-self-in_default-version c =
@@ -84,7 +84,7 @@ invariant_of-self-in_default-version c =
     record {
       stands =
           stands_on i (Do c.args.tx.0 (Delete c.args.key)) Accepted (record old { table = c.record_answer.new.table })
-          (absent_leads no_readers i.opening i.steps i.state old i.stands c.args.tx c.args.key (sym c.not_removed.ensures ∙ c.in_default.is) c.shown-found.result c.shown-found.ensures (sym c.in_the_way.ensures ∙ c.in_default-in_the_way.is) c.in_default-version.is c.record_answer.new.table c.in_ok-record_answer.ensures.ok);
+          (absent_leads no_readers i.opening i.steps i.state old i.stands c.args.tx c.args.key refl (sym c.not_removed.ensures ∙ c.in_default.is) c.shown-found.result c.shown-found.ensures (sym c.in_the_way.ensures ∙ c.in_default-in_the_way.is) c.in_default-version.is c.record_answer.new.table c.in_ok-record_answer.ensures.ok);
       waiting = waits_alike f.table c.record_answer.new.table f.versions.slots f.waiting (alike_recorded f.table c.record_answer.new.table c.args.tx _ _ _ c.in_ok-record_answer.ensures.ok) c.self.invariant.waiting;
     }
 
@@ -92,13 +92,13 @@ pub returns-in_default-version-clause-step : goal.returns-in_default-version-cla
 returns-in_default-version-clause-step c = λ opening steps s h.
     let f = c.self.inside in
     let old : CoreData = core_data f in
-    absent_leads no_readers opening steps s old (subst (StandsFor opening steps s) (sym c.self.view_is) h) c.args.tx c.args.key (sym c.not_removed.ensures ∙ c.in_default.is) c.shown-found.result c.shown-found.ensures (sym c.in_the_way.ensures ∙ c.in_default-in_the_way.is) c.in_default-version.is c.record_answer.new.table c.in_ok-record_answer.ensures.ok
+    absent_leads no_readers opening steps s old (subst (StandsFor opening steps s) (sym c.self.view_is) h) c.args.tx c.args.key refl (sym c.not_removed.ensures ∙ c.in_default.is) c.shown-found.result c.shown-found.ensures (sym c.in_the_way.ensures ∙ c.in_default-in_the_way.is) c.in_default-version.is c.record_answer.new.table c.in_ok-record_answer.ensures.ok
 
 pub returns-in_default-version-clause-answer : goal.returns-in_default-version-clause-answer
 returns-in_default-version-clause-answer c = λ opening steps s h.
     let f = c.self.inside in
     let old : CoreData = core_data f in
-    absent_answers no_readers opening steps s old (subst (StandsFor opening steps s) (sym c.self.view_is) h) c.args.tx c.args.key (sym c.not_removed.ensures ∙ c.in_default.is) c.shown-found.result c.shown-found.ensures (sym c.in_the_way.ensures ∙ c.in_default-in_the_way.is) c.in_default-version.is
+    absent_answers no_readers opening steps s old (subst (StandsFor opening steps s) (sym c.self.view_is) h) c.args.tx c.args.key refl (sym c.not_removed.ensures ∙ c.in_default.is) c.shown-found.result c.shown-found.ensures (sym c.in_the_way.ensures ∙ c.in_default-in_the_way.is) c.in_default-version.is
 
 pub remove-requires-clause-there : goal.remove-requires-clause-there
 remove-requires-clause-there c =
@@ -113,7 +113,7 @@ remove-requires-clause-live c =
     let f = c.self.inside in
     let i = c.self.invariant.stands in
     let old : CoreData = core_data f in
-    deleted_live no_readers i.opening i.steps i.state old i.stands c.args.tx c.args.key (sym c.not_removed.ensures ∙ c.in_default.is) c.shown-found.result c.shown-found.ensures (sym c.in_the_way.ensures ∙ c.in_default-in_the_way.is) c.in-Some-version.old c.in-Some-version.is
+    deleted_live no_readers i.opening i.steps i.state old i.stands c.args.tx c.args.key refl (sym c.not_removed.ensures ∙ c.in_default.is) c.shown-found.result c.shown-found.ensures (sym c.in_the_way.ensures ∙ c.in_default-in_the_way.is) c.in-Some-version.old c.in-Some-version.is
 
 pub invariant_of-self-in_err-remove : goal.invariant_of-self-in_err-remove
 invariant_of-self-in_err-remove c =
@@ -123,7 +123,7 @@ invariant_of-self-in_err-remove c =
     record {
       stands =
           stands_on i (Do c.args.tx.0 (Delete c.args.key)) (Refused OutOfMemory) (record old { versions = c.remove.new.versions; table = c.remove.new.table })
-          (delete_left no_readers i.opening i.steps i.state old i.stands c.args.tx c.args.key (sym c.not_removed.ensures ∙ c.in_default.is) c.shown-found.result c.shown-found.ensures (sym c.in_the_way.ensures ∙ c.in_default-in_the_way.is) c.remove.new.versions c.in_err-remove.ensures.same c.remove.new.table c.in_err-remove.ensures.err);
+          (delete_left no_readers i.opening i.steps i.state old i.stands c.args.tx c.args.key refl (sym c.not_removed.ensures ∙ c.in_default.is) c.shown-found.result c.shown-found.ensures (sym c.in_the_way.ensures ∙ c.in_default-in_the_way.is) c.remove.new.versions c.in_err-remove.ensures.same c.remove.new.table c.in_err-remove.ensures.err);
       waiting = subst (λ (v : VersionsData). AreWaiting c.remove.new.table.clock (state_of c.remove.new.table) v.slots c.make_room.new.self) (sym c.in_err-remove.ensures.same) (waits_alike f.table c.remove.new.table f.versions.slots c.make_room.new.self (alike_written f.table c.remove.new.table c.args.tx.0 HasDoneAsMuch c.in_err-remove.ensures.err) (waits_roomy f.table.clock (state_of f.table) f.versions.slots f.waiting c.make_room.new.self c.make_room.new.self.room c.make_room.ensures.same c.self.invariant.waiting));
     }
 
@@ -132,7 +132,7 @@ returns-in_err-remove-clause-step c = λ opening steps s h.
     let f = c.self.inside in
     let old : CoreData = core_data f in
     subst (λ r. LeadsOn opening steps s (Do c.args.tx.0 (Delete c.args.key)) r (record old { versions = c.remove.new.versions; table = c.remove.new.table })) (came_spent c.from_residual-in_err-remove.result c.from_residual-in_err-remove.ensures.1)
-    (delete_left no_readers opening steps s old (subst (StandsFor opening steps s) (sym c.self.view_is) h) c.args.tx c.args.key (sym c.not_removed.ensures ∙ c.in_default.is) c.shown-found.result c.shown-found.ensures (sym c.in_the_way.ensures ∙ c.in_default-in_the_way.is) c.remove.new.versions c.in_err-remove.ensures.same c.remove.new.table c.in_err-remove.ensures.err)
+    (delete_left no_readers opening steps s old (subst (StandsFor opening steps s) (sym c.self.view_is) h) c.args.tx c.args.key refl (sym c.not_removed.ensures ∙ c.in_default.is) c.shown-found.result c.shown-found.ensures (sym c.in_the_way.ensures ∙ c.in_default-in_the_way.is) c.remove.new.versions c.in_err-remove.ensures.same c.remove.new.table c.in_err-remove.ensures.err)
 
 pub invariant_of-self-2 : goal.invariant_of-self-2
 invariant_of-self-2 c =
@@ -142,21 +142,21 @@ invariant_of-self-2 c =
     record {
       stands =
           stands_on i (Do c.args.tx.0 (Delete c.args.key)) Accepted (record old { versions = c.remove.new.versions; table = c.remove.new.table })
-          (deleted_leads no_readers i.opening i.steps i.state old i.stands c.args.tx c.args.key (sym c.not_removed.ensures ∙ c.in_default.is) c.shown-found.result c.shown-found.ensures (sym c.in_the_way.ensures ∙ c.in_default-in_the_way.is) c.in-Some-version.old c.in-Some-version.is c.remove.new.versions c.remove.new.table c.in_ok-remove.ensures.ok);
-      waiting = waits_removed f.versions c.remove.new.versions f.table c.remove.new.table c.args.tx (option_to_list c.shown-found.result.depends_on) f.waiting c.make_room.new.self c.make_room.ensures.same c.in-Some-version.old c.args.key c.has_open_end-is_open.result c.owe_end.new.waiting (none_active (state_of f.table c.args.tx.0) (flag_of f.table c.args.tx.0) (active_if_removed f.table c.args.tx.0 c.args.key (sym c.not_removed.ensures ∙ c.in_default.is))) (deleted_live no_readers i.opening i.steps i.state old i.stands c.args.tx c.args.key (sym c.not_removed.ensures ∙ c.in_default.is) c.shown-found.result c.shown-found.ensures (sym c.in_the_way.ensures ∙ c.in_default-in_the_way.is) c.in-Some-version.old c.in-Some-version.is) c.in_ok-remove.ensures.ok c.has_open_end-is_open.ensures c.owe_end.ensures c.self.invariant.waiting;
+          (deleted_leads no_readers i.opening i.steps i.state old i.stands c.args.tx c.args.key refl (sym c.not_removed.ensures ∙ c.in_default.is) c.shown-found.result c.shown-found.ensures (sym c.in_the_way.ensures ∙ c.in_default-in_the_way.is) c.in-Some-version.old c.in-Some-version.is c.remove.new.versions c.remove.new.table c.in_ok-remove.ensures.ok);
+      waiting = waits_removed f.versions c.remove.new.versions f.table c.remove.new.table c.args.tx (option_to_list c.shown-found.result.depends_on) f.waiting c.make_room.new.self c.make_room.ensures.same c.in-Some-version.old c.args.key c.has_open_end-is_open.result c.owe_end.new.waiting (stands_active f.table c.args.tx.0 (active_if_removed f.table c.args.tx.0 c.args.key (sym c.not_removed.ensures ∙ c.in_default.is))) (deleted_live no_readers i.opening i.steps i.state old i.stands c.args.tx c.args.key refl (sym c.not_removed.ensures ∙ c.in_default.is) c.shown-found.result c.shown-found.ensures (sym c.in_the_way.ensures ∙ c.in_default-in_the_way.is) c.in-Some-version.old c.in-Some-version.is) c.in_ok-remove.ensures.ok c.has_open_end-is_open.ensures c.owe_end.ensures c.self.invariant.waiting;
     }
 
 pub returns-clause-step : goal.returns-clause-step
 returns-clause-step c = λ opening steps s h.
     let f = c.self.inside in
     let old : CoreData = core_data f in
-    deleted_leads no_readers opening steps s old (subst (StandsFor opening steps s) (sym c.self.view_is) h) c.args.tx c.args.key (sym c.not_removed.ensures ∙ c.in_default.is) c.shown-found.result c.shown-found.ensures (sym c.in_the_way.ensures ∙ c.in_default-in_the_way.is) c.in-Some-version.old c.in-Some-version.is c.remove.new.versions c.remove.new.table c.in_ok-remove.ensures.ok
+    deleted_leads no_readers opening steps s old (subst (StandsFor opening steps s) (sym c.self.view_is) h) c.args.tx c.args.key refl (sym c.not_removed.ensures ∙ c.in_default.is) c.shown-found.result c.shown-found.ensures (sym c.in_the_way.ensures ∙ c.in_default-in_the_way.is) c.in-Some-version.old c.in-Some-version.is c.remove.new.versions c.remove.new.table c.in_ok-remove.ensures.ok
 
 pub returns-clause-answer : goal.returns-clause-answer
 returns-clause-answer c = λ opening steps s h.
     let f = c.self.inside in
     let old : CoreData = core_data f in
-    deleted_answers no_readers opening steps s old (subst (StandsFor opening steps s) (sym c.self.view_is) h) c.args.tx c.args.key (sym c.not_removed.ensures ∙ c.in_default.is) c.shown-found.result c.shown-found.ensures (sym c.in_the_way.ensures ∙ c.in_default-in_the_way.is) c.in-Some-version.old c.in-Some-version.is
+    deleted_answers no_readers opening steps s old (subst (StandsFor opening steps s) (sym c.self.view_is) h) c.args.tx c.args.key refl (sym c.not_removed.ensures ∙ c.in_default.is) c.shown-found.result c.shown-found.ensures (sym c.in_the_way.ensures ∙ c.in_default-in_the_way.is) c.in-Some-version.old c.in-Some-version.is
 
 -- ---- for want of room for what waits
 pub invariant_of-self-in_err-make_room : goal.invariant_of-self-in_err-make_room
@@ -172,4 +172,4 @@ returns-in_err-make_room-clause-step c = λ opening steps s h.
     let f = c.self.inside in
     let old : CoreData = core_data f in
     subst (λ r. LeadsOn opening steps s (Do c.args.tx.0 (Delete c.args.key)) r old) (came_spent c.from_residual-in_err-make_room.result c.from_residual-in_err-make_room.ensures.1)
-    (delete_starved no_readers opening steps s old (subst (StandsFor opening steps s) (sym c.self.view_is) h) c.args.tx c.args.key (sym c.not_removed.ensures ∙ c.in_default.is) c.shown-found.result c.shown-found.ensures (sym c.in_the_way.ensures ∙ c.in_default-in_the_way.is))
+    (delete_starved no_readers opening steps s old (subst (StandsFor opening steps s) (sym c.self.view_is) h) c.args.tx c.args.key refl (sym c.not_removed.ensures ∙ c.in_default.is) c.shown-found.result c.shown-found.ensures (sym c.in_the_way.ensures ∙ c.in_default-in_the_way.is))

@@ -1,4 +1,4 @@
-use Rattle.std.proofs.Common.{sym, ap, ◌∙◌, subst, ◌≡◌}
+use Rattle.std.proofs.Common.{sym, ap, ◌∙◌, subst, ◌≡◌, refl}
 use Rattle.mvo_types.specs.declared.op.Op.TheVariants.{Insert}
 use Rattle.mvo_types.specs.declared.refusal.Refusal.TheVariants.{OutOfMemory}
 use Rattle.mvo_theory.specs.Calls.Call.{Do}
@@ -24,7 +24,7 @@ use Rattle.mvo_core.proofs.event_core.Core.insert.Goals as goal
 pub returns-in-Some-clause-step : goal.returns-in-Some-clause-step
 returns-in-Some-clause-step c = λ opening steps s h.
     subst (λ r. LeadsOn opening steps s (Do c.args.tx.0 (Insert c.args.row)) (Refused r) c.give_up.new.self) (sym c.give_up.ensures.same)
-    (insert_refused no_readers opening steps s c.args.self.now h c.args.tx c.args.row c.in-Some.refusal
+    (insert_refused no_readers opening steps s c.args.self.now h c.args.tx c.args.row refl c.in-Some.refusal
     (ap (λ (x : CoreData). why_not_put x.table c.args.tx.0 c.args.row) (sym c.self.view_is) ∙ sym c.not_put.ensures ∙ c.in-Some.is) c.give_up.new.self
     (c.give_up.ensures.left no_readers opening steps s h))
 
@@ -36,7 +36,7 @@ invariant_of-self c =
     record {
       stands =
           stands_on i (Do c.args.tx.0 (Insert c.args.row)) (Refused OutOfMemory) (record old { table = c.record_answer.new.table })
-          (insert_spent no_readers i.opening i.steps i.state old i.stands c.args.tx c.args.row (sym c.not_put.ensures ∙ c.in_default.is) c.record_answer.new.table c.in_err-record_answer.ensures.err);
+          (insert_spent no_readers i.opening i.steps i.state old i.stands c.args.tx c.args.row refl (sym c.not_put.ensures ∙ c.in_default.is) c.record_answer.new.table c.in_err-record_answer.ensures.err);
       waiting = waits_alike f.table c.record_answer.new.table f.versions.slots f.waiting (alike_written f.table c.record_answer.new.table c.args.tx.0 HasDoneAsMuch c.in_err-record_answer.ensures.err) c.self.invariant.waiting;
     }
 
@@ -45,7 +45,7 @@ returns-in_err-record_answer-clause-step c = λ opening steps s h.
     let f = c.self.inside in
     let old : CoreData = core_data f in
     subst (λ r. LeadsOn opening steps s (Do c.args.tx.0 (Insert c.args.row)) r (record old { table = c.record_answer.new.table })) (came_spent c.from_residual.result c.from_residual.ensures.1)
-    (insert_spent no_readers opening steps s old (subst (StandsFor opening steps s) (sym c.self.view_is) h) c.args.tx c.args.row (sym c.not_put.ensures ∙ c.in_default.is) c.record_answer.new.table c.in_err-record_answer.ensures.err)
+    (insert_spent no_readers opening steps s old (subst (StandsFor opening steps s) (sym c.self.view_is) h) c.args.tx c.args.row refl (sym c.not_put.ensures ∙ c.in_default.is) c.record_answer.new.table c.in_err-record_answer.ensures.err)
 
 pub invariant_of-self-then-is_some : goal.invariant_of-self-then-is_some
 invariant_of-self-then-is_some c =
@@ -56,7 +56,7 @@ invariant_of-self-then-is_some c =
     record {
       stands =
           stands_on i (Do c.args.tx.0 (Insert c.args.row)) Accepted (record old { table = c.record_answer.new.table })
-          (exists_leads no_readers i.opening i.steps i.state old i.stands c.args.tx c.args.row (sym c.not_put.ensures ∙ c.in_default.is) c.shown-found.result is (sym c.is_some.ensures ∙ c.if-is_some.true)
+          (exists_leads no_readers i.opening i.steps i.state old i.stands c.args.tx c.args.row refl (sym c.not_put.ensures ∙ c.in_default.is) c.shown-found.result is (sym c.is_some.ensures ∙ c.if-is_some.true)
           c.record_answer.new.table c.in_ok-record_answer.ensures.ok);
       waiting = waits_alike f.table c.record_answer.new.table f.versions.slots f.waiting (alike_recorded f.table c.record_answer.new.table c.args.tx _ _ _ c.in_ok-record_answer.ensures.ok) c.self.invariant.waiting;
     }
@@ -66,7 +66,7 @@ returns-then-is_some-clause-step c = λ opening steps s h.
     let f = c.self.inside in
     let old : CoreData = core_data f in
     let is = subst (λ k. AreVersionsInOrder (state_of f.table) c.args.tx.0 c.args.tx.0 (versions_at f.versions.slots f.versions.lists k) → c.shown-found.result ≡ shown_in old c.args.tx.0 k) c.row_key-key.ensures c.shown-found.ensures in
-    exists_leads no_readers opening steps s old (subst (StandsFor opening steps s) (sym c.self.view_is) h) c.args.tx c.args.row (sym c.not_put.ensures ∙ c.in_default.is) c.shown-found.result is (sym c.is_some.ensures ∙ c.if-is_some.true)
+    exists_leads no_readers opening steps s old (subst (StandsFor opening steps s) (sym c.self.view_is) h) c.args.tx c.args.row refl (sym c.not_put.ensures ∙ c.in_default.is) c.shown-found.result is (sym c.is_some.ensures ∙ c.if-is_some.true)
     c.record_answer.new.table c.in_ok-record_answer.ensures.ok
 
 pub returns-then-is_some-clause-answer : goal.returns-then-is_some-clause-answer
@@ -74,7 +74,7 @@ returns-then-is_some-clause-answer c = λ opening steps s h.
     let f = c.self.inside in
     let old : CoreData = core_data f in
     let is = subst (λ k. AreVersionsInOrder (state_of f.table) c.args.tx.0 c.args.tx.0 (versions_at f.versions.slots f.versions.lists k) → c.shown-found.result ≡ shown_in old c.args.tx.0 k) c.row_key-key.ensures c.shown-found.ensures in
-    exists_answers no_readers opening steps s old (subst (StandsFor opening steps s) (sym c.self.view_is) h) c.args.tx c.args.row (sym c.not_put.ensures ∙ c.in_default.is) c.shown-found.result is (sym c.is_some.ensures ∙ c.if-is_some.true)
+    exists_answers no_readers opening steps s old (subst (StandsFor opening steps s) (sym c.self.view_is) h) c.args.tx c.args.row refl (sym c.not_put.ensures ∙ c.in_default.is) c.shown-found.result is (sym c.is_some.ensures ∙ c.if-is_some.true)
 
 pub invariant_of-self-in_err-insert_row : goal.invariant_of-self-in_err-insert_row
 invariant_of-self-in_err-insert_row c =
@@ -84,7 +84,7 @@ invariant_of-self-in_err-insert_row c =
     record {
       stands =
           stands_on i (Do c.args.tx.0 (Insert c.args.row)) (Refused OutOfMemory) (record old { versions = c.insert_row.new.versions; table = c.insert_row.new.table })
-          (insert_spent_same no_readers i.opening i.steps i.state old i.stands c.args.tx c.args.row (sym c.not_put.ensures ∙ c.in_default.is) c.insert_row.new.versions c.in_err-insert_row.ensures.err c.insert_row.ensures.indexed
+          (insert_spent_same no_readers i.opening i.steps i.state old i.stands c.args.tx c.args.row refl (sym c.not_put.ensures ∙ c.in_default.is) c.insert_row.new.versions c.in_err-insert_row.ensures.err c.insert_row.ensures.indexed
           c.insert_row.new.table c.in_err-insert_row.ensures.alone);
       waiting = waits_spent f.table c.insert_row.new.table c.args.tx.0 f.versions c.insert_row.new.versions f.waiting c.make_room.new.self c.make_room.ensures.same c.in_err-insert_row.ensures.err c.in_err-insert_row.ensures.alone c.self.invariant.waiting;
     }
@@ -95,7 +95,7 @@ returns-in_err-insert_row-clause-step c = λ opening steps s h.
     let old : CoreData = core_data f in
     subst (λ r. LeadsOn opening steps s (Do c.args.tx.0 (Insert c.args.row)) r (record old { versions = c.insert_row.new.versions; table = c.insert_row.new.table }))
     (came_spent c.from_residual-in_err-insert_row.result c.from_residual-in_err-insert_row.ensures.1)
-    (insert_spent_same no_readers opening steps s old (subst (StandsFor opening steps s) (sym c.self.view_is) h) c.args.tx c.args.row (sym c.not_put.ensures ∙ c.in_default.is) c.insert_row.new.versions c.in_err-insert_row.ensures.err
+    (insert_spent_same no_readers opening steps s old (subst (StandsFor opening steps s) (sym c.self.view_is) h) c.args.tx c.args.row refl (sym c.not_put.ensures ∙ c.in_default.is) c.insert_row.new.versions c.in_err-insert_row.ensures.err
     c.insert_row.ensures.indexed c.insert_row.new.table c.in_err-insert_row.ensures.alone)
 
 pub invariant_of-self-2 : goal.invariant_of-self-2
@@ -107,7 +107,7 @@ invariant_of-self-2 c =
     record {
       stands =
           stands_on i (Do c.args.tx.0 (Insert c.args.row)) Accepted (record old { versions = c.insert_row.new.versions; table = c.insert_row.new.table })
-          (insert_leads no_readers i.opening i.steps i.state old i.stands c.args.tx c.args.row (sym c.not_put.ensures ∙ c.in_default.is) c.shown-found.result is (sym c.is_some.ensures ∙ c.if-is_some.false)
+          (insert_leads no_readers i.opening i.steps i.state old i.stands c.args.tx c.args.row refl (sym c.not_put.ensures ∙ c.in_default.is) c.shown-found.result is (sym c.is_some.ensures ∙ c.if-is_some.false)
           c.insert_row.new.versions c.insert_row.new.table c.in_ok-insert_row.ensures.ok c.insert_row.ensures.indexed);
       waiting = waits_inserted f.versions c.insert_row.new.versions f.table c.insert_row.new.table c.args.tx (option_to_list c.shown-found.result.depends_on) f.waiting c.make_room.new.self c.make_room.ensures.same c.args.row c.owe.new.self c.in_ok-insert_row.ensures.ok c.owe.ensures c.self.invariant.waiting;
     }
@@ -117,7 +117,7 @@ returns-clause-step c = λ opening steps s h.
     let f = c.self.inside in
     let old : CoreData = core_data f in
     let is = subst (λ k. AreVersionsInOrder (state_of f.table) c.args.tx.0 c.args.tx.0 (versions_at f.versions.slots f.versions.lists k) → c.shown-found.result ≡ shown_in old c.args.tx.0 k) c.row_key-key.ensures c.shown-found.ensures in
-    insert_leads no_readers opening steps s old (subst (StandsFor opening steps s) (sym c.self.view_is) h) c.args.tx c.args.row (sym c.not_put.ensures ∙ c.in_default.is) c.shown-found.result is (sym c.is_some.ensures ∙ c.if-is_some.false)
+    insert_leads no_readers opening steps s old (subst (StandsFor opening steps s) (sym c.self.view_is) h) c.args.tx c.args.row refl (sym c.not_put.ensures ∙ c.in_default.is) c.shown-found.result is (sym c.is_some.ensures ∙ c.if-is_some.false)
     c.insert_row.new.versions c.insert_row.new.table c.in_ok-insert_row.ensures.ok c.insert_row.ensures.indexed
 
 pub returns-clause-answer : goal.returns-clause-answer
@@ -125,7 +125,7 @@ returns-clause-answer c = λ opening steps s h.
     let f = c.self.inside in
     let old : CoreData = core_data f in
     let is = subst (λ k. AreVersionsInOrder (state_of f.table) c.args.tx.0 c.args.tx.0 (versions_at f.versions.slots f.versions.lists k) → c.shown-found.result ≡ shown_in old c.args.tx.0 k) c.row_key-key.ensures c.shown-found.ensures in
-    inserted_answers no_readers opening steps s old (subst (StandsFor opening steps s) (sym c.self.view_is) h) c.args.tx c.args.row (sym c.not_put.ensures ∙ c.in_default.is) c.shown-found.result is (sym c.is_some.ensures ∙ c.if-is_some.false)
+    inserted_answers no_readers opening steps s old (subst (StandsFor opening steps s) (sym c.self.view_is) h) c.args.tx c.args.row refl (sym c.not_put.ensures ∙ c.in_default.is) c.shown-found.result is (sym c.is_some.ensures ∙ c.if-is_some.false)
 
 -- ---- for want of room for what waits
 pub invariant_of-self-in_err-make_room : goal.invariant_of-self-in_err-make_room
@@ -141,4 +141,4 @@ returns-in_err-make_room-clause-step c = λ opening steps s h.
     let f = c.self.inside in
     let old : CoreData = core_data f in
     subst (λ r. LeadsOn opening steps s (Do c.args.tx.0 (Insert c.args.row)) r old) (came_spent c.from_residual-in_err-make_room.result c.from_residual-in_err-make_room.ensures.1)
-    (insert_starved no_readers opening steps s old (subst (StandsFor opening steps s) (sym c.self.view_is) h) c.args.tx c.args.row (sym c.not_put.ensures ∙ c.in_default.is))
+    (insert_starved no_readers opening steps s old (subst (StandsFor opening steps s) (sym c.self.view_is) h) c.args.tx c.args.row refl (sym c.not_put.ensures ∙ c.in_default.is))

@@ -25,7 +25,7 @@ returns-in-Some-clause-step c = λ opening steps s h.
     let old : CoreData = core_data f in
     let why : why_not_active old.table c.args.tx.0 ≡ Some c.in-Some.refusal = sym c.active-refusal.ensures.refusal ∙ c.in-Some.is in
     subst (λ r. LeadsOn opening steps s (Precommit c.args.tx.0) (Refused r) c.give_up.new.self) (sym c.give_up.ensures.same)
-    (precommit_refused no_readers opening steps s c.args.self.now h c.args.tx.0 c.in-Some.refusal c.give_up.new.self
+    (precommit_refused no_readers opening steps s c.args.self.now h c.args.tx.0 refl c.in-Some.refusal c.give_up.new.self
     (ap (λ (v : CoreData). why_not_active v.table c.args.tx.0) (sym c.self.view_is) ∙ why) c.give_up.ensures.left)
 
 pub returns-then-clock-ge-MAX_STAMP-clause-step : goal.returns-then-clock-ge-MAX_STAMP-clause-step
@@ -34,7 +34,7 @@ returns-then-clock-ge-MAX_STAMP-clause-step c = λ opening steps s h.
     let old : CoreData = core_data f in
     let g : StandsFor opening steps s old = subst (StandsFor opening steps s) (sym c.self.view_is) h in
     subst (LeadsOn opening steps s (Precommit c.args.tx.0) (Refused ClockSpent)) c.self.view_is
-    (clock_spent_leads no_readers opening steps s old g c.args.tx (sym c.active-refusal.ensures.refusal ∙ c.in_default.is) (subst (λ n. MAX_STAMP ≤ n) c.clock-clock.ensures.value c.if-clock-ge-MAX_STAMP.true))
+    (clock_spent_leads no_readers opening steps s old g c.args.tx (sym c.active-refusal.ensures.refusal ∙ c.in_default.is) refl (subst (λ n. MAX_STAMP ≤ n) c.clock-clock.ensures.value c.if-clock-ge-MAX_STAMP.true))
 
 pub open-requires : goal.open-requires
 open-requires c =
@@ -50,7 +50,7 @@ returns-in_err-place-clause-step c = λ opening steps s h.
     let g : StandsFor opening steps s old = subst (StandsFor opening steps s) (sym c.self.view_is) h in
     subst (λ r. LeadsOn opening steps s (Precommit c.args.tx.0) r (record old { tale = c.open.new.self })) (came_spent c.from_residual-in_err-place.result c.from_residual-in_err-place.ensures.1)
     (subst (λ slots. LeadsOn opening steps s (Precommit c.args.tx.0) (Refused OutOfMemory) (record old { tale = slots })) (sym c.in_err-place.ensures.err)
-    (memory_spent_leads no_readers opening steps s old g c.args.tx (sym c.active-refusal.ensures.refusal ∙ c.in_default.is) (subst (λ n. n < MAX_STAMP) c.clock-clock.ensures.value c.if-clock-ge-MAX_STAMP.false)))
+    (memory_spent_leads no_readers opening steps s old g c.args.tx (sym c.active-refusal.ensures.refusal ∙ c.in_default.is) refl (subst (λ n. n < MAX_STAMP) c.clock-clock.ensures.value c.if-clock-ge-MAX_STAMP.false)))
 
 pub prepare-requires : goal.prepare-requires
 prepare-requires c =
@@ -92,7 +92,7 @@ returns-in_err-make_room_for_ended-clause-step c = λ opening steps s h.
     let old : CoreData = core_data f in
     let g : StandsFor opening steps s old = subst (StandsFor opening steps s) (sym c.self.view_is) h in
     subst (λ r. LeadsOn opening steps s (Precommit c.args.tx.0) r old) (came_spent c.from_residual.result c.from_residual.ensures.1)
-    (memory_spent_leads no_readers opening steps s old g c.args.tx (sym c.active-refusal.ensures.refusal ∙ c.in_default.is) (subst (λ n. n < MAX_STAMP) c.clock-clock.ensures.value c.if-clock-ge-MAX_STAMP.false))
+    (memory_spent_leads no_readers opening steps s old g c.args.tx (sym c.active-refusal.ensures.refusal ∙ c.in_default.is) refl (subst (λ n. n < MAX_STAMP) c.clock-clock.ensures.value c.if-clock-ge-MAX_STAMP.false))
 
 -- ---- room for what it has ended
 pub invariant_of-self : goal.invariant_of-self

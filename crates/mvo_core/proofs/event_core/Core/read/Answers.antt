@@ -20,20 +20,20 @@ use Rattle.mvo_core.proofs.event_core.Core.read.Goals as goal
 pub returns-in-Some-clause-step : goal.returns-in-Some-clause-step
 returns-in-Some-clause-step c = λ opening steps s h.
     subst (λ r. LeadsOn opening steps s (Do c.args.tx.0 (Read c.args.key)) (Refused r) c.give_up.new.self) (sym c.give_up.ensures.same)
-    (read_refused no_readers opening steps s c.args.self.now h c.args.tx c.args.key c.in-Some.refusal
+    (read_refused no_readers opening steps s c.args.self.now h c.args.tx c.args.key tt c.in-Some.refusal
     (ap (λ (x : CoreData). why_not_look x.table c.args.tx.0 c.args.key.table (Key c.args.key)) (sym c.self.view_is) ∙ sym c.not_looked.ensures ∙ c.in-Some.is) c.give_up.new.self
     (c.give_up.ensures.left no_readers opening steps s h))
 
 pub returns-in_err-row-clause-step : goal.returns-in_err-row-clause-step
 returns-in_err-row-clause-step c = λ opening steps s h.
     subst (λ r. LeadsOn opening steps s (Do c.args.tx.0 (Read c.args.key)) r c.args.self.now) (came_spent c.from_residual.result c.from_residual.ensures.1)
-    (read_spent no_readers opening steps s c.args.self.now h c.args.tx c.args.key
+    (read_spent no_readers opening steps s c.args.self.now h c.args.tx c.args.key tt
     (ap (λ (x : CoreData). why_not_look x.table c.args.tx.0 c.args.key.table (Key c.args.key)) (sym c.self.view_is) ∙ sym c.not_looked.ensures ∙ c.in_default.is))
 
 pub returns-in_err-kept-clause-step : goal.returns-in_err-kept-clause-step
 returns-in_err-kept-clause-step c = λ opening steps s h.
     subst (λ r. LeadsOn opening steps s (Do c.args.tx.0 (Read c.args.key)) r c.args.self.now) (came_spent c.from_residual-in_err-kept.result c.from_residual-in_err-kept.ensures.1)
-    (read_spent no_readers opening steps s c.args.self.now h c.args.tx c.args.key
+    (read_spent no_readers opening steps s c.args.self.now h c.args.tx c.args.key tt
     (ap (λ (x : CoreData). why_not_look x.table c.args.tx.0 c.args.key.table (Key c.args.key)) (sym c.self.view_is) ∙ sym c.not_looked.ensures ∙ c.in_default.is))
 
 pub invariant_of-self : goal.invariant_of-self
@@ -44,7 +44,7 @@ invariant_of-self c =
     record {
       stands =
           stands_on i (Do c.args.tx.0 (Read c.args.key)) (Refused OutOfMemory) (record old { table = c.record_answer.new.table })
-          (read_spent_roomy no_readers i.opening i.steps i.state old i.stands c.args.tx c.args.key (sym c.not_looked.ensures ∙ c.in_default.is) c.record_answer.new.table c.in_err-record_answer.ensures.err);
+          (read_spent_roomy no_readers i.opening i.steps i.state old i.stands c.args.tx c.args.key tt (sym c.not_looked.ensures ∙ c.in_default.is) c.record_answer.new.table c.in_err-record_answer.ensures.err);
       waiting = waits_alike f.table c.record_answer.new.table f.versions.slots f.waiting (alike_written f.table c.record_answer.new.table c.args.tx.0 HasDoneAsMuch c.in_err-record_answer.ensures.err) c.self.invariant.waiting;
     }
 
@@ -53,7 +53,7 @@ returns-in_err-record_answer-clause-step c = λ opening steps s h.
     let f = c.self.inside in
     let old : CoreData = core_data f in
     subst (λ r. LeadsOn opening steps s (Do c.args.tx.0 (Read c.args.key)) r (record old { table = c.record_answer.new.table })) (came_spent c.from_residual-in_err-record_answer.result c.from_residual-in_err-record_answer.ensures.1)
-    (read_spent_roomy no_readers opening steps s old (subst (StandsFor opening steps s) (sym c.self.view_is) h) c.args.tx c.args.key (sym c.not_looked.ensures ∙ c.in_default.is) c.record_answer.new.table c.in_err-record_answer.ensures.err)
+    (read_spent_roomy no_readers opening steps s old (subst (StandsFor opening steps s) (sym c.self.view_is) h) c.args.tx c.args.key tt (sym c.not_looked.ensures ∙ c.in_default.is) c.record_answer.new.table c.in_err-record_answer.ensures.err)
 
 pub invariant_of-self-2 : goal.invariant_of-self-2
 invariant_of-self-2 c =
@@ -63,7 +63,7 @@ invariant_of-self-2 c =
     record {
       stands =
           stands_on i (Do c.args.tx.0 (Read c.args.key)) Accepted (record old { table = c.record_answer.new.table })
-          (read_leads no_readers i.opening i.steps i.state old i.stands c.args.tx c.args.key (sym c.not_looked.ensures ∙ c.in_default.is) c.shown-found.result c.shown-found.ensures c.in_ok-kept.kept
+          (read_leads no_readers i.opening i.steps i.state old i.stands c.args.tx c.args.key tt (sym c.not_looked.ensures ∙ c.in_default.is) c.shown-found.result c.shown-found.ensures c.in_ok-kept.kept
           (c.in_ok-kept.ensures ∙ c.in_ok-row.ensures) c.record_answer.new.table c.in_ok-record_answer.ensures.ok);
       waiting = waits_alike f.table c.record_answer.new.table f.versions.slots f.waiting (alike_recorded f.table c.record_answer.new.table c.args.tx _ _ _ c.in_ok-record_answer.ensures.ok) c.self.invariant.waiting;
     }
@@ -72,11 +72,11 @@ pub returns-clause-step : goal.returns-clause-step
 returns-clause-step c = λ opening steps s h.
     let f = c.self.inside in
     let old : CoreData = core_data f in
-    read_leads no_readers opening steps s old (subst (StandsFor opening steps s) (sym c.self.view_is) h) c.args.tx c.args.key (sym c.not_looked.ensures ∙ c.in_default.is) c.shown-found.result c.shown-found.ensures c.in_ok-kept.kept
+    read_leads no_readers opening steps s old (subst (StandsFor opening steps s) (sym c.self.view_is) h) c.args.tx c.args.key tt (sym c.not_looked.ensures ∙ c.in_default.is) c.shown-found.result c.shown-found.ensures c.in_ok-kept.kept
     (c.in_ok-kept.ensures ∙ c.in_ok-row.ensures) c.record_answer.new.table c.in_ok-record_answer.ensures.ok
 
 pub returns-clause-answer : goal.returns-clause-answer
 returns-clause-answer c = λ opening steps s h.
     let f = c.self.inside in
     let old : CoreData = core_data f in
-    read_answers no_readers opening steps s old (subst (StandsFor opening steps s) (sym c.self.view_is) h) c.args.tx c.args.key (sym c.not_looked.ensures ∙ c.in_default.is) c.shown-found.result c.shown-found.ensures c.in_ok-row.row c.in_ok-row.ensures
+    read_answers no_readers opening steps s old (subst (StandsFor opening steps s) (sym c.self.view_is) h) c.args.tx c.args.key tt (sym c.not_looked.ensures ∙ c.in_default.is) c.shown-found.result c.shown-found.ensures c.in_ok-row.row c.in_ok-row.ensures

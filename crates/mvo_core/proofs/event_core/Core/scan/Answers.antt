@@ -21,20 +21,20 @@ use Rattle.mvo_core.proofs.event_core.Core.scan.Goals as goal
 pub returns-in-Some-clause-step : goal.returns-in-Some-clause-step
 returns-in-Some-clause-step c = λ opening steps s h.
     subst (λ r. LeadsOn opening steps s (Do c.args.tx.0 (Scan c.args.table c.args.lo c.args.hi)) (Refused r) c.give_up.new.self) (sym c.give_up.ensures.same)
-    (scan_refused no_readers opening steps s c.args.self.now h c.args.tx c.args.table c.args.lo c.args.hi c.in-Some.refusal
+    (scan_refused no_readers opening steps s c.args.self.now h c.args.tx c.args.table c.args.lo c.args.hi tt c.in-Some.refusal
     (ap (λ (x : CoreData). why_not_look x.table c.args.tx.0 c.args.table (Range c.args.table c.args.lo c.args.hi)) (sym c.self.view_is) ∙ sym c.not_looked.ensures ∙ c.in-Some.is) c.give_up.new.self
     (c.give_up.ensures.left no_readers opening steps s h))
 
 pub returns-in_err-scanned-clause-step : goal.returns-in_err-scanned-clause-step
 returns-in_err-scanned-clause-step c = λ opening steps s h.
     subst (λ r. LeadsOn opening steps s (Do c.args.tx.0 (Scan c.args.table c.args.lo c.args.hi)) r c.args.self.now) (came_spent c.from_residual.result c.from_residual.ensures.1)
-    (scan_spent no_readers opening steps s c.args.self.now h c.args.tx c.args.table c.args.lo c.args.hi
+    (scan_spent no_readers opening steps s c.args.self.now h c.args.tx c.args.table c.args.lo c.args.hi tt
     (ap (λ (x : CoreData). why_not_look x.table c.args.tx.0 c.args.table (Range c.args.table c.args.lo c.args.hi)) (sym c.self.view_is) ∙ sym c.not_looked.ensures ∙ c.in_default.is))
 
 pub returns-in_err-kept-clause-step : goal.returns-in_err-kept-clause-step
 returns-in_err-kept-clause-step c = λ opening steps s h.
     subst (λ r. LeadsOn opening steps s (Do c.args.tx.0 (Scan c.args.table c.args.lo c.args.hi)) r c.args.self.now) (came_spent c.from_residual-in_err-kept.result c.from_residual-in_err-kept.ensures.1)
-    (scan_spent no_readers opening steps s c.args.self.now h c.args.tx c.args.table c.args.lo c.args.hi
+    (scan_spent no_readers opening steps s c.args.self.now h c.args.tx c.args.table c.args.lo c.args.hi tt
     (ap (λ (x : CoreData). why_not_look x.table c.args.tx.0 c.args.table (Range c.args.table c.args.lo c.args.hi)) (sym c.self.view_is) ∙ sym c.not_looked.ensures ∙ c.in_default.is))
 
 pub invariant_of-self : goal.invariant_of-self
@@ -45,7 +45,7 @@ invariant_of-self c =
     record {
       stands =
           stands_on i (Do c.args.tx.0 (Scan c.args.table c.args.lo c.args.hi)) (Refused OutOfMemory) (record old { table = c.record_answer_on.new.table })
-          (scan_spent_roomy no_readers i.opening i.steps i.state old i.stands c.args.tx c.args.table c.args.lo c.args.hi (sym c.not_looked.ensures ∙ c.in_default.is) c.record_answer_on.new.table c.in_err-record_answer_on.ensures.err);
+          (scan_spent_roomy no_readers i.opening i.steps i.state old i.stands c.args.tx c.args.table c.args.lo c.args.hi tt (sym c.not_looked.ensures ∙ c.in_default.is) c.record_answer_on.new.table c.in_err-record_answer_on.ensures.err);
       waiting = waits_alike f.table c.record_answer_on.new.table f.versions.slots f.waiting (alike_written f.table c.record_answer_on.new.table c.args.tx.0 HasDoneAsMuch c.in_err-record_answer_on.ensures.err) c.self.invariant.waiting;
     }
 
@@ -54,7 +54,7 @@ returns-in_err-record_answer_on-clause-step c = λ opening steps s h.
     let f = c.self.inside in
     let old : CoreData = core_data f in
     subst (λ r. LeadsOn opening steps s (Do c.args.tx.0 (Scan c.args.table c.args.lo c.args.hi)) r (record old { table = c.record_answer_on.new.table })) (came_spent c.from_residual-in_err-record_answer_on.result c.from_residual-in_err-record_answer_on.ensures.1)
-    (scan_spent_roomy no_readers opening steps s old (subst (StandsFor opening steps s) (sym c.self.view_is) h) c.args.tx c.args.table c.args.lo c.args.hi (sym c.not_looked.ensures ∙ c.in_default.is) c.record_answer_on.new.table c.in_err-record_answer_on.ensures.err)
+    (scan_spent_roomy no_readers opening steps s old (subst (StandsFor opening steps s) (sym c.self.view_is) h) c.args.tx c.args.table c.args.lo c.args.hi tt (sym c.not_looked.ensures ∙ c.in_default.is) c.record_answer_on.new.table c.in_err-record_answer_on.ensures.err)
 
 pub invariant_of-self-2 : goal.invariant_of-self-2
 invariant_of-self-2 c =
@@ -64,7 +64,7 @@ invariant_of-self-2 c =
     record {
       stands =
           stands_on i (Do c.args.tx.0 (Scan c.args.table c.args.lo c.args.hi)) Accepted (record old { table = c.record_answer_on.new.table })
-          (scan_leads no_readers i.opening i.steps i.state old i.stands c.args.tx c.args.table c.args.lo c.args.hi (sym c.not_looked.ensures ∙ c.in_default.is) c.in_ok-scanned.scanned.rows.items c.in_ok-scanned.scanned.on.items c.in_ok-scanned.ensures
+          (scan_leads no_readers i.opening i.steps i.state old i.stands c.args.tx c.args.table c.args.lo c.args.hi (sym c.not_looked.ensures ∙ c.in_default.is) tt c.in_ok-scanned.scanned.rows.items c.in_ok-scanned.scanned.on.items c.in_ok-scanned.ensures
           c.in_ok-kept.kept.items (c.in_ok-kept.ensures ∙ c.deref.ensures.value) c.deref-2.result.now c.deref-2.ensures.value c.record_answer_on.new.table c.in_ok-record_answer_on.ensures.ok);
       waiting = waits_alike f.table c.record_answer_on.new.table f.versions.slots f.waiting (alike_recorded f.table c.record_answer_on.new.table c.args.tx _ _ _ c.in_ok-record_answer_on.ensures.ok) c.self.invariant.waiting;
     }
@@ -73,11 +73,11 @@ pub returns-clause-step : goal.returns-clause-step
 returns-clause-step c = λ opening steps s h.
     let f = c.self.inside in
     let old : CoreData = core_data f in
-    scan_leads no_readers opening steps s old (subst (StandsFor opening steps s) (sym c.self.view_is) h) c.args.tx c.args.table c.args.lo c.args.hi (sym c.not_looked.ensures ∙ c.in_default.is) c.in_ok-scanned.scanned.rows.items c.in_ok-scanned.scanned.on.items c.in_ok-scanned.ensures
+    scan_leads no_readers opening steps s old (subst (StandsFor opening steps s) (sym c.self.view_is) h) c.args.tx c.args.table c.args.lo c.args.hi (sym c.not_looked.ensures ∙ c.in_default.is) tt c.in_ok-scanned.scanned.rows.items c.in_ok-scanned.scanned.on.items c.in_ok-scanned.ensures
     c.in_ok-kept.kept.items (c.in_ok-kept.ensures ∙ c.deref.ensures.value) c.deref-2.result.now c.deref-2.ensures.value c.record_answer_on.new.table c.in_ok-record_answer_on.ensures.ok
 
 pub returns-clause-answer : goal.returns-clause-answer
 returns-clause-answer c = λ opening steps s h.
     let f = c.self.inside in
     let old : CoreData = core_data f in
-    scan_answers no_readers opening steps s old (subst (StandsFor opening steps s) (sym c.self.view_is) h) c.args.tx c.args.table c.args.lo c.args.hi (sym c.not_looked.ensures ∙ c.in_default.is) c.in_ok-scanned.scanned.rows.items c.in_ok-scanned.scanned.on.items c.in_ok-scanned.ensures
+    scan_answers no_readers opening steps s old (subst (StandsFor opening steps s) (sym c.self.view_is) h) c.args.tx c.args.table c.args.lo c.args.hi (sym c.not_looked.ensures ∙ c.in_default.is) tt c.in_ok-scanned.scanned.rows.items c.in_ok-scanned.scanned.on.items c.in_ok-scanned.ensures

@@ -29,7 +29,7 @@ returns-in-Refused-clause-step c = λ opening steps s h.
     let old : CoreData = core_data f in
     let why : why_not_preparing old.table c.args.tx.0 ≡ Some c.in-Refused.refusal = c.in-Refused.ensures in
     subst (λ r. LeadsOn opening steps s (Settle c.args.tx.0) (Refused r) c.give_up.new.self) (sym c.give_up.ensures.same)
-    (settle_refused no_readers opening steps s c.args.self.now h c.args.tx.0 c.in-Refused.refusal c.give_up.new.self
+    (settle_refused no_readers opening steps s c.args.self.now h c.args.tx.0 refl c.in-Refused.refusal c.give_up.new.self
     (ap (λ (v : CoreData). why_not_preparing v.table c.args.tx.0) (sym c.self.view_is) ∙ why) c.give_up.ensures.left)
 
 pub returns-in-NotValidated-clause-step : goal.returns-in-NotValidated-clause-step
@@ -38,7 +38,7 @@ returns-in-NotValidated-clause-step c = λ opening steps s h.
     let old : CoreData = core_data f in
     let g : StandsFor opening steps s old = subst (StandsFor opening steps s) (sym c.self.view_is) h in
     subst (LeadsOn opening steps s (Settle c.args.tx.0) (Refused NotValidated)) c.self.view_is
-    (unvalidated_leads no_readers opening steps s old g c.args.tx c.in-NotValidated.ensures.none c.in-NotValidated.ensures.valid_is)
+    (unvalidated_leads no_readers opening steps s old g c.args.tx c.in-NotValidated.ensures.none refl c.in-NotValidated.ensures.valid_is)
 
 pub returns-in-WaitsFor-clause-step : goal.returns-in-WaitsFor-clause-step
 returns-in-WaitsFor-clause-step c = λ opening steps s h.
@@ -46,21 +46,21 @@ returns-in-WaitsFor-clause-step c = λ opening steps s h.
     let old : CoreData = core_data f in
     let g : StandsFor opening steps s old = subst (StandsFor opening steps s) (sym c.self.view_is) h in
     subst (LeadsOn opening steps s (Settle c.args.tx.0) Accepted) c.self.view_is
-    (waits_leads no_readers opening steps s old g c.args.tx c.in-WaitsFor.ensures.0.none c.in-WaitsFor.other c.in-WaitsFor.ensures.1 c.in-WaitsFor.ensures.0.valid_is)
+    (waits_leads no_readers opening steps s old g c.args.tx c.in-WaitsFor.ensures.0.none refl c.in-WaitsFor.other c.in-WaitsFor.ensures.1 c.in-WaitsFor.ensures.0.valid_is)
 
 pub returns-in-WaitsFor-clause-answer : goal.returns-in-WaitsFor-clause-answer
 returns-in-WaitsFor-clause-answer c = λ opening steps s h.
     let f = c.self.inside in
     let old : CoreData = core_data f in
     let g : StandsFor opening steps s old = subst (StandsFor opening steps s) (sym c.self.view_is) h in
-    waits_for no_readers opening steps s old g c.args.tx c.in-WaitsFor.ensures.0.none c.in-WaitsFor.other c.in-WaitsFor.ensures.1
+    waits_for no_readers opening steps s old g c.args.tx c.in-WaitsFor.ensures.0.none refl c.in-WaitsFor.other c.in-WaitsFor.ensures.1
 
 pub commit-place-requires : goal.commit-place-requires
 commit-place-requires c =
     let f = c.self.inside in
     let i = c.self.invariant.stands in
     let old : CoreData = core_data f in
-    subst StandsPreparing (sym (prepared no_readers i.opening i.steps i.state old i.stands c.args.tx c.in-Ready.ensures.0.none).1) refl
+    subst StandsPreparing (sym (prepared no_readers i.opening i.steps i.state old i.stands c.args.tx c.in-Ready.ensures.0.none refl).1) refl
 
 pub report_settled-requires : goal.report_settled-requires
 report_settled-requires c = λ none.
@@ -74,7 +74,7 @@ settle-requires c =
     let old : CoreData = core_data f in
     open_pending f.tale c.commit-place.result.1 c.commit-place.result.0.0
     (ap (open_end_at f.tale) c.commit-place.ensures.place
-    ∙ place_there no_readers i.opening i.steps i.state old i.stands c.args.tx c.in-Ready.ensures.0.none c.commit-place.result.0 c.commit-place.ensures.end)
+    ∙ place_there no_readers i.opening i.steps i.state old i.stands c.args.tx c.in-Ready.ensures.0.none refl c.commit-place.result.0 c.commit-place.ensures.end)
 
 pub invariant_of-self : goal.invariant_of-self
 invariant_of-self c =
@@ -87,7 +87,7 @@ invariant_of-self c =
     record {
       stands =
           stands_on i (Settle c.args.tx.0) Accepted (record old { table = c.report_settled.new.table; tale = c.settle.new.self })
-          (commits_leads no_readers i.opening i.steps i.state old i.stands c.args.tx none end c.commit-place.ensures.end c.commit-place.new.table c.report_settled.new.table c.commit-place.ensures.left c.report_settled.ensures.told
+          (commits_leads no_readers i.opening i.steps i.state old i.stands c.args.tx none refl end c.commit-place.ensures.end c.commit-place.new.table c.report_settled.new.table c.commit-place.ensures.left c.report_settled.ensures.told
           c.report_settled.ensures.graph entry refl refl c.commit-place.ensures.told c.in-Ready.ensures.1 c.in-Ready.ensures.0.valid_is
           c.settle.new.self (c.settle.ensures ∙ ap (λ p. slice_set f.tale p (Settled entry)) c.commit-place.ensures.place));
       waiting = committed_waits f.table c.commit-place.new.table c.report_settled.new.table c.args.tx end f.versions f.waiting c.commit-place.ensures.end c.commit-place.ensures.left c.report_settled.ensures.told c.self.invariant.waiting;
@@ -101,7 +101,7 @@ returns-clause-step c = λ opening steps s h.
     let none = c.in-Ready.ensures.0.none in
     let end = c.commit-place.result.0 in
     let entry : StoredCommit = record { id = c.args.tx.0; end = end.0; history = history_told c.commit-place.result.2.told.items } in
-    commits_leads no_readers opening steps s old g c.args.tx none end c.commit-place.ensures.end c.commit-place.new.table c.report_settled.new.table c.commit-place.ensures.left c.report_settled.ensures.told
+    commits_leads no_readers opening steps s old g c.args.tx none refl end c.commit-place.ensures.end c.commit-place.new.table c.report_settled.new.table c.commit-place.ensures.left c.report_settled.ensures.told
     c.report_settled.ensures.graph entry refl refl c.commit-place.ensures.told c.in-Ready.ensures.1 c.in-Ready.ensures.0.valid_is
     c.settle.new.self (c.settle.ensures ∙ ap (λ p. slice_set f.tale p (Settled entry)) c.commit-place.ensures.place)
 
@@ -110,4 +110,4 @@ returns-clause-answer c = λ opening steps s h.
     let f = c.self.inside in
     let old : CoreData = core_data f in
     let g : StandsFor opening steps s old = subst (StandsFor opening steps s) (sym c.self.view_is) h in
-    commits_as no_readers opening steps s old g c.args.tx c.in-Ready.ensures.0.none c.in-Ready.ensures.1 c.commit-place.result.0 c.commit-place.ensures.end
+    commits_as no_readers opening steps s old g c.args.tx c.in-Ready.ensures.0.none refl c.in-Ready.ensures.1 c.commit-place.result.0 c.commit-place.ensures.end

@@ -1,8 +1,10 @@
-use Rattle.std.proofs.Common.{ℕ, sym, ap, ◌∙◌, subst}
+use Rattle.std.proofs.Common.{ℕ, sym, ap, ◌∙◌, subst, refl}
+use Rattle.std.proofs.lemmas.Bool.{false≢true}
 use Rattle.mvo_theory.specs.Calls.Call.{Trim}
 use Rattle.mvo_theory.specs.Calls.Result.{Accepted, Refused}
 use Rattle.mvo_types.specs.declared.refusal.Refusal.TheVariants.{NothingToDo}
 use Rattle.mvo_tale.specs.Forgetting.{forgotten}
+use Rattle.mvo_core.proofs.CausesTold.{may_write}
 use Rattle.mvo_core.specs.Readers.{no_readers}
 use Rattle.mvo_core.specs.Data.{CoreData}
 use Rattle.mvo_core.specs.View.{core_data}
@@ -19,6 +21,13 @@ returns-then-not-is_within-clause-step c = λ opening steps s h.
     let g : StandsFor opening steps s old = subst (StandsFor opening steps s) (sym c.self.view_is) h in
     subst (LeadsOn opening steps s (Trim c.args.upto.0) (Refused NothingToDo)) c.self.view_is
     (trim_refused no_readers opening steps s old g c.args.upto.0 c.oldest_begin-oldest.result.0 c.low_water-low_water.result.0 c.oldest_begin-oldest.ensures c.low_water-low_water.ensures (sym c.is_within.ensures ∙ c.if-not-is_within.true))
+
+pub returns-then-is_begin_of_reader-clause-step : goal.returns-then-is_begin_of_reader-clause-step
+returns-then-is_begin_of_reader-clause-step c = λ opening steps s h.
+    let f = c.self.inside in
+    let old : CoreData = core_data f in
+    let g : StandsFor opening steps s old = subst (StandsFor opening steps s) (sym c.self.view_is) h in
+    absurd (false≢true (sym (may_write no_readers opening steps s old g c.args.upto.0 refl) ∙ sym c.is_begin_of_reader.ensures ∙ c.if-is_begin_of_reader.true))
 
 pub invariant_of-self : goal.invariant_of-self
 invariant_of-self c =

@@ -1,4 +1,4 @@
-use Rattle.std.proofs.Common.{◌≡◌, sym, ap, ◌∙◌, subst}
+use Rattle.std.proofs.Common.{◌≡◌, sym, ap, ◌∙◌, subst, refl}
 use Rattle.mvo_types.specs.declared.op.Op.TheVariants.{Update}
 use Rattle.mvo_types.specs.declared.refusal.Refusal.TheVariants.{OutOfMemory}
 use Rattle.mvo_types.specs.AnswerData.AnswerData.{Updated, Absent}
@@ -8,7 +8,7 @@ use Rattle.mvo_txn.specs.Txns.{state_of, IsUnended}
 use Rattle.mvo_visible.specs.Versions.{versions_at}
 use Rattle.mvo_visible.specs.Shown.{AreVersionsInOrder}
 use Rattle.mvo_core.specs.Readers.{no_readers}
-use Rattle.mvo_core.specs.Causes.{why_not_put, flag_of}
+use Rattle.mvo_core.specs.Causes.{why_not_put}
 use Rattle.mvo_core.specs.Data.{CoreData}
 use Rattle.mvo_core.specs.View.{core_data}
 use Rattle.mvo_core.specs.Standing.{StandsFor}
@@ -16,7 +16,7 @@ use Rattle.mvo_core.specs.Steps.{LeadsOn}
 use Rattle.mvo_core.proofs.Allowed.{unended_if_active, may_update}
 use Rattle.mvo_core.proofs.Asked.{own_if_active, active_if_put, may_put_failing}
 use Rattle.mvo_core.proofs.Begun.{stands_on}
-use Rattle.mvo_core.proofs.CausesTold.{none_active}
+use Rattle.mvo_core.proofs.CausesTold.{stands_active}
 use Rattle.mvo_core.proofs.Looked.{shown_in}
 use Rattle.mvo_core.proofs.Refused.{came_spent}
 use Rattle.mvo_core.proofs.Updating.{update_starved, update_refused, update_conflicts, update_spent, update_left, absent_answers, absent_leads, updated_answers, updated_live, updated_leads}
@@ -33,7 +33,7 @@ give_up-requires c =
 pub returns-in-Some-clause-step : goal.returns-in-Some-clause-step
 returns-in-Some-clause-step c = λ opening steps s h.
     subst (λ r. LeadsOn opening steps s (Do c.args.tx.0 (Update c.args.row)) (Refused r) c.give_up.new.self) (sym c.give_up.ensures.same)
-    (update_refused no_readers opening steps s c.args.self.now h c.args.tx c.args.row c.in-Some.refusal
+    (update_refused no_readers opening steps s c.args.self.now h c.args.tx c.args.row refl c.in-Some.refusal
     (ap (λ (x : CoreData). why_not_put x.table c.args.tx.0 c.args.row) (sym c.self.view_is) ∙ sym c.not_put.ensures ∙ c.in-Some.is) c.give_up.new.self
     (c.give_up.ensures.left no_readers opening steps s h))
 
@@ -48,7 +48,7 @@ returns-in-Some-in_the_way-clause-step c = λ opening steps s h.
     let old : CoreData = core_data f in
     let is = subst (λ k. AreVersionsInOrder (state_of f.table) c.args.tx.0 c.args.tx.0 (versions_at f.versions.slots f.versions.lists k) → c.shown-found.result ≡ shown_in old c.args.tx.0 k) c.row_key-key.ensures c.shown-found.ensures in
     subst (λ r. LeadsOn opening steps s (Do c.args.tx.0 (Update c.args.row)) (Refused r) c.give_up-in-Some-in_the_way.new.self) (sym c.give_up-in-Some-in_the_way.ensures.same)
-    (update_conflicts no_readers opening steps s old (subst (StandsFor opening steps s) (sym c.self.view_is) h) c.args.tx c.args.row (sym c.not_put.ensures ∙ c.in_default.is) c.shown-found.result is c.in-Some-in_the_way.cause (sym c.in_the_way.ensures ∙ c.in-Some-in_the_way.is)
+    (update_conflicts no_readers opening steps s old (subst (StandsFor opening steps s) (sym c.self.view_is) h) c.args.tx c.args.row refl (sym c.not_put.ensures ∙ c.in_default.is) c.shown-found.result is c.in-Some-in_the_way.cause (sym c.in_the_way.ensures ∙ c.in-Some-in_the_way.is)
     c.give_up-in-Some-in_the_way.new.self (c.give_up-in-Some-in_the_way.ensures.left no_readers opening steps s h))
 
 pub record_answer-requires-clause-there : goal.record_answer-requires-clause-there
@@ -68,7 +68,7 @@ invariant_of-self c =
     record {
       stands =
           stands_on i (Do c.args.tx.0 (Update c.args.row)) (Refused OutOfMemory) (record old { table = c.record_answer.new.table })
-          (update_spent no_readers i.opening i.steps i.state old i.stands c.args.tx c.args.row (sym c.not_put.ensures ∙ c.in_default.is) c.shown-found.result is (sym c.in_the_way.ensures ∙ c.in_default-in_the_way.is) c.record_answer.new.table c.in_err-record_answer.ensures.err);
+          (update_spent no_readers i.opening i.steps i.state old i.stands c.args.tx c.args.row refl (sym c.not_put.ensures ∙ c.in_default.is) c.shown-found.result is (sym c.in_the_way.ensures ∙ c.in_default-in_the_way.is) c.record_answer.new.table c.in_err-record_answer.ensures.err);
       waiting = waits_alike f.table c.record_answer.new.table f.versions.slots f.waiting (alike_written f.table c.record_answer.new.table c.args.tx.0 HasDoneAsMuch c.in_err-record_answer.ensures.err) c.self.invariant.waiting;
     }
 
@@ -78,7 +78,7 @@ returns-in_err-record_answer-clause-step c = λ opening steps s h.
     let old : CoreData = core_data f in
     let is = subst (λ k. AreVersionsInOrder (state_of f.table) c.args.tx.0 c.args.tx.0 (versions_at f.versions.slots f.versions.lists k) → c.shown-found.result ≡ shown_in old c.args.tx.0 k) c.row_key-key.ensures c.shown-found.ensures in
     subst (λ r. LeadsOn opening steps s (Do c.args.tx.0 (Update c.args.row)) r (record old { table = c.record_answer.new.table })) (came_spent c.from_residual.result c.from_residual.ensures.1)
-    (update_spent no_readers opening steps s old (subst (StandsFor opening steps s) (sym c.self.view_is) h) c.args.tx c.args.row (sym c.not_put.ensures ∙ c.in_default.is) c.shown-found.result is (sym c.in_the_way.ensures ∙ c.in_default-in_the_way.is) c.record_answer.new.table c.in_err-record_answer.ensures.err)
+    (update_spent no_readers opening steps s old (subst (StandsFor opening steps s) (sym c.self.view_is) h) c.args.tx c.args.row refl (sym c.not_put.ensures ∙ c.in_default.is) c.shown-found.result is (sym c.in_the_way.ensures ∙ c.in_default-in_the_way.is) c.record_answer.new.table c.in_err-record_answer.ensures.err)
 
 pub invariant_of-self-in_default-version : goal.invariant_of-self-in_default-version
 invariant_of-self-in_default-version c =
@@ -89,7 +89,7 @@ invariant_of-self-in_default-version c =
     record {
       stands =
           stands_on i (Do c.args.tx.0 (Update c.args.row)) Accepted (record old { table = c.record_answer.new.table })
-          (absent_leads no_readers i.opening i.steps i.state old i.stands c.args.tx c.args.row (sym c.not_put.ensures ∙ c.in_default.is) c.shown-found.result is (sym c.in_the_way.ensures ∙ c.in_default-in_the_way.is) c.in_default-version.is c.record_answer.new.table c.in_ok-record_answer.ensures.ok);
+          (absent_leads no_readers i.opening i.steps i.state old i.stands c.args.tx c.args.row refl (sym c.not_put.ensures ∙ c.in_default.is) c.shown-found.result is (sym c.in_the_way.ensures ∙ c.in_default-in_the_way.is) c.in_default-version.is c.record_answer.new.table c.in_ok-record_answer.ensures.ok);
       waiting = waits_alike f.table c.record_answer.new.table f.versions.slots f.waiting (alike_recorded f.table c.record_answer.new.table c.args.tx _ _ _ c.in_ok-record_answer.ensures.ok) c.self.invariant.waiting;
     }
 
@@ -98,14 +98,14 @@ returns-in_default-version-clause-step c = λ opening steps s h.
     let f = c.self.inside in
     let old : CoreData = core_data f in
     let is = subst (λ k. AreVersionsInOrder (state_of f.table) c.args.tx.0 c.args.tx.0 (versions_at f.versions.slots f.versions.lists k) → c.shown-found.result ≡ shown_in old c.args.tx.0 k) c.row_key-key.ensures c.shown-found.ensures in
-    absent_leads no_readers opening steps s old (subst (StandsFor opening steps s) (sym c.self.view_is) h) c.args.tx c.args.row (sym c.not_put.ensures ∙ c.in_default.is) c.shown-found.result is (sym c.in_the_way.ensures ∙ c.in_default-in_the_way.is) c.in_default-version.is c.record_answer.new.table c.in_ok-record_answer.ensures.ok
+    absent_leads no_readers opening steps s old (subst (StandsFor opening steps s) (sym c.self.view_is) h) c.args.tx c.args.row refl (sym c.not_put.ensures ∙ c.in_default.is) c.shown-found.result is (sym c.in_the_way.ensures ∙ c.in_default-in_the_way.is) c.in_default-version.is c.record_answer.new.table c.in_ok-record_answer.ensures.ok
 
 pub returns-in_default-version-clause-answer : goal.returns-in_default-version-clause-answer
 returns-in_default-version-clause-answer c = λ opening steps s h.
     let f = c.self.inside in
     let old : CoreData = core_data f in
     let is = subst (λ k. AreVersionsInOrder (state_of f.table) c.args.tx.0 c.args.tx.0 (versions_at f.versions.slots f.versions.lists k) → c.shown-found.result ≡ shown_in old c.args.tx.0 k) c.row_key-key.ensures c.shown-found.ensures in
-    absent_answers no_readers opening steps s old (subst (StandsFor opening steps s) (sym c.self.view_is) h) c.args.tx c.args.row (sym c.not_put.ensures ∙ c.in_default.is) c.shown-found.result is (sym c.in_the_way.ensures ∙ c.in_default-in_the_way.is) c.in_default-version.is
+    absent_answers no_readers opening steps s old (subst (StandsFor opening steps s) (sym c.self.view_is) h) c.args.tx c.args.row refl (sym c.not_put.ensures ∙ c.in_default.is) c.shown-found.result is (sym c.in_the_way.ensures ∙ c.in_default-in_the_way.is) c.in_default-version.is
 
 pub put_instead-requires-clause-there : goal.put_instead-requires-clause-there
 put_instead-requires-clause-there c =
@@ -121,7 +121,7 @@ put_instead-requires-clause-live c =
     let i = c.self.invariant.stands in
     let old : CoreData = core_data f in
     let is = subst (λ k. AreVersionsInOrder (state_of f.table) c.args.tx.0 c.args.tx.0 (versions_at f.versions.slots f.versions.lists k) → c.shown-found.result ≡ shown_in old c.args.tx.0 k) c.row_key-key.ensures c.shown-found.ensures in
-    updated_live no_readers i.opening i.steps i.state old i.stands c.args.tx c.args.row (sym c.not_put.ensures ∙ c.in_default.is) c.shown-found.result is (sym c.in_the_way.ensures ∙ c.in_default-in_the_way.is) c.in-Some-version.old c.in-Some-version.is
+    updated_live no_readers i.opening i.steps i.state old i.stands c.args.tx c.args.row refl (sym c.not_put.ensures ∙ c.in_default.is) c.shown-found.result is (sym c.in_the_way.ensures ∙ c.in_default-in_the_way.is) c.in-Some-version.old c.in-Some-version.is
 
 pub invariant_of-self-in_err-put_instead : goal.invariant_of-self-in_err-put_instead
 invariant_of-self-in_err-put_instead c =
@@ -132,7 +132,7 @@ invariant_of-self-in_err-put_instead c =
     record {
       stands =
           stands_on i (Do c.args.tx.0 (Update c.args.row)) (Refused OutOfMemory) (record old { versions = c.put_instead.new.versions; table = c.put_instead.new.table })
-          (update_left no_readers i.opening i.steps i.state old i.stands c.args.tx c.args.row (sym c.not_put.ensures ∙ c.in_default.is) c.shown-found.result is (sym c.in_the_way.ensures ∙ c.in_default-in_the_way.is) c.put_instead.new.versions c.put_instead.new.table c.in_err-put_instead.ensures.err);
+          (update_left no_readers i.opening i.steps i.state old i.stands c.args.tx c.args.row refl (sym c.not_put.ensures ∙ c.in_default.is) c.shown-found.result is (sym c.in_the_way.ensures ∙ c.in_default-in_the_way.is) c.put_instead.new.versions c.put_instead.new.table c.in_err-put_instead.ensures.err);
       waiting = waits_spent f.table c.put_instead.new.table c.args.tx.0 f.versions c.put_instead.new.versions f.waiting c.make_room.new.self c.make_room.ensures.same c.in_err-put_instead.ensures.err.versions c.in_err-put_instead.ensures.err.own c.self.invariant.waiting;
     }
 
@@ -142,7 +142,7 @@ returns-in_err-put_instead-clause-step c = λ opening steps s h.
     let old : CoreData = core_data f in
     let is = subst (λ k. AreVersionsInOrder (state_of f.table) c.args.tx.0 c.args.tx.0 (versions_at f.versions.slots f.versions.lists k) → c.shown-found.result ≡ shown_in old c.args.tx.0 k) c.row_key-key.ensures c.shown-found.ensures in
     subst (λ r. LeadsOn opening steps s (Do c.args.tx.0 (Update c.args.row)) r (record old { versions = c.put_instead.new.versions; table = c.put_instead.new.table })) (came_spent c.from_residual-in_err-put_instead.result c.from_residual-in_err-put_instead.ensures.1)
-    (update_left no_readers opening steps s old (subst (StandsFor opening steps s) (sym c.self.view_is) h) c.args.tx c.args.row (sym c.not_put.ensures ∙ c.in_default.is) c.shown-found.result is (sym c.in_the_way.ensures ∙ c.in_default-in_the_way.is) c.put_instead.new.versions c.put_instead.new.table c.in_err-put_instead.ensures.err)
+    (update_left no_readers opening steps s old (subst (StandsFor opening steps s) (sym c.self.view_is) h) c.args.tx c.args.row refl (sym c.not_put.ensures ∙ c.in_default.is) c.shown-found.result is (sym c.in_the_way.ensures ∙ c.in_default-in_the_way.is) c.put_instead.new.versions c.put_instead.new.table c.in_err-put_instead.ensures.err)
 
 pub invariant_of-self-2 : goal.invariant_of-self-2
 invariant_of-self-2 c =
@@ -153,8 +153,8 @@ invariant_of-self-2 c =
     record {
       stands =
           stands_on i (Do c.args.tx.0 (Update c.args.row)) Accepted (record old { versions = c.put_instead.new.versions; table = c.put_instead.new.table })
-          (updated_leads no_readers i.opening i.steps i.state old i.stands c.args.tx c.args.row (sym c.not_put.ensures ∙ c.in_default.is) c.shown-found.result is (sym c.in_the_way.ensures ∙ c.in_default-in_the_way.is) c.in-Some-version.old c.in-Some-version.is c.put_instead.new.versions c.put_instead.new.table c.in_ok-put_instead.ensures.ok);
-      waiting = waits_replaced f.versions c.put_instead.new.versions f.table c.put_instead.new.table c.args.tx (option_to_list c.shown-found.result.depends_on) f.waiting c.make_room.new.self c.make_room.ensures.same c.in-Some-version.old c.args.row c.has_open_end-is_open.result c.owe.new.self c.owe_end.new.waiting (none_active (state_of f.table c.args.tx.0) (flag_of f.table c.args.tx.0) (active_if_put f.table c.args.tx.0 c.args.row (sym c.not_put.ensures ∙ c.in_default.is))) (updated_live no_readers i.opening i.steps i.state old i.stands c.args.tx c.args.row (sym c.not_put.ensures ∙ c.in_default.is) c.shown-found.result is (sym c.in_the_way.ensures ∙ c.in_default-in_the_way.is) c.in-Some-version.old c.in-Some-version.is) c.in_ok-put_instead.ensures.ok c.has_open_end-is_open.ensures c.owe.ensures c.owe_end.ensures c.self.invariant.waiting;
+          (updated_leads no_readers i.opening i.steps i.state old i.stands c.args.tx c.args.row refl (sym c.not_put.ensures ∙ c.in_default.is) c.shown-found.result is (sym c.in_the_way.ensures ∙ c.in_default-in_the_way.is) c.in-Some-version.old c.in-Some-version.is c.put_instead.new.versions c.put_instead.new.table c.in_ok-put_instead.ensures.ok);
+      waiting = waits_replaced f.versions c.put_instead.new.versions f.table c.put_instead.new.table c.args.tx (option_to_list c.shown-found.result.depends_on) f.waiting c.make_room.new.self c.make_room.ensures.same c.in-Some-version.old c.args.row c.has_open_end-is_open.result c.owe.new.self c.owe_end.new.waiting (stands_active f.table c.args.tx.0 (active_if_put f.table c.args.tx.0 c.args.row (sym c.not_put.ensures ∙ c.in_default.is))) (updated_live no_readers i.opening i.steps i.state old i.stands c.args.tx c.args.row refl (sym c.not_put.ensures ∙ c.in_default.is) c.shown-found.result is (sym c.in_the_way.ensures ∙ c.in_default-in_the_way.is) c.in-Some-version.old c.in-Some-version.is) c.in_ok-put_instead.ensures.ok c.has_open_end-is_open.ensures c.owe.ensures c.owe_end.ensures c.self.invariant.waiting;
     }
 
 pub returns-clause-step : goal.returns-clause-step
@@ -162,14 +162,14 @@ returns-clause-step c = λ opening steps s h.
     let f = c.self.inside in
     let old : CoreData = core_data f in
     let is = subst (λ k. AreVersionsInOrder (state_of f.table) c.args.tx.0 c.args.tx.0 (versions_at f.versions.slots f.versions.lists k) → c.shown-found.result ≡ shown_in old c.args.tx.0 k) c.row_key-key.ensures c.shown-found.ensures in
-    updated_leads no_readers opening steps s old (subst (StandsFor opening steps s) (sym c.self.view_is) h) c.args.tx c.args.row (sym c.not_put.ensures ∙ c.in_default.is) c.shown-found.result is (sym c.in_the_way.ensures ∙ c.in_default-in_the_way.is) c.in-Some-version.old c.in-Some-version.is c.put_instead.new.versions c.put_instead.new.table c.in_ok-put_instead.ensures.ok
+    updated_leads no_readers opening steps s old (subst (StandsFor opening steps s) (sym c.self.view_is) h) c.args.tx c.args.row refl (sym c.not_put.ensures ∙ c.in_default.is) c.shown-found.result is (sym c.in_the_way.ensures ∙ c.in_default-in_the_way.is) c.in-Some-version.old c.in-Some-version.is c.put_instead.new.versions c.put_instead.new.table c.in_ok-put_instead.ensures.ok
 
 pub returns-clause-answer : goal.returns-clause-answer
 returns-clause-answer c = λ opening steps s h.
     let f = c.self.inside in
     let old : CoreData = core_data f in
     let is = subst (λ k. AreVersionsInOrder (state_of f.table) c.args.tx.0 c.args.tx.0 (versions_at f.versions.slots f.versions.lists k) → c.shown-found.result ≡ shown_in old c.args.tx.0 k) c.row_key-key.ensures c.shown-found.ensures in
-    updated_answers no_readers opening steps s old (subst (StandsFor opening steps s) (sym c.self.view_is) h) c.args.tx c.args.row (sym c.not_put.ensures ∙ c.in_default.is) c.shown-found.result is (sym c.in_the_way.ensures ∙ c.in_default-in_the_way.is) c.in-Some-version.old c.in-Some-version.is
+    updated_answers no_readers opening steps s old (subst (StandsFor opening steps s) (sym c.self.view_is) h) c.args.tx c.args.row refl (sym c.not_put.ensures ∙ c.in_default.is) c.shown-found.result is (sym c.in_the_way.ensures ∙ c.in_default-in_the_way.is) c.in-Some-version.old c.in-Some-version.is
 
 -- ---- for want of room for what waits
 pub invariant_of-self-in_err-make_room : goal.invariant_of-self-in_err-make_room
@@ -186,4 +186,4 @@ returns-in_err-make_room-clause-step c = λ opening steps s h.
     let old : CoreData = core_data f in
     let is = subst (λ k. AreVersionsInOrder (state_of f.table) c.args.tx.0 c.args.tx.0 (versions_at f.versions.slots f.versions.lists k) → c.shown-found.result ≡ shown_in old c.args.tx.0 k) c.row_key-key.ensures c.shown-found.ensures in
     subst (λ r. LeadsOn opening steps s (Do c.args.tx.0 (Update c.args.row)) r old) (came_spent c.from_residual-in_err-make_room.result c.from_residual-in_err-make_room.ensures.1)
-    (update_starved no_readers opening steps s old (subst (StandsFor opening steps s) (sym c.self.view_is) h) c.args.tx c.args.row (sym c.not_put.ensures ∙ c.in_default.is) c.shown-found.result is (sym c.in_the_way.ensures ∙ c.in_default-in_the_way.is))
+    (update_starved no_readers opening steps s old (subst (StandsFor opening steps s) (sym c.self.view_is) h) c.args.tx c.args.row refl (sym c.not_put.ensures ∙ c.in_default.is) c.shown-found.result is (sym c.in_the_way.ensures ∙ c.in_default-in_the_way.is))

@@ -21,7 +21,7 @@ returns-in-Refused-clause-step c = λ opening steps s h.
     let old : CoreData = core_data f in
     let why : why_not_preparing old.table c.args.tx.0 ≡ Some c.in-Refused.refusal = c.in-Refused.ensures in
     subst (λ r. LeadsOn opening steps s (Validate c.args.tx.0) (Refused r) c.give_up.new.self) (sym c.give_up.ensures.same)
-    (validate_refused no_readers opening steps s c.args.self.now h c.args.tx.0 c.in-Refused.refusal c.give_up.new.self
+    (validate_refused no_readers opening steps s c.args.self.now h c.args.tx.0 refl c.in-Refused.refusal c.give_up.new.self
     (ap (λ (v : CoreData). why_not_preparing v.table c.args.tx.0) (sym c.self.view_is) ∙ why) c.give_up.ensures.left)
 
 pub returns-in-Valid-clause-step : goal.returns-in-Valid-clause-step
@@ -30,14 +30,14 @@ returns-in-Valid-clause-step c = λ opening steps s h.
     let old : CoreData = core_data f in
     let g : StandsFor opening steps s old = subst (StandsFor opening steps s) (sym c.self.view_is) h in
     subst (LeadsOn opening steps s (Validate c.args.tx.0) Accepted) c.self.view_is
-    (valid_leads no_readers opening steps s old g c.args.tx.0 c.in-Valid.ensures.none c.in-Valid.ensures.valid_is)
+    (valid_leads no_readers opening steps s old g c.args.tx.0 c.in-Valid.ensures.none refl c.in-Valid.ensures.valid_is)
 
 pub returns-in-Valid-clause-answer : goal.returns-in-Valid-clause-answer
 returns-in-Valid-clause-answer c = λ opening steps s h.
     let f = c.self.inside in
     let old : CoreData = core_data f in
     let g : StandsFor opening steps s old = subst (StandsFor opening steps s) (sym c.self.view_is) h in
-    valid_answers no_readers opening steps s old g c.args.tx.0 c.in-Valid.ensures.none c.in-Valid.ensures.valid_is
+    valid_answers no_readers opening steps s old g c.args.tx.0 c.in-Valid.ensures.none refl c.in-Valid.ensures.valid_is
 
 pub returns-in-Differs-clause-step : goal.returns-in-Differs-clause-step
 returns-in-Differs-clause-step c = λ opening steps s h.
@@ -47,14 +47,14 @@ returns-in-Differs-clause-step c = λ opening steps s h.
     let g : StandsFor opening steps s old = subst (StandsFor opening steps s) (sym c.self.view_is) h in
     let left : IsGivenUp old c.args.tx.0 (ValidationFailed c.in-Differs.stamp) c.give_up-in-Differs.new.self = subst (λ (v : CoreData). IsGivenUp v c.args.tx.0 (ValidationFailed c.in-Differs.stamp) c.give_up-in-Differs.new.self) (sym c.self.view_is) c.give_up-in-Differs.ensures.left in
     subst (λ r. LeadsOn opening steps s (Validate c.args.tx.0) (Refused r) c.give_up-in-Differs.new.self) (sym c.give_up-in-Differs.ensures.same)
-    (differs_leads no_readers opening steps s old g c.args.tx.0 c.in-Differs.ensures.0.none c.in-Differs.ensures.0.valid_is c.in-Differs.stamp c.give_up-in-Differs.new.self (c.in-Differs.ensures.1 (fall no_readers opening steps s old g)) left)
+    (differs_leads no_readers opening steps s old g c.args.tx.0 c.in-Differs.ensures.0.none refl c.in-Differs.ensures.0.valid_is c.in-Differs.stamp c.give_up-in-Differs.new.self (c.in-Differs.ensures.1 (fall no_readers opening steps s old g)) left)
 
 pub count_check-requires : goal.count_check-requires
 count_check-requires c =
     let f = c.self.inside in
     let i = c.self.invariant.stands in
     let old : CoreData = core_data f in
-    own_there no_readers i.opening i.steps i.state old i.stands c.args.tx.0 c.in-Same.ensures.0.none
+    own_there no_readers i.opening i.steps i.state old i.stands c.args.tx.0 c.in-Same.ensures.0.none refl
 
 pub invariant_of-self : goal.invariant_of-self
 invariant_of-self c =
@@ -64,7 +64,7 @@ invariant_of-self c =
     record {
       stands =
           stands_on i (Validate c.args.tx.0) Accepted (record old { table = c.count_check.new.table })
-          (counted_leads no_readers i.opening i.steps i.state old i.stands c.args.tx.0 c.in-Same.ensures.0.none c.in-Same.ensures.0.valid_is c.count_check.new.table c.count_check.ensures.counted refl (c.in-Same.ensures.1 (fall no_readers i.opening i.steps i.state old i.stands)));
+          (counted_leads no_readers i.opening i.steps i.state old i.stands c.args.tx.0 c.in-Same.ensures.0.none refl c.in-Same.ensures.0.valid_is c.count_check.new.table c.count_check.ensures.counted (c.in-Same.ensures.1 (fall no_readers i.opening i.steps i.state old i.stands)));
       waiting = waits_alike f.table c.count_check.new.table f.versions.slots f.waiting (alike_written f.table c.count_check.new.table c.args.tx.0 IsCounted c.count_check.ensures.counted) c.self.invariant.waiting;
     }
 
@@ -73,11 +73,11 @@ returns-in-Same-clause-step c = λ opening steps s h.
     let f = c.self.inside in
     let old : CoreData = core_data f in
     let g : StandsFor opening steps s old = subst (StandsFor opening steps s) (sym c.self.view_is) h in
-    counted_leads no_readers opening steps s old g c.args.tx.0 c.in-Same.ensures.0.none c.in-Same.ensures.0.valid_is c.count_check.new.table c.count_check.ensures.counted refl (c.in-Same.ensures.1 (fall no_readers opening steps s old g))
+    counted_leads no_readers opening steps s old g c.args.tx.0 c.in-Same.ensures.0.none refl c.in-Same.ensures.0.valid_is c.count_check.new.table c.count_check.ensures.counted (c.in-Same.ensures.1 (fall no_readers opening steps s old g))
 
 pub returns-in-Same-clause-answer : goal.returns-in-Same-clause-answer
 returns-in-Same-clause-answer c = λ opening steps s h.
     let f = c.self.inside in
     let old : CoreData = core_data f in
     let g : StandsFor opening steps s old = subst (StandsFor opening steps s) (sym c.self.view_is) h in
-    c.count_check.ensures.answer ∙ counts_as no_readers opening steps s old g c.args.tx.0 c.in-Same.ensures.0.none c.in-Same.ensures.0.valid_is
+    c.count_check.ensures.answer ∙ counts_as no_readers opening steps s old g c.args.tx.0 c.in-Same.ensures.0.none refl c.in-Same.ensures.0.valid_is
