@@ -10,6 +10,7 @@ pub mod Starts
 pub mod Booked
 pub mod SentRows
 pub mod Flushed
+pub mod Forgetting
 pub mod Pouring
 mod Refused
 mod Transacting

@@ -11,6 +11,7 @@ pub mod Flushing
 pub mod Collecting
 pub mod Booked
 pub mod Stored
+pub mod Forgetting
 pub mod Settling
 pub mod Asked
 pub mod Refusing

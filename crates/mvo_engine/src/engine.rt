@@ -94,6 +94,7 @@ impl<L: Run, D: Disk, G: Gate + Drop> Engine<L, D, G> {
     pub fn session<R: Wait>(&self, rt: &R) -> Result<Session<'_, L, D, G>, Refusal>
         ensures ok { IfOk result (λ session. session.tx ≡ None) }
         ensures receipts { IfOk result (λ session. session.receipts ≡ []) }
+        ensures forgotten { IfOk result (λ session. session.forgotten ≡ 0) }
         ensures err { IfErr result (λ r. r ≡ Refusal.TableFull) }
         ensures made { WasMade L.opening result }
     {

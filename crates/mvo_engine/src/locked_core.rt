@@ -162,6 +162,7 @@ impl<L: Run> LockedCore<L> {
         ensures sound { IsSoundCore L.opening self.old.core self.old.sends.sent }
         ensures seat { IfSome result (λ given. given.0.marks ≡ L.marks) }
         ensures receipts { IfSome result (λ given. given.1.list ≡ []) }
+        ensures forgotten { IfSome result (λ given. given.1.forgotten ≡ 0) }
         ensures made { IsAnother self.old result self.new }
     {
         if self.made >= MAX_SESSIONS {

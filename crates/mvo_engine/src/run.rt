@@ -2,6 +2,7 @@
 
 mod copying;
 mod counting;
+mod kept_receipts;
 mod receipt;
 mod receipts;
 mod run;

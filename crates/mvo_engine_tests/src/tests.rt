@@ -5,6 +5,7 @@ mod day;
 mod depending;
 mod down;
 mod ending;
+mod forgetting;
 mod gathering;
 mod held_disk;
 mod jobs;

@@ -1,4 +1,5 @@
-use Rattle.std.proofs.Common.{◌∙◌, arith}
+use Rattle.std.proofs.Common.{arith}
+use Rattle.mvo_engine.proofs.Forgetting.{more_forgotten}
 use Rattle.mvo_engine.proofs.Transacting.{ended_by, failed_more}
 use Rattle.mvo_engine.proofs.session.Session.attempts.Goals as goal
 
@@ -13,4 +14,4 @@ pub loop-failures-preserved : goal.loop-failures-preserved
 loop-failures-preserved g c =
     let l = c.loop-failures in
     let last = c.in-Err.ensures in
-    (failed_more g.L.Run.opening (g.W.Transaction.comes_to c.args.work.now) l._failures c.args.self.now l.self c.attempt.new.self c.in-Err.refusal c.is_failure.result l.invariant.0 last c.is_failure.ensures c.if-not-is_failure.false, last.receipts ∙ l.invariant.1, last.tx)
+    (failed_more g.L.Run.opening (g.W.Transaction.comes_to c.args.work.now) l._failures c.args.self.now l.self c.attempt.new.self c.in-Err.refusal c.is_failure.result l.invariant.0 last c.is_failure.ensures c.if-not-is_failure.false, more_forgotten g.L.Run.opening c.args.self.now.receipts l.self.receipts c.attempt.new.self.receipts l.invariant.1 last.receipts, last.tx)
