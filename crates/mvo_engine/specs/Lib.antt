@@ -12,6 +12,7 @@ pub mod Collecting
 pub mod Booked
 pub mod Stored
 pub mod Forgetting
+pub mod Retiring
 pub mod Settling
 pub mod Asked
 pub mod Refusing

@@ -62,6 +62,7 @@ impl<'e, L: Run, D: Disk, G: Gate + Drop> Model for Session<'e, L, D, G> {
 
 impl<'e, L: Run, D: Disk, G: Gate + Drop> Session<'e, L, D, G> {
     ghost use Rattle.std.specs.Prelude.{◌≡◌, ◌≤◌, None, IsTrue, OnOk, IfErr};
+    ghost use Rattle.std.specs.Option.{is_some};
     ghost use Rattle.mvo_types.specs.declared.refusal.Refusal.{Refusal};
     ghost use Rattle.mvo_store.specs.Seen.{mark_of};
     ghost use Rattle.mvo_engine.specs.Asked.{WasDown};
@@ -107,6 +108,13 @@ impl<'e, L: Run, D: Disk, G: Gate + Drop> Session<'e, L, D, G> {
         ensures rising { Rises self.now.receipts }
     {
         self.receipts.list()
+    }
+
+    // Whether it is in a transaction.
+    pub(crate) fn has_tx(&self) -> bool
+        ensures { result ≡ is_some self.now.tx }
+    {
+        self.tx.is_some()
     }
 
     // None of the receipts that it let go of ends above this.

@@ -11,6 +11,7 @@ mod held_disk;
 mod jobs;
 mod meeting;
 mod reads_free;
+mod retiring;
 mod rows;
 mod sessions;
 mod through;
