@@ -1,17 +1,17 @@
 -- Receipts are let go of.
-use Rattle.std.proofs.Common.{◌≡◌, ℕ, ◌+◌, ◌≤◌, ◌<◌, length, List, [], ◌∷◌, ◌++◌, refl, sym, ap, ◌∙◌, subst, arith}
-use Rattle.std.specs.Prelude.{nat_lt, max, IsTrue, Bool, true, false}
-use Rattle.std.specs.List.{AllByRecursion, filter}
+use Rattle.std.proofs.Common.{◌≡◌, ℕ, ◌+◌, ◌≤◌, ◌<◌, cond, length, drop, get_or, set, List, [], ◌∷◌, ◌++◌, refl, sym, ap, ◌∙◌, subst, arith}
+use Rattle.std.specs.Prelude.{max, Bool, true}
 use Rattle.std.proofs.lemmas.Bool.{lt-ltb, le-ltb}
-use Rattle.std.proofs.lemmas.List.{append_assoc, length-append}
+use Rattle.std.proofs.lemmas.List.{append_assoc, length-append, drop-append-le, drop_more, drop-set-lt}
 use Rattle.std.proofs.lemmas.List.Sums.{sum_by-cons, sum_by-append}
 use Rattle.mvo_theory.proofs.Each.{each_append, each_weaker, each_back}
 use Rattle.mvo_core.specs.Receipts.{Receipt}
 use Rattle.mvo_engine.specs.run.Opening.{Opening}
-use Rattle.mvo_engine.specs.run.Receiving.{AreUpTo, AreBelow, AreAbove, Rises, HasLetGo}
+use Rattle.mvo_engine.specs.run.Receiving.{AreUpTo, AreBelow, AreAbove, Rises, HasLetGo, HasLetGoFirst}
 use Rattle.mvo_engine.specs.run.Watching.{Watched, count_of}
+use Rattle.mvo_engine.proofs.run.Receiving.{rises_append}
 use Rattle.mvo_engine.specs.States.{SessionState}
-use Rattle.mvo_engine.specs.Forgetting.{above_start, HasForgottenAll, WasUpToStart, HasForgottenSome, HasForgottenAny}
+use Rattle.mvo_engine.specs.Forgetting.{above_start, WasUpToStart, HasForgottenSome, HasForgottenAny}
 
 -- ---- a list
 pub rises_behind : (r : Receipt) (rs : List Receipt) → Rises (r ∷ rs) → Rises rs
@@ -20,6 +20,26 @@ rises_behind r rs up = up.1
 -- where the first one ends above the stamp, all do
 pub all_above : (start : ℕ) (r : Receipt) (rs : List Receipt) → start < r.end → Rises (r ∷ rs) → AreAbove start (r ∷ rs)
 all_above start r rs low up = (low, each_weaker (λ (x : Receipt). r.end < x.end) (λ (x : Receipt). start < x.end) (λ x p. omega (arith, p, low)) rs up.0)
+
+-- those behind the ones that were let go of, with one more
+pub left_append : (g : ℕ) (xs all : List Receipt) (r : Receipt) → g ≤ length xs → all ≡ xs ++ r ∷ [] → drop g all ≡ drop g xs ++ r ∷ []
+left_append g xs all r le is = ap (drop g) is ∙ drop-append-le g xs (r ∷ []) le
+
+pub left_rises : (g : ℕ) (xs all : List Receipt) (r : Receipt) → g ≤ length xs → all ≡ xs ++ r ∷ [] → Rises (drop g xs) → AreBelow r.end (drop g xs) → Rises (drop g all)
+left_rises g xs all r le is up below = subst Rises (sym (left_append g xs all r le is)) (rises_append (drop g xs) r up below)
+
+-- the first of those that are left ends above the start, so all do
+pub left_above_start : (start g : ℕ) (xs : List Receipt) (r : Receipt) → g < length xs → r ≡ get_or xs g r → start < r.end → Rises (drop g xs) → AreAbove start (drop g xs)
+left_above_start start g xs r within is low up =
+    let e : drop g xs ≡ r ∷ drop (g + 1) xs = drop_more xs g r within ∙ ap (λ (x : Receipt). x ∷ drop (g + 1) xs) (sym is) in
+    subst (AreAbove start) (sym e) (all_above start r (drop (g + 1) xs) low (subst Rises e up))
+
+-- or it ends up to there, and goes
+pub first_gone : (start g : ℕ) (xs old new : List Receipt) (r y : Receipt) → g < length xs → r ≡ get_or xs g r → r.end ≤ start → old ≡ drop g xs → new ≡ drop (g + 1) (set xs g y) → HasLetGoFirst start old true new
+first_gone start g xs old new r y within is le at left =
+    let e : drop g xs ≡ r ∷ drop (g + 1) xs = drop_more xs g r within ∙ ap (λ (x : Receipt). x ∷ drop (g + 1) xs) (sym is) in
+    let same : drop (g + 1) xs ≡ new = sym (left ∙ drop-set-lt (g + 1) xs g y (omega arith)) in
+    (r, le, at ∙ e ∙ ap (λ (rs : List Receipt). r ∷ rs) same)
 
 pub nothing_gone : (start : ℕ) (rs : List Receipt) → HasLetGo start 0 rs 0 rs
 nothing_gone start rs = record { gone = []; front = refl; number = refl; upto = tt; at_most = omega arith; fewer = λ low. absurd (omega (arith, low)) }
@@ -74,20 +94,12 @@ left_counts w start most n old new amount forgotten h counts low =
 filter_gone : (start : ℕ) (gone new : List Receipt) → AreUpTo start gone → above_start start (gone ++ new) ≡ above_start start new
 filter_gone start [] new up = refl
 filter_gone start (r ∷ rs) new up =
-    ap (λ (b : Bool). if_kept b) (le-ltb start r.end up.0) ∙ filter_gone start rs new up.1
-  where
-    if_kept : Bool → List Receipt
-    if_kept true = r ∷ above_start start (rs ++ new)
-    if_kept false = above_start start (rs ++ new)
+    ap (λ (b : Bool). cond b (r ∷ above_start start (rs ++ new)) (above_start start (rs ++ new))) (le-ltb start r.end up.0) ∙ filter_gone start rs new up.1
 
 filter_left : (start : ℕ) (new : List Receipt) → AreAbove start new → above_start start new ≡ new
 filter_left start [] above = refl
 filter_left start (r ∷ rs) above =
-    ap (λ (b : Bool). if_kept b) (lt-ltb start r.end above.0) ∙ ap (λ (xs : List Receipt). r ∷ xs) (filter_left start rs above.1)
-  where
-    if_kept : Bool → List Receipt
-    if_kept true = r ∷ above_start start rs
-    if_kept false = above_start start rs
+    ap (λ (b : Bool). cond b (r ∷ above_start start rs) (above_start start rs)) (lt-ltb start r.end above.0) ∙ ap (λ (xs : List Receipt). r ∷ xs) (filter_left start rs above.1)
 
 left_above : (start n : ℕ) (old gone new : List Receipt) → old ≡ gone ++ new → length gone ≡ n → (n < length old → AreAbove start new) → AreAbove start new
 left_above start n old gone [] is number fewer = tt

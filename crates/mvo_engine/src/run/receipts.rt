@@ -1,3 +1,5 @@
+ghost use Rattle.std.specs.Prelude.{◌≡◌, max};
+
 use crate::run::counting::count;
 use crate::run::kept_receipts::KeptReceipts;
 use crate::run::receipt::Receipt;
@@ -121,9 +123,7 @@ impl<L: Run> Receipts<L> {
         ensures gone { HasLetGo start.0 most self.old.list result self.new.list }
         ensures forgotten { self.new.forgotten ≡ max self.old.forgotten start.0 }
     {
-        if self.forgotten < start {
-            self.forgotten = start;
-        }
+        self.forgotten = later_of(self.forgotten, start);
         self.list.let_go(start, most)
     }
 
@@ -142,4 +142,11 @@ impl<L: Run> Receipts<L> {
         } = self;
         (list.into_list(), share)
     }
+}
+
+// The later of two stamps.
+fn later_of(one: Stamp, other: Stamp) -> Stamp
+    ensures { result.0 ≡ max one.0 other.0 }
+{
+    if one < other { other } else { one }
 }

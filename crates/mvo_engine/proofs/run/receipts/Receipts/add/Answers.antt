@@ -1,5 +1,5 @@
-use Rattle.std.proofs.Common.{◌≡◌, ◌+◌, ap, ◌∙◌, arith, ℕ, List}
-use Rattle.mvo_engine.specs.run.Receiving.{ReceiptsState, AreBelow, AreUpTo}
+use Rattle.std.proofs.Common.{ap, ◌∙◌, arith}
+use Rattle.mvo_engine.specs.run.Receiving.{ReceiptsState, AreBelow}
 use Rattle.mvo_engine.proofs.run.Receiving.{up_to_append, count_append}
 use Rattle.mvo_engine.proofs.run.receipts.Receipts.add.Goals as goal
 
