@@ -369,6 +369,7 @@ module _ (m : ManifestData) (is : IsManifest m) (s : SeenPairs) (still : StandSt
       let same_named : named (merged_manifest m two_are) ≡ named (merged_manifest m c) = named_merged m two_are pairs_are ∙ sym (named_merged m c pairs_are) in
       record {
         rules = record {
+          version = rules.version;
           pairs = omega (arith, length-append c.before (c.pair ∷ c.behind), length-append c.before (two_are.pair ∷ c.behind), rules.pairs);
           some = rules.some;
           segments = rules.segments;

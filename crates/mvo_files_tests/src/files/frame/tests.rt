@@ -160,8 +160,8 @@ fn each_change_is_found(rt: HostRuntime) -> Result<(), Fail> {
     Ok(())
 }
 
-// What is found of the first group, where its version allows so many bytes of data in a row. The put
-// has table 0 and one byte.
+// What is found of the first group, where its version allows so many bytes of data in a row. The
+// put has table 0 and one byte.
 fn first_group(alloc: Global, max_data_len: u16) -> Result<String, Fail> {
     let format = Format {
         version: VERSION,
