@@ -1,5 +1,5 @@
 -- Receipts are let go of.
-use Rattle.std.proofs.Common.{◌≡◌, ℕ, ◌+◌, ◌≤◌, ◌<◌, cond, length, drop, get_or, set, List, [], ◌∷◌, ◌++◌, refl, sym, ap, ◌∙◌, subst, arith}
+use Rattle.std.proofs.Common.{◌≡◌, ℕ, ◌+◌, ◌≤◌, ◌<◌, cond, length, drop, get_or, set, List, [], ◌∷◌, ◌++◌, Option, None, Some, refl, sym, ap, ◌∙◌, subst, arith}
 use Rattle.std.specs.Prelude.{max, Bool, true}
 use Rattle.std.proofs.lemmas.Bool.{lt-ltb, le-ltb}
 use Rattle.std.proofs.lemmas.List.{append_assoc, length-append, drop-append-le, drop_more, drop-set-lt}
@@ -10,8 +10,9 @@ use Rattle.mvo_engine.specs.run.Opening.{Opening}
 use Rattle.mvo_engine.specs.run.Receiving.{AreUpTo, AreBelow, AreAbove, Rises, HasLetGo, HasLetGoFirst}
 use Rattle.mvo_engine.specs.run.Watching.{Watched, count_of}
 use Rattle.mvo_engine.proofs.run.Receiving.{rises_append}
+use Rattle.mvo_engine.specs.Settling.{BeginsAbove}
 use Rattle.mvo_engine.specs.States.{SessionState}
-use Rattle.mvo_engine.specs.Forgetting.{above_start, WasUpToStart, HasForgottenSome, HasForgottenAny}
+use Rattle.mvo_engine.specs.Forgetting.{above_start, HasForgottenAll, WasUpToStart, HasForgottenSome, HasForgottenAny}
 
 -- ---- a list
 pub rises_behind : (r : Receipt) (rs : List Receipt) → Rises (r ∷ rs) → Rises rs
@@ -72,6 +73,10 @@ module _ {start most n : ℕ} {old new : List Receipt} (h : HasLetGo start most 
   pub below_left : (t : ℕ) → AreBelow t old → AreBelow t new
   below_left t low = each_back (λ (x : Receipt). x.end < t) h.gone new (subst (AreBelow t) h.front low)
 
+pub begins_left : {start most n : ℕ} {old new : List Receipt} → HasLetGo start most old n new → (tx : Option ℕ) → BeginsAbove tx old → BeginsAbove tx new
+begins_left h None above = tt
+begins_left h (Some t) above = below_left h t above
+
 -- those that went count nothing, where they end below the watched one
 gone_counts : (w : Watched) (start : ℕ) (gone : List Receipt) → AreUpTo start gone → start < w.end → count_of w gone ≡ 0
 gone_counts w start [] up low = refl
@@ -116,6 +121,16 @@ number_gone n old new h =
     let l = ap length h.front ∙ length-append h.gone new in
     let is = h.number in
     omega (arith, l, is)
+
+pub forgotten_all : (start most n at : ℕ) (old now : SessionState) (list : List Receipt) (forgotten : ℕ) → old ≡ now → start ≡ at → HasLetGo start most old.receipts n list → most ≡ length old.receipts → forgotten ≡ max old.forgotten start → HasForgottenAll at now n (record old { receipts = list; forgotten = forgotten })
+forgotten_all start most n at old now list forgotten same here h is later =
+    let new : SessionState = record old { receipts = list; forgotten = forgotten } in
+    let gone = all_gone start n old.receipts list (subst (λ (m : ℕ). HasLetGo start m old.receipts n list) is h) in
+    let done : HasForgottenAll start old n new = record {
+      session = λ k. record old { receipts = gone k; forgotten = later k };
+      number = number_gone n old.receipts list h;
+    } in
+    subst (λ (s : SessionState). HasForgottenAll at s n new) same (subst (λ (k : ℕ). HasForgottenAll k old n new) here done)
 
 -- ---- over several begins
 module _ (o : Opening) where

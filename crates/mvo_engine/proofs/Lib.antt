@@ -12,5 +12,6 @@ pub mod SentRows
 pub mod Flushed
 pub mod Forgetting
 pub mod Pouring
+pub mod Retiring
 mod Refused
 mod Transacting

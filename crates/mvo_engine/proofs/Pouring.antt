@@ -1,5 +1,5 @@
 -- Receipts are poured, those of the last session first, and what sessions have seen is confirmed.
-use Rattle.std.proofs.Common.{◌≡◌, ℕ, ◌+◌, ◌<◌, ◌≤◌, List, [], ◌∷◌, ◌++◌, sym, ap, ◌∙◌, subst, append-nil, arith}
+use Rattle.std.proofs.Common.{◌≡◌, ℕ, ◌+◌, ◌<◌, ◌≤◌, length, List, [], ◌∷◌, ◌++◌, sym, ap, ◌∙◌, subst, append-nil, arith}
 use Rattle.std.specs.Prelude.{reverse}
 use Rattle.std.proofs.lemmas.List.{append_assoc, reverse-append}
 use Rattle.std.specs.List.{flat_map}
@@ -11,7 +11,7 @@ use Rattle.mvo_core.specs.Receipts.{Receipt}
 use Rattle.mvo_engine.specs.Ending.{AreSeenUpTo}
 use Rattle.mvo_engine.specs.run.Watching.{Watched, count_of}
 use Rattle.mvo_engine.specs.Booked.{IsBooked}
-use Rattle.mvo_engine.specs.Gathering.{gathered_receipts, AreForgottenUpTo}
+use Rattle.mvo_engine.specs.Gathering.{gathered_receipts, receipts_in, AreForgottenUpTo}
 use Rattle.mvo_engine.specs.States.{SessionState}
 
 -- those of the last session, and then those of the others
@@ -31,6 +31,10 @@ amount_poured w start amount more now forgotten all list whole was counts le is 
     let b = counts (omega (arith, le, low)) in
     let c = ap (count_of w) both ∙ sum_by-append w.weigh all list in
     omega (arith, a, b, c, is)
+
+-- how many receipts they have but the last one
+pub receipts_popped : (left : List SessionState) (x : SessionState) (all : List SessionState) → all ≡ left ++ x ∷ [] → receipts_in all ≡ receipts_in left + length x.receipts
+receipts_popped left x all is = let h = ap receipts_in is ∙ sum_by-append (λ (s : SessionState). length s.receipts) left (x ∷ []) in omega (arith, h)
 
 -- the sessions but the last one
 pub forgotten_before : (start : ℕ) (left : List SessionState) (x : SessionState) (all : List SessionState) → all ≡ left ++ x ∷ [] → AreForgottenUpTo start all → AreForgottenUpTo start left × (x.forgotten ≤ start)

@@ -1,5 +1,5 @@
 -- What a session's calls came to in the core, and attempts at a whole transaction.
-use Rattle.std.proofs.Common.{◌≡◌, ◌+◌, ◌<◌, ℕ, Bool, true, false, List, [], Option, None, Some, Result, Ok, Err, sym, ap, ◌∙◌, subst, arith}
+use Rattle.std.proofs.Common.{◌≡◌, ◌+◌, ◌<◌, ℕ, Bool, true, false, List, [], ◌∷◌, ◌++◌, Option, None, Some, Result, Ok, Err, refl, sym, ap, ◌∙◌, subst, arith}
 use Rattle.std.specs.Prelude.{IfSome, max, suc}
 use Rattle.std.specs.Option.{option_map}
 use Rattle.mvo_types.specs.declared.answer.Answer.{Answer}
@@ -7,6 +7,7 @@ use Rattle.mvo_types.specs.declared.ids.Stamp.{Stamp}
 use Rattle.mvo_types.specs.declared.ids.TxId.{TxId}
 use Rattle.mvo_types.specs.declared.op.Op.{Op}
 use Rattle.mvo_types.specs.declared.refusal.Refusal.{Refusal}
+use Rattle.mvo_types.specs.declared.refusal.Refusal.TheVariants.{NoSuchTransaction}
 use Rattle.mvo_theory.specs.Causes.{is_failure}
 use Rattle.mvo_theory.specs.Calls.Call.{Do}
 use Rattle.mvo_core.specs.Receipts.{Receipt, receipt}
@@ -15,14 +16,14 @@ use Rattle.mvo_engine.specs.run.Opening.{Opening}
 use Rattle.mvo_engine.specs.run.Receiving.{AreBelow}
 use Rattle.mvo_engine.specs.Sound.{IsSoundCore}
 use Rattle.mvo_engine.specs.States.{CoreState, SessionState}
-use Rattle.mvo_engine.specs.Calls.{IsCoreStep, IsBegun, HasCommitted}
+use Rattle.mvo_engine.specs.Calls.{IsCoreStep, IsBegun, IsNoTx, HasCommitted}
 use Rattle.mvo_engine.specs.Asked.{WasAsked, WasAnswered, HasGone}
-use Rattle.mvo_engine.specs.Refusing.{refuses_commit}
-use Rattle.mvo_engine.specs.Transacting.{Work, HasNewTx, HasDone, HasNotDone, HaveFailed, AreAttempts}
-use Rattle.mvo_engine.specs.Transacting.IsRefusedBy.{Working, Committing}
+use Rattle.mvo_engine.specs.Refusing.{refuses_begin, refuses_commit}
+use Rattle.mvo_engine.specs.Transacting.{Work, HasNewTx, HasDone, HasNotDone, IsAttempt, HaveFailed, AreAttempts}
+use Rattle.mvo_engine.specs.Transacting.IsRefusedBy.{Beginning, Working, Committing}
 use Rattle.mvo_engine.specs.Forgetting.{HasForgottenSome, HasForgottenAny}
 use Rattle.mvo_engine.specs.declared.session.operating.TheConstants.{FORGOTTEN_AT_ONCE}
-use Rattle.mvo_engine.proofs.Forgetting.{some_forgotten, more_forgotten}
+use Rattle.mvo_engine.proofs.Forgetting.{none_forgotten, some_forgotten, more_forgotten}
 
 -- an operation of the session's transaction, by a copy of it
 pub answered_so : {o : Opening} (x : Option TxId) (tx : TxId) (op copy : Op) (a : Answer) (old new : CoreState) → x ≡ Some tx → copy ≡ op → IsSoundCore o old.core old.sends.sent → IsCoreStep old (Do tx.0 op) (Ok a) new → IsAnswered old.core tx.0 op a → IfSome (option_map (λ (t : TxId). t.0) x) (λ t. WasAnswered o t copy a)
@@ -71,6 +72,30 @@ not_committed {o = o} work old begun worked asked new a e f begins works same li
     } in
     subst (λ (r : Refusal). HasNotDone o work old r new) (sym is) done
 
+-- a begin that is refused
+pub not_begun : {A : Type 0} {o : Opening} (work : Work A) (old new : SessionState) (e : Refusal) → old.tx ≡ None → IsBegun old.tx (Err e) new.tx → (new.receipts ≡ old.receipts) × (new.forgotten ≡ old.forgotten) → refuses_begin e ≡ true → HasNotDone o work old e new
+not_begun {o = o} work old new e none begun same listed = record {
+  by = Beginning listed;
+  receipts = none_forgotten o old.receipts new.receipts same.0;
+  tx = subst (λ (x : Option ℕ). IsBegun x (Err e) new.tx) none begun;
+}
+
+-- a commit that is accepted
+pub committed_so : {A : Type 0} {o : Opening} (work : Work A) (old begun worked new : SessionState) (a : A) (e : Stamp) (x : Option ℕ) → worked.tx ≡ x → HasNewTx o old begun → work begun (Ok a) worked → worked.receipts ≡ begun.receipts → IsNoTx {A = Stamp} x (Ok e) → IfSome x (λ t. new ≡ record worked { tx = None; told = []; receipts = worked.receipts ++ receipt t e.0 worked.told ∷ [] }) → HasDone o work old (a, e) new
+committed_so work old begun worked new a e None is begins works same there commits = absurd (apart there)
+  where
+    apart : Ok e ≡ Err NoSuchTransaction → ⊥
+    apart p = cc
+committed_so work old begun worked new a e (Some t) is begins works same there commits = record {
+  begun = begun;
+  begins = begins;
+  worked = worked;
+  works = works;
+  tx = t;
+  there = is;
+  commits = commits ∙ (λ k. record worked { tx = None; told = []; receipts = same k ++ receipt t e.0 worked.told ∷ [] });
+}
+
 -- ---- attempts
 not_both : (b : Bool) → b ≡ false → b ≡ true → ⊥
 not_both true wrong right = absurd cc
@@ -106,6 +131,20 @@ done_by o work times n old before new told failed same last fewer = record {
     ap (λ (s : SessionState). s.receipts) last.commits,
   );
   tx = ap (λ (s : SessionState). s.tx) last.commits;
+}
+
+-- the last that there may be
+pub last_by : {A : Type 0} (o : Opening) (work : Work A) (times n : ℕ) (old before new : SessionState) (r : Result (A × Stamp) Refusal) → HaveFailed o work n old before → HasForgottenAny o old.receipts before.receipts → IsAttempt o work before r new → n + 1 ≡ max 1 times → AreAttempts o work times old r new
+last_by o work times n old before new (Ok told) failed same last all = done_by o work times n old before new told failed same last (omega (arith, all))
+last_by o work times n old before new (Err e) failed same last all = record {
+  failures = n;
+  before = before;
+  failed = failed;
+  last = last;
+  fewer = omega (arith, all);
+  spent = λ right. all;
+  receipts = more_forgotten o old.receipts before.receipts new.receipts same last.receipts;
+  tx = last.tx;
 }
 
 -- one failure more

@@ -2,11 +2,13 @@
 ghost use Rattle.std.specs.Prelude.{◌≡◌, ◌+◌, ◌<◌, ◌≤◌, ◌++◌, [], length, vec_len, vec_capacity};
 ghost use Rattle.std.specs.Prelude.{IfOk, IfErr, IfSome, IsTrue};
 ghost use Rattle.mvo_engine.specs.run.Watching.{count_of};
+ghost use Rattle.mvo_engine.specs.Booked.{IsBooked};
 ghost use Rattle.mvo_engine.specs.Gathering.{HasGathered, IsNotGathered, AreForgottenUpTo};
 ghost use Rattle.mvo_engine.specs.Gathering.{receipts_in, gathered_receipts};
 
 use crate::core_guard::CoreGuard;
 use crate::gate::Gate;
+use crate::locked_core::LockedCore;
 use crate::run::{Receipt, Run};
 use crate::session::Session;
 use mvo_disk::Disk;
@@ -49,10 +51,30 @@ pub fn gather<'e, L: Run, D: Disk + Drop, G: Gate + Drop>(
     if !reserve_for(&mut all, sessions.as_slice()) {
         return Err((Refusal::OutOfMemory, sessions));
     }
-    let nothing = core.held.no_part();
-    let whole = pour(&mut all, sessions, nothing, start);
-    core.held.tally(whole);
+    pour_all(&mut *core.held, &mut all, sessions, start);
     Ok(Gathered::All(all))
+}
+
+/// Pours the receipts of all sessions into the list, those of the last one first, and compares what
+/// their parts count with the book. The tale starts at the stamp.
+fn pour_all<L: Run, D: Disk + Drop, G: Gate + Drop>(
+    core: &mut LockedCore<L>,
+    all: &mut Vec<Receipt>,
+    sessions: Vec<Session<'_, L, D, G>>,
+    start: Stamp,
+)
+    requires empty { all.old.items ≡ [] }
+    requires room { receipts_in sessions.items ≤ vec_capacity all.old }
+    requires made { core.old.made ≤ length sessions.items }
+    requires start { start.0 ≡ core.old.core.start }
+    requires forgotten { AreForgottenUpTo start.0 sessions.items }
+    ensures items { all.new.items ≡ gathered_receipts sessions.entry.items }
+    ensures booked { IsBooked L.watched core.old.core (count_of L.watched all.new.items) }
+    ensures core { core.new ≡ core.old }
+{
+    let nothing = core.no_part();
+    let whole = pour(all, sessions, nothing, start);
+    core.tally(whole);
 }
 
 /// Whether none of these sessions has let go of receipts above the stamp.
