@@ -1,4 +1,4 @@
-use Rattle.std.proofs.Common.{◌≡◌, ◌≤◌, ap, ◌∙◌, arith}
+use Rattle.std.proofs.Common.{◌≤◌, ap, ◌∙◌, arith}
 use Rattle.mvo_engine.specs.States.{CoreState}
 use Rattle.mvo_engine.proofs.Pouring.{booked_count}
 use Rattle.mvo_engine.proofs.locked_core.LockedCore.tally.Goals as goal
