@@ -7,7 +7,9 @@ use crate::transfers::{ACCOUNTS, START, TIMES, Transfer, money_in, row_of};
 use crate::upkeep::{is_let_go, keep_up};
 use anyhow::bail;
 use mvo_disk::{Disk, MemDisk};
-use mvo_engine::{Engine, Fresh, Gathered, OpenGate, Receipt, Run, SeenDurable, Session, gather};
+use mvo_engine::{
+    CoreGuard, Engine, Fresh, Gathered, OpenGate, Receipt, Run, SeenDurable, Session, gather,
+};
 use mvo_store::format;
 use mvo_types::{Answer, Refusal, Stamp};
 use std::alloc::{AllocError, Global};
@@ -30,8 +32,8 @@ pub struct Told {
     pub durable: bool,
     /// Whether all that could be asked for only before is gone from memory and from the log.
     pub let_go: bool,
-    /// How many receipts all sessions have.
-    pub receipts: usize,
+    /// Whether all sessions have as many receipts of what is stored as commits are stored.
+    pub receipts: bool,
 }
 
 /// A disk in memory with a store that has no rows.
@@ -102,8 +104,9 @@ fn go<L: Run + Send + Sync, D: Disk + Drop + Send, R: Threads + Wait + Sync>(
 ) -> Result<(Told, Vec<SeenDurable<L>>), Refusal> {
     let mut session = engine.session(rt)?;
     open_accounts(rt, alloc, &mut session)?;
-    let mut sessions = transfers(rt, alloc, engine)?;
-    let (transfers, durable) = ask_all(&mut sessions);
+    let worked = transfers(rt, alloc, engine)?;
+    let mut sessions = Vec::new(alloc);
+    let (transfers, durable) = ask_all(worked, &mut sessions)?;
     let total = total(rt, &mut session)?;
     sessions.push(session)?;
     let seen = seen_by(alloc, &mut sessions)?;
@@ -130,43 +133,43 @@ fn seen_by<L: Run, D: Disk>(
     Ok(seen)
 }
 
-/// The transfers of all threads, and their sessions. Meanwhile another thread flushes, makes
-/// checkpoints and merges, trims and collects.
+/// The transfers of all threads: their sessions, how many each made, and where its last one ended.
+/// Meanwhile another thread flushes, makes checkpoints and merges, trims and collects.
 fn transfers<'e, L: Run + Send + Sync, D: Disk + Send, R: Threads + Wait + Sync>(
     rt: &R,
     alloc: Global,
     engine: &'e Engine<L, D, OpenGate>,
-) -> Result<Vec<Session<'e, L, D, OpenGate>>, Refusal> {
+) -> Result<Vec<(Session<'e, L, D, OpenGate>, usize, Stamp)>, Refusal> {
     let over = AtomicU64::new(0);
-    let (sessions, kept_up) = thread::join(
+    let (worked, kept_up) = thread::join(
         rt,
         || {
-            let sessions = work_all(rt, alloc, engine);
+            let worked = work_all(rt, alloc, engine);
             over.store(1, Ordering::SeqCst);
-            sessions
+            worked
         },
         || keep_up(rt, engine, &over),
     );
     kept_up?;
-    sessions
+    worked
 }
 
 fn work_all<'e, L: Run + Send + Sync, D: Disk + Send, R: Threads + Wait + Sync>(
     rt: &R,
     alloc: Global,
     engine: &'e Engine<L, D, OpenGate>,
-) -> Result<Vec<Session<'e, L, D, OpenGate>>, Refusal> {
-    let worked = thread::map_indices(
+) -> Result<Vec<(Session<'e, L, D, OpenGate>, usize, Stamp)>, Refusal> {
+    let all = thread::map_indices(
         rt,
         alloc,
         WORKERS,
         &|worker| work(rt, alloc, engine, worker as u64),
     )?;
-    let mut sessions = Vec::new(alloc);
-    for session in worked {
-        sessions.push(session?)?;
+    let mut worked = Vec::new(alloc);
+    for one in all {
+        worked.push(one?)?;
     }
-    Ok(sessions)
+    Ok(worked)
 }
 
 /// Makes the accounts, in one transaction.
@@ -182,23 +185,26 @@ fn open_accounts<L: Run, D: Disk, R: Wait>(
     session.commit_tx(rt)
 }
 
-/// The transfers of one thread, and its session. It waits until its last one is durable.
+/// The transfers of one thread: its session, how many they are, and where the last one ended. It
+/// waits until that is durable.
 fn work<'e, L: Run, D: Disk, R: Wait>(
     rt: &R,
     alloc: Global,
     engine: &'e Engine<L, D, OpenGate>,
     worker: u64,
-) -> Result<Session<'e, L, D, OpenGate>, Refusal> {
+) -> Result<(Session<'e, L, D, OpenGate>, usize, Stamp), Refusal> {
     let mut session = engine.session(rt)?;
+    let mut made = 0usize;
     let mut last = Stamp(0);
     for number in 0..TRANSFERS {
         let transfer = choice(alloc, worker, number);
         let (_, end) = session.transact(rt, TIMES, &transfer)?;
+        made = made.saturating_add(1);
         last = end;
     }
     engine.flush(rt)?;
     session.wait_durable(rt, last)?;
-    Ok(session)
+    Ok((session, made, last))
 }
 
 /// Which transfer a worker makes.
@@ -219,25 +225,21 @@ fn choice(alloc: Global, worker: u64, number: u64) -> Transfer {
     }
 }
 
-/// How many transfers these sessions have made, and whether all are durable.
-fn ask_all<L: Run, D: Disk>(sessions: &mut [Session<'_, L, D, OpenGate>]) -> (usize, bool) {
+/// How many transfers these sessions have made, and whether all are durable. The sessions go into
+/// the list.
+fn ask_all<'e, L: Run, D: Disk>(
+    worked: Vec<(Session<'e, L, D, OpenGate>, usize, Stamp)>,
+    sessions: &mut Vec<Session<'e, L, D, OpenGate>>,
+) -> Result<(usize, bool), Refusal> {
     let mut transfers = 0usize;
     let mut durable = true;
-    for session in sessions {
-        let receipts = session.receipts();
-        transfers = transfers.saturating_add(receipts.len());
-        let end = last_end(receipts);
-        durable &= session.poll_durable(end);
+    for (session, made, last) in worked {
+        let mut session = session;
+        transfers = transfers.saturating_add(made);
+        durable &= session.poll_durable(last);
+        sessions.push(session)?;
     }
-    (transfers, durable)
-}
-
-/// Where the last of them ended.
-fn last_end(receipts: &[Receipt]) -> Stamp {
-    match receipts.last() {
-        Some(receipt) => receipt.end,
-        None => Stamp(0),
-    }
+    Ok((transfers, durable))
 }
 
 /// What all accounts have, as one scan finds it.
@@ -254,23 +256,50 @@ fn total<L: Run, D: Disk, R: Wait>(
     Ok(total)
 }
 
-/// How many receipts all sessions have: what they were told of the stored commits, each once. Log
-/// and history agree.
+/// Whether all sessions have as many receipts of what is stored as commits are stored: they were
+/// told of each once. Log and history agree.
 fn gather_all<L: Run, D: Disk + Drop, R: Wait>(
     rt: &R,
     alloc: Global,
     engine: &Engine<L, D, OpenGate>,
     sessions: Vec<Session<'_, L, D, OpenGate>>,
-) -> Result<usize, Refusal> {
+) -> Result<bool, Refusal> {
     let mut core = engine.lock_core(rt);
     let gathered = match gather(&mut core, alloc, sessions) {
-        Ok(Gathered::All(receipts)) => Ok(receipts.len()),
-        Ok(Gathered::Missing(_sessions)) => Ok(0),
+        Ok(Gathered::All(receipts)) => Ok(above_start(&core, &receipts) == stored(&core)),
+        Ok(Gathered::Missing(_sessions)) => Ok(false),
         Err((refusal, _sessions)) => Err(refusal),
     };
     let mut store = engine.lock_store(rt);
     engine.audit(&mut core, &mut store);
     gathered
+}
+
+/// How many of the receipts end above the start of the tale: sessions forget the others.
+fn above_start<L: Run>(core: &CoreGuard<'_, L>, receipts: &[Receipt]) -> u64 {
+    let start = core.tale_start();
+    let mut count = 0u64;
+    for receipt in receipts {
+        if start < receipt.end {
+            count = count.wrapping_add(1);
+        }
+    }
+    count
+}
+
+/// How many commits are stored there.
+fn stored<L: Run>(core: &CoreGuard<'_, L>) -> u64 {
+    let start = core.tale_start();
+    let tale = core.tale();
+    let mut count = 0u64;
+    for place in 0..tale.len() {
+        if let Some(entry) = tale.get(place) {
+            if start < entry.end {
+                count = count.wrapping_add(1);
+            }
+        }
+    }
+    count
 }
 
 fn total_of(rows: &[mvo_types::Row]) -> u64 {

@@ -46,7 +46,14 @@ fn tell(rt: &impl Print, told: &Told) -> io::Result<()> {
             "not all that is over is let go"
         }
     )?;
-    println!(rt; "{} receipts", told.receipts)?;
+    println!(rt;
+        "{}",
+        if told.receipts {
+            "each stored commit has its receipt"
+        } else {
+            "not each stored commit has its receipt"
+        }
+    )?;
     Ok(())
 }
 

@@ -1,5 +1,5 @@
 -- The book is kept.
-use Rattle.std.proofs.Common.{◌≡◌, ℕ, ◌+◌, ◌<◌, Bool, true, false, cond, not, List, [], ◌∷◌, ◌++◌, Option, None, Some, Result, Ok, Err, refl, sym, ap, ◌∙◌, arith}
+use Rattle.std.proofs.Common.{◌≡◌, ℕ, ◌+◌, ◌<◌, ◌≤◌, Bool, true, false, cond, not, List, [], ◌∷◌, ◌++◌, Option, None, Some, Result, Ok, Err, refl, sym, ap, ◌∙◌, arith}
 use Rattle.std.specs.Prelude.{◌==◌, ◌&&◌, IsTrue}
 use Rattle.std.proofs.lemmas.Bool.{eqb-true}
 use Rattle.mvo_types.specs.declared.ids.TxId.{TxId}
@@ -26,7 +26,7 @@ use Rattle.mvo_core.specs.Collecting.{StandsAsBefore}
 use Rattle.mvo_core.specs.Holding.{HoldsJust}
 use Rattle.mvo_core.specs.Receipts.{Receipt, receipt, receipt_of}
 use Rattle.mvo_engine.specs.run.Watching.{Watched}
-use Rattle.mvo_engine.specs.Booked.{IsBooked}
+use Rattle.mvo_engine.specs.Booked.{IsBooked, HasSpareParts}
 use Rattle.mvo_engine.specs.Sound.{IsSoundCore}
 use Rattle.mvo_engine.specs.States.{SendsState}
 use Rattle.mvo_engine.specs.Calls.{HasSent}
@@ -155,8 +155,32 @@ module _ (w : Watched) {c : CoreData} {total : ℕ} (i : IsBooked w c total) whe
   closed old new' (Ok x) new h = record { rows = i.rows; steps = i.steps; state = after_close i.state x.mark.0; stands = h.1.2.stands; counted = i.counted }
   closed old new' (Err r) new h = record { rows = i.rows; steps = i.steps; state = i.state; stands = h.1.1.stands; counted = i.counted }
 
+  -- the tale starts no lower after a step
+  pub start_up : {A : Type 0} (call : Call) (result : Result A Refusal) (new : CoreData) → IsStep c call result new → c.start ≤ new.start
+  start_up call result new step =
+      let l = step i.rows i.steps i.state i.stands in
+      let up = start_rises i.state call (came result) l.may i.stands.versions.kept.sound in
+      let was = i.stands.start in
+      let now = l.stands.start in
+      omega (arith, up, was, now)
+
+  -- nor after the closing of a group
+  pub start_closed : (old new' : SendsState) (result : Result closing.Closed Refusal) (new : CoreData) → HasSent i.rows i.steps i.state old result new new' → c.start ≤ new.start
+  start_closed old new' (Ok x) new h =
+      let was = i.stands.start in
+      let now : i.state.start ≡ new.start = h.1.2.stands.start in
+      omega (arith, was, now)
+  start_closed old new' (Err r) new h =
+      let was = i.stands.start in
+      let now = h.1.1.stands.start in
+      omega (arith, was, now)
+
+-- the spare parts, where the tale starts no lower
+pub spare_later : {w : Watched} {start parts made spare amount : ℕ} (start' : ℕ) → HasSpareParts w start parts made spare amount → start ≤ start' → HasSpareParts w start' parts made spare amount
+spare_later start' h up = record { all = h.all; spare_parts = h.spare_parts; at_most = h.at_most; spare_amount = λ low. h.spare_amount (omega (arith, low, up)) }
+
 -- what the lock keeps, over a step that stores no commit and closes no group
-pub stays_sound : {w : Watched} {o : Opening} {c : CoreData} {sent : List GroupData} {total : ℕ} {A P : Type 0} {call : Call} {new : CoreData} → IsSoundCore o c sent × IsBooked w c total × P → (result : Result A Refusal) → IsStep c call result new → is_quiet call ≡ true
-    → IsSoundCore o new sent × IsBooked w new total × P
+pub stays_sound : {w : Watched} {o : Opening} {c : CoreData} {sent : List GroupData} {total parts made spare amount : ℕ} {A : Type 0} {call : Call} {new : CoreData} → IsSoundCore o c sent × IsBooked w c total × HasSpareParts w c.start parts made spare amount → (result : Result A Refusal) → IsStep c call result new → is_quiet call ≡ true
+    → IsSoundCore o new sent × IsBooked w new total × HasSpareParts w new.start parts made spare amount
 stays_sound {w = w} {call = call} {new = new} i result step quiet =
-    (sound_over i.0 result step (quiet_group call (came result) quiet), quietly w i.1 call result new step quiet, i.2)
+    (sound_over i.0 result step (quiet_group call (came result) quiet), quietly w i.1 call result new step quiet, spare_later new.start i.2 (start_up w i.1 call result new step))

@@ -1,6 +1,6 @@
 -- One step of a flush makes the next group durable and publishes it, or nothing is durable that
 -- wasn't.
-use Rattle.std.proofs.Common.{◌≡◌, ◌≢◌, ℕ, inl, inr, Bool, true, false, true≢false, List, [], ◌∷◌, ◌++◌, max, Option, None, Some, Result, Ok, Err, refl, sym, ap, ◌∙◌, subst, arith}
+use Rattle.std.proofs.Common.{◌≡◌, ◌≢◌, ℕ, inl, inr, Bool, true, false, true≢false, List, [], ◌∷◌, max, Option, None, Some, Result, Ok, Err, refl, sym, ap, ◌∙◌, subst, arith}
 use Rattle.std.specs.Prelude.{IfOk, is_some}
 use Rattle.mvo_types.specs.Causes.{when, first_cause}
 use Rattle.mvo_types.specs.declared.refusal.Refusal.{Refusal}
@@ -20,7 +20,7 @@ use Rattle.mvo_store.specs.declared.call.StoreCall.{StoreCall}
 use Rattle.mvo_store.specs.declared.call.StoreCall.TheVariants.{AppendBody, AppendOpen}
 use Rattle.mvo_store.specs.declared.done.Done.{Done}
 use Rattle.mvo_store.specs.declared.done.Done.TheVariants.{Durable}
-use Rattle.mvo_store.proofs.Taken.{IsQuiet, left_taken, quiet_taken}
+use Rattle.mvo_store.proofs.Taken.{left_taken, quiet_taken}
 use Rattle.mvo_world.proofs.Moves.{nothing_taken}
 use Rattle.mvo_engine.specs.States.{StoreState}
 use Rattle.mvo_engine.specs.Calls.{IsLockedCall, IsTaking, IsNotTaken, is_refusal_to_take}

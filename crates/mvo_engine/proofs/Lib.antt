@@ -10,6 +10,8 @@ pub mod Starts
 pub mod Booked
 pub mod SentRows
 pub mod Flushed
+pub mod Forgetting
 pub mod Pouring
+pub mod Retiring
 mod Refused
 mod Transacting

@@ -1,5 +1,5 @@
 -- What the steps of the core refuse is of the lists of a session's refusals.
-use Rattle.std.proofs.Common.{◌≡◌, ◌⊎◌, inl, inr, ℕ, Bool, true, false, List, [], ◌∷◌, Option, None, Some, Result, Ok, Err, refl, ap, ◌∙◌}
+use Rattle.std.proofs.Common.{◌≡◌, inl, inr, ℕ, Bool, true, false, List, [], ◌∷◌, Option, None, Some, Result, Ok, Err, refl, ap, ◌∙◌}
 use Rattle.std.specs.Prelude.{⊤, IfErr, if◌then◌else◌, nat_le, nat_lt, not, length, ◌++◌}
 use Rattle.mvo_types.specs.declared.cause.Cause.{Cause}
 use Rattle.mvo_types.specs.declared.entry.Entry.{Entry}
@@ -10,7 +10,6 @@ use Rattle.mvo_types.specs.declared.op.Op.TheVariants.{Read, Scan, Insert, Updat
 use Rattle.mvo_types.specs.declared.refusal.Refusal.{Refusal}
 use Rattle.mvo_types.specs.declared.refusal.Refusal.TheVariants.{NoSuchTransaction, Ended, NotValidated, TableFull, TooManyWrites, TooManyReads, DataTooLong, BadTable, ClockSpent, OutOfMemory, WriteConflict, DependencyAborted}
 use Rattle.mvo_types.specs.declared.answer.Answer.{Answer}
-use Rattle.mvo_types.specs.declared.ids.Stamp.{Stamp}
 use Rattle.mvo_types.specs.declared.ids.TxId.{TxId}
 use Rattle.mvo_types.specs.Causes.{when, first_cause}
 use Rattle.mvo_theory.specs.State.{State, StampedTx, preparing_of, history_of_active}
@@ -18,8 +17,6 @@ use Rattle.mvo_theory.specs.Phases.{phase_in, is_absent, is_ended}
 use Rattle.mvo_theory.specs.Causes.{unfinished, unless_active, unless_preparing, is_entry_too_many, is_write_too_many, conflict, was_valid, flagged, conflicts, differs, entry_differs, next_differs, why_not_begin, why_not_do, why_not_precommit, why_not_validate, why_not_settle, why_not_rollback}
 use Rattle.mvo_theory.specs.Calls.{Call, IsRefusal, why_not, takes_memory}
 use Rattle.mvo_theory.specs.Calls.Call.{Begin, Do, Precommit, Validate, Settle, Rollback}
-use Rattle.mvo_core.specs.declared.answers.Validation.{Validation}
-use Rattle.mvo_core.specs.declared.answers.Settlement.{Settlement}
 use Rattle.mvo_model.specs.History.{History}
 use Rattle.mvo_core.specs.Data.{CoreData}
 use Rattle.mvo_core.specs.Steps.{IsStep}

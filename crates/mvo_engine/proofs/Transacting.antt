@@ -1,23 +1,29 @@
 -- What a session's calls came to in the core, and attempts at a whole transaction.
-use Rattle.std.proofs.Common.{◌≡◌, ◌+◌, ◌<◌, ℕ, Bool, true, false, [], Option, None, Some, Result, Ok, Err, sym, ap, ◌∙◌, subst, arith}
+use Rattle.std.proofs.Common.{◌≡◌, ◌+◌, ◌<◌, ℕ, Bool, true, false, List, [], ◌∷◌, ◌++◌, Option, None, Some, Result, Ok, Err, refl, sym, ap, ◌∙◌, subst, arith}
 use Rattle.std.specs.Prelude.{IfSome, max, suc}
 use Rattle.std.specs.Option.{option_map}
 use Rattle.mvo_types.specs.declared.answer.Answer.{Answer}
+use Rattle.mvo_types.specs.declared.ids.Stamp.{Stamp}
 use Rattle.mvo_types.specs.declared.ids.TxId.{TxId}
 use Rattle.mvo_types.specs.declared.op.Op.{Op}
 use Rattle.mvo_types.specs.declared.refusal.Refusal.{Refusal}
+use Rattle.mvo_types.specs.declared.refusal.Refusal.TheVariants.{NoSuchTransaction}
 use Rattle.mvo_theory.specs.Causes.{is_failure}
 use Rattle.mvo_theory.specs.Calls.Call.{Do}
+use Rattle.mvo_core.specs.Receipts.{Receipt, receipt}
 use Rattle.mvo_core.specs.Steps.{IsAnswered}
 use Rattle.mvo_engine.specs.run.Opening.{Opening}
 use Rattle.mvo_engine.specs.run.Receiving.{AreBelow}
 use Rattle.mvo_engine.specs.Sound.{IsSoundCore}
 use Rattle.mvo_engine.specs.States.{CoreState, SessionState}
-use Rattle.mvo_engine.specs.Calls.{IsCoreStep, IsBegun, HasCommitted}
+use Rattle.mvo_engine.specs.Calls.{IsCoreStep, IsBegun, IsNoTx, HasCommitted}
 use Rattle.mvo_engine.specs.Asked.{WasAsked, WasAnswered, HasGone}
-use Rattle.mvo_engine.specs.Refusing.{refuses_commit}
-use Rattle.mvo_engine.specs.Transacting.{Work, HasNewTx, HasNotDone, HaveFailed, AreAttempts}
-use Rattle.mvo_engine.specs.Transacting.IsRefusedBy.{Working, Committing}
+use Rattle.mvo_engine.specs.Refusing.{refuses_begin, refuses_commit}
+use Rattle.mvo_engine.specs.Transacting.{Work, HasNewTx, HasDone, HasNotDone, IsAttempt, HaveFailed, AreAttempts}
+use Rattle.mvo_engine.specs.Transacting.IsRefusedBy.{Beginning, Working, Committing}
+use Rattle.mvo_engine.specs.Forgetting.{HasForgottenSome, HasForgottenAny}
+use Rattle.mvo_engine.specs.declared.session.operating.TheConstants.{FORGOTTEN_AT_ONCE}
+use Rattle.mvo_engine.proofs.Forgetting.{none_forgotten, some_forgotten, more_forgotten}
 
 -- an operation of the session's transaction, by a copy of it
 pub answered_so : {o : Opening} (x : Option TxId) (tx : TxId) (op copy : Op) (a : Answer) (old new : CoreState) → x ≡ Some tx → copy ≡ op → IsSoundCore o old.core old.sends.sent → IsCoreStep old (Do tx.0 op) (Ok a) new → IsAnswered old.core tx.0 op a → IfSome (option_map (λ (t : TxId). t.0) x) (λ t. WasAnswered o t copy a)
@@ -32,37 +38,63 @@ refused_so {o} x tx op e old new is sound step =
     subst (λ (y : Option TxId). IfSome (option_map (λ (t : TxId). t.0) y) (λ t. WasAsked {A = Answer} o (Do t op) (Err e))) (sym is) was
 
 -- a begin that is accepted
-pub begun_so : (old new : SessionState) (t : TxId) → old.tx ≡ None → IsBegun old.tx (Ok t) new.tx → new.told ≡ [] → AreBelow t.0 new.receipts → new ≡ record old { tx = new.tx; told = new.told } → HasNewTx old new
-begun_so old new t none begun told above rest =
+pub begun_so : {o : Opening} (old new : SessionState) (t : TxId) → old.tx ≡ None → IsBegun old.tx (Ok t) new.tx → new.told ≡ [] → AreBelow t.0 old.receipts → HasForgottenSome o FORGOTTEN_AT_ONCE old new → new ≡ record old { tx = new.tx; told = new.told; receipts = new.receipts; forgotten = new.forgotten } → HasNewTx o old new
+begun_so old new t none begun told above forgets rest =
     let there : new.tx ≡ Some t.0 = subst (λ (x : Option ℕ). IsBegun x (Ok t) new.tx) none begun in
     record {
       tx = t.0;
-      above = subst (AreBelow t.0) (ap (λ (s : SessionState). s.receipts) rest) above;
-      begun = rest ∙ (λ k. record old { tx = there k; told = told k });
+      above = above;
+      forgets = forgets;
+      begun = rest ∙ (λ k. record old { tx = there k; told = told k; receipts = new.receipts; forgotten = new.forgotten });
     }
 
-same_receipts : (old begun : SessionState) → HasNewTx old begun → begun.receipts ≡ old.receipts
-same_receipts old begun b = ap (λ (s : SessionState). s.receipts) b.begun
+-- the receipts that a begin has left, and behind it as many
+left_of : {o : Opening} (old begun : SessionState) (new : List Receipt) → HasNewTx o old begun → new ≡ begun.receipts → HasForgottenAny o old.receipts new
+left_of {o} old begun new b same = subst (HasForgottenAny o old.receipts) (sym same) (some_forgotten o old begun b.forgets)
 
 -- work that is refused, behind which the session leaves the transaction
-pub not_worked : {A : Type 0} {o : Opening} (work : Work A) (old begun worked new : SessionState) (e f : Refusal) → HasNewTx old begun → work begun (Err e) worked → worked.receipts ≡ begun.receipts → IfSome worked.tx (HasGone o) → f ≡ e → new ≡ record worked { tx = None } → HasNotDone o work old f new
+pub not_worked : {A : Type 0} {o : Opening} (work : Work A) (old begun worked new : SessionState) (e f : Refusal) → HasNewTx o old begun → work begun (Err e) worked → worked.receipts ≡ begun.receipts → IfSome worked.tx (HasGone o) → f ≡ e → new ≡ record worked { tx = None } → HasNotDone o work old f new
 not_worked {o = o} work old begun worked new e f begins works same gone is left =
     let done : HasNotDone o work old e new = record {
       by = Working begun worked begins works gone;
-      receipts = ap (λ (s : SessionState). s.receipts) left ∙ same ∙ same_receipts old begun begins;
+      receipts = left_of old begun new.receipts begins (ap (λ (s : SessionState). s.receipts) left ∙ same);
       tx = ap (λ (s : SessionState). s.tx) left;
     } in
     subst (λ (r : Refusal). HasNotDone o work old r new) (sym is) done
 
 -- a commit that is refused
-pub not_committed : {A : Type 0} {o : Opening} (work : Work A) (old begun worked asked new : SessionState) (a : A) (e f : Refusal) → HasNewTx old begun → work begun (Ok a) worked → worked.receipts ≡ begun.receipts → refuses_commit e ≡ true → HasCommitted worked (Err e) asked → f ≡ e → new ≡ record asked { tx = None } → HasNotDone o work old f new
+pub not_committed : {A : Type 0} {o : Opening} (work : Work A) (old begun worked asked new : SessionState) (a : A) (e f : Refusal) → HasNewTx o old begun → work begun (Ok a) worked → worked.receipts ≡ begun.receipts → refuses_commit e ≡ true → HasCommitted worked (Err e) asked → f ≡ e → new ≡ record asked { tx = None } → HasNotDone o work old f new
 not_committed {o = o} work old begun worked asked new a e f begins works same listed commits is left =
     let done : HasNotDone o work old e new = record {
       by = Committing begun worked begins a works listed;
-      receipts = ap (λ (s : SessionState). s.receipts) left ∙ ap (λ (s : SessionState). s.receipts) commits ∙ same ∙ same_receipts old begun begins;
+      receipts = left_of old begun new.receipts begins (ap (λ (s : SessionState). s.receipts) left ∙ ap (λ (s : SessionState). s.receipts) commits ∙ same);
       tx = ap (λ (s : SessionState). s.tx) left;
     } in
     subst (λ (r : Refusal). HasNotDone o work old r new) (sym is) done
+
+-- a begin that is refused
+pub not_begun : {A : Type 0} {o : Opening} (work : Work A) (old new : SessionState) (e : Refusal) → old.tx ≡ None → IsBegun old.tx (Err e) new.tx → (new.receipts ≡ old.receipts) × (new.forgotten ≡ old.forgotten) → refuses_begin e ≡ true → HasNotDone o work old e new
+not_begun {o = o} work old new e none begun same listed = record {
+  by = Beginning listed;
+  receipts = none_forgotten o old.receipts new.receipts same.0;
+  tx = subst (λ (x : Option ℕ). IsBegun x (Err e) new.tx) none begun;
+}
+
+-- a commit that is accepted
+pub committed_so : {A : Type 0} {o : Opening} (work : Work A) (old begun worked new : SessionState) (a : A) (e : Stamp) (x : Option ℕ) → worked.tx ≡ x → HasNewTx o old begun → work begun (Ok a) worked → worked.receipts ≡ begun.receipts → IsNoTx {A = Stamp} x (Ok e) → IfSome x (λ t. new ≡ record worked { tx = None; told = []; receipts = worked.receipts ++ receipt t e.0 worked.told ∷ [] }) → HasDone o work old (a, e) new
+committed_so work old begun worked new a e None is begins works same there commits = absurd (apart there)
+  where
+    apart : Ok e ≡ Err NoSuchTransaction → ⊥
+    apart p = cc
+committed_so work old begun worked new a e (Some t) is begins works same there commits = record {
+  begun = begun;
+  begins = begins;
+  worked = worked;
+  works = works;
+  tx = t;
+  there = is;
+  commits = commits ∙ (λ k. record worked { tx = None; told = []; receipts = same k ++ receipt t e.0 worked.told ∷ [] });
+}
 
 -- ---- attempts
 not_both : (b : Bool) → b ≡ false → b ≡ true → ⊥
@@ -70,7 +102,7 @@ not_both true wrong right = absurd cc
 not_both false wrong right = absurd cc
 
 -- one that is refused with no failure is the last
-pub ended_by : {A : Type 0} (o : Opening) (work : Work A) (times n : ℕ) (old before new : SessionState) (e : Refusal) (b : Bool) → HaveFailed o work n old before → before.receipts ≡ old.receipts → HasNotDone o work before e new → n < max 1 times → b ≡ is_failure e → b ≡ false → AreAttempts o work times old (Err e) new
+pub ended_by : {A : Type 0} (o : Opening) (work : Work A) (times n : ℕ) (old before new : SessionState) (e : Refusal) (b : Bool) → HaveFailed o work n old before → HasForgottenAny o old.receipts before.receipts → HasNotDone o work before e new → n < max 1 times → b ≡ is_failure e → b ≡ false → AreAttempts o work times old (Err e) new
 ended_by o work times n old before new e b failed same last fewer is wrong = record {
   failures = n;
   before = before;
@@ -78,7 +110,40 @@ ended_by o work times n old before new e b failed same last fewer is wrong = rec
   last = last;
   fewer = fewer;
   spent = λ right. absurd (not_both b wrong (is ∙ right));
-  receipts = last.receipts ∙ same;
+  receipts = more_forgotten o old.receipts before.receipts new.receipts same last.receipts;
+  tx = last.tx;
+}
+
+-- one that is accepted is the last
+pub done_by : {A : Type 0} (o : Opening) (work : Work A) (times n : ℕ) (old before new : SessionState) (told : A × Stamp) → HaveFailed o work n old before → HasForgottenAny o old.receipts before.receipts → HasDone o work before told new → n < max 1 times → AreAttempts o work times old (Ok told) new
+done_by o work times n old before new told failed same last fewer = record {
+  failures = n;
+  before = before;
+  failed = failed;
+  last = last;
+  fewer = fewer;
+  spent = tt;
+  receipts = (
+    last.begun.receipts,
+    more_forgotten o old.receipts before.receipts last.begun.receipts same (some_forgotten o before last.begun last.begins.forgets),
+    receipt last.tx told.1.0 last.worked.told,
+    refl,
+    ap (λ (s : SessionState). s.receipts) last.commits,
+  );
+  tx = ap (λ (s : SessionState). s.tx) last.commits;
+}
+
+-- the last that there may be
+pub last_by : {A : Type 0} (o : Opening) (work : Work A) (times n : ℕ) (old before new : SessionState) (r : Result (A × Stamp) Refusal) → HaveFailed o work n old before → HasForgottenAny o old.receipts before.receipts → IsAttempt o work before r new → n + 1 ≡ max 1 times → AreAttempts o work times old r new
+last_by o work times n old before new (Ok told) failed same last all = done_by o work times n old before new told failed same last (omega (arith, all))
+last_by o work times n old before new (Err e) failed same last all = record {
+  failures = n;
+  before = before;
+  failed = failed;
+  last = last;
+  fewer = omega (arith, all);
+  spent = λ right. all;
+  receipts = more_forgotten o old.receipts before.receipts new.receipts same last.receipts;
   tx = last.tx;
 }
 

@@ -1,12 +1,12 @@
 -- The book of the ledger beside the core, and the parts that no session has.
-use Rattle.std.specs.Prelude.{◌≡◌, ◌+◌, ◌<◌, ℕ, List}
+use Rattle.std.specs.Prelude.{◌≡◌, ◌+◌, ◌<◌, ◌≤◌, ℕ, List}
 use Rattle.mvo_types.specs.Keys.{Map}
 use Rattle.mvo_model.specs.Trace.{Step}
 use Rattle.mvo_theory.specs.State.{State}
 use Rattle.mvo_core.specs.Data.{CoreData}
 use Rattle.mvo_core.specs.Standing.{StandsFor}
 use Rattle.mvo_core.specs.Receipts.{stored_commits}
-use Rattle.mvo_engine.specs.declared.run.run.TheConstants.{MAX_SESSIONS}
+use Rattle.mvo_engine.specs.declared.run.run.TheConstants.{MAX_SESSIONS, PARTS}
 use Rattle.mvo_engine.specs.run.Watching.{Watched, count_of}
 
 -- The core stands for a state. Where the tale starts below the end that is watched, the total is
@@ -18,8 +18,10 @@ pub record IsBooked (w : Watched) (c : CoreData) (total : ℕ) : Type 0 where
   pub stands : StandsFor rows steps state c
   pub counted : state.start < w.end → total ≡ count_of w (stored_commits state)
 
--- the parts that no session has count nothing, and are what those made leave of all
-pub record HasSpareParts (parts made spare amount : ℕ) : Type 0 where
-  pub all : parts ≡ MAX_SESSIONS
+-- The parts that no session has are what the sessions leave of all, at least one. Where the tale
+-- starts below the end that is watched, they count nothing.
+pub record HasSpareParts (w : Watched) (start parts made spare amount : ℕ) : Type 0 where
+  pub all : parts ≡ PARTS
   pub spare_parts : spare + made ≡ parts
-  pub spare_amount : amount ≡ 0
+  pub at_most : made ≤ MAX_SESSIONS
+  pub spare_amount : start < w.end → amount ≡ 0

@@ -6,7 +6,7 @@ use Rattle.mvo_disk.specs.Disk.{Image, AllOf, IsHonest}
 use Rattle.mvo_store.specs.Seen.{disk_of, mark_of}
 use Rattle.mvo_engine.specs.run.Opening.{Opening}
 use Rattle.mvo_engine.specs.Opening.{WasFormatted}
-use Rattle.mvo_engine.specs.Sound.{GivesReceived, LeavesReceived}
+use Rattle.mvo_engine.specs.Sound.{GivesReceived}
 use Rattle.mvo_engine.specs.Legal.{IsLegalCore}
 use Rattle.mvo_engine.specs.Audited.{IsAudited}
 use Rattle.mvo_engine.specs.States.{CoreState, StoreState}

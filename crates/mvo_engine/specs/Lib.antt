@@ -11,6 +11,8 @@ pub mod Flushing
 pub mod Collecting
 pub mod Booked
 pub mod Stored
+pub mod Forgetting
+pub mod Retiring
 pub mod Settling
 pub mod Asked
 pub mod Refusing

@@ -15,7 +15,8 @@ BeginsAbove (Some t) rs = AreBelow t rs
 
 -- The receipt of what the transaction was told is one more, and that is taken.
 abbrev pub HasAdded : ℕ → History → ℕ → ReceiptsState → ReceiptsState → History → Type 0
-HasAdded t told e old new told' = (new.list ≡ old.list ++ receipt t e told ∷ []) × (told' ≡ [])
+HasAdded t told e old new told' = (new.list ≡ old.list ++ receipt t e told ∷ [])
+    × (new.forgotten ≡ old.forgotten) × (told' ≡ [])
 
 -- so it is where the transaction is committed, and else nothing has changed
 abbrev pub HasSettled : ℕ → History → ReceiptsState → Result Settlement Refusal → ReceiptsState

@@ -24,9 +24,10 @@ pub record StoreState (D : Type 0) : Type 0 where
   pub published : ℕ
 
 -- the transaction that it has begun and not ended with what its calls were answered, its receipts,
--- and how far it has seen commits to be durable
+-- how far it has seen commits to be durable, and up to where it has let go of receipts
 pub record SessionState : Type 0 where
   pub tx : Option ℕ
   pub told : History
   pub receipts : List Receipt
   pub durable : ℕ
+  pub forgotten : ℕ

@@ -9,40 +9,49 @@ use Rattle.mvo_engine.specs.run.Receiving.{AreBelow}
 use Rattle.mvo_engine.specs.run.Opening.{Opening}
 use Rattle.mvo_engine.specs.States.{SessionState}
 use Rattle.mvo_engine.specs.Asked.{HasGone}
+use Rattle.mvo_engine.specs.Forgetting.{HasForgottenSome, HasForgottenAny}
+use Rattle.mvo_engine.specs.declared.session.operating.TheConstants.{FORGOTTEN_AT_ONCE}
 use Rattle.mvo_engine.specs.Refusing.{refuses_begin, refuses_commit}
 
 -- what work in a transaction comes to: the session before it, its result, and the session after it
 abbrev pub Work : Type 0 → Type 1
 Work A = SessionState → Result A Refusal → SessionState → Type 0
 
--- a transaction is begun, above the ends of all receipts, and was told nothing yet
-pub record HasNewTx (old new : SessionState) : Type 0 where
+-- a transaction is begun, above the ends of all receipts, of which some may be forgotten then, and
+-- was told nothing yet
+pub record HasNewTx (o : Opening) (old new : SessionState) : Type 0 where
   pub tx : ℕ
   pub above : AreBelow tx old.receipts
-  pub begun : new ≡ record old { tx = Some tx; told = [] }
+  pub forgets : HasForgottenSome o FORGOTTEN_AT_ONCE old new
+  pub begun : new ≡ record old {
+    tx = Some tx;
+    told = [];
+    receipts = new.receipts;
+    forgotten = new.forgotten;
+  }
 
 -- An attempt that is refused: by its begin; by the work, of which the transaction is rolled back in
 -- the core and finished; or by its commit.
 pub data IsRefusedBy {A : Type 0} (o : Opening) (work : Work A) (old : SessionState) (e : Refusal)
     : Type 0 where
   Beginning : refuses_begin e ≡ true → IsRefusedBy o work old e
-  Working : (begun worked : SessionState) → HasNewTx old begun → work begun (Err e) worked
+  Working : (begun worked : SessionState) → HasNewTx o old begun → work begun (Err e) worked
       → IfSome worked.tx (HasGone o) → IsRefusedBy o work old e
-  Committing : (begun worked : SessionState) → HasNewTx old begun → (a : A)
+  Committing : (begun worked : SessionState) → HasNewTx o old begun → (a : A)
       → work begun (Ok a) worked → refuses_commit e ≡ true → IsRefusedBy o work old e
 
--- it leaves no receipt and no transaction
+-- it leaves no receipt more and no transaction
 pub record HasNotDone {A : Type 0} (o : Opening) (work : Work A) (old : SessionState) (e : Refusal)
     (new : SessionState) : Type 0 where
   pub by : IsRefusedBy o work old e
-  pub receipts : new.receipts ≡ old.receipts
+  pub receipts : HasForgottenAny o old.receipts new.receipts
   pub tx : new.tx ≡ None
 
 -- An attempt that is accepted: the work's transaction is committed, and its receipt is one more.
-pub record HasDone {A : Type 0} (work : Work A) (old : SessionState) (told : A × Stamp)
-    (new : SessionState) : Type 0 where
+pub record HasDone {A : Type 0} (o : Opening) (work : Work A) (old : SessionState)
+    (told : A × Stamp) (new : SessionState) : Type 0 where
   pub begun : SessionState
-  pub begins : HasNewTx old begun
+  pub begins : HasNewTx o old begun
   pub worked : SessionState
   pub works : work begun (Ok told.0) worked
   pub tx : ℕ
@@ -50,12 +59,12 @@ pub record HasDone {A : Type 0} (work : Work A) (old : SessionState) (told : A �
   pub commits : new ≡ record worked {
     tx = None;
     told = [];
-    receipts = old.receipts ++ receipt tx told.1.0 worked.told ∷ [];
+    receipts = begun.receipts ++ receipt tx told.1.0 worked.told ∷ [];
   }
 
 abbrev pub IsAttempt : {A : Type 0} → Opening → Work A → SessionState → Result (A × Stamp) Refusal
     → SessionState → Type 0
-IsAttempt o work old (Ok told) new = HasDone work old told new
+IsAttempt o work old (Ok told) new = HasDone o work old told new
 IsAttempt o work old (Err e) new = HasNotDone o work old e new
 
 -- so many attempts one after another, each refused with a failure
@@ -64,11 +73,13 @@ HaveFailed o work zero old new = new ≡ old
 HaveFailed o work (suc n) old new = (between : SessionState) × HaveFailed o work n old between
     × (e : Refusal) × (is_failure e ≡ true) × IsAttempt o work between (Err e) new
 
--- what is accepted has one receipt more, which ends there; what is refused has none
-abbrev pub HasOneMore : {A : Type 0} → Result (A × Stamp) Refusal → List Receipt → List Receipt
-    → Type 0
-HasOneMore (Ok told) old new = (r : Receipt) × (r.end ≡ told.1.0) × (new ≡ old ++ r ∷ [])
-HasOneMore (Err e) old new = new ≡ old
+-- What is accepted has one receipt more, which ends there; what is refused has none. Of those that
+-- were there some may be forgotten.
+abbrev pub HasOneMore : {A : Type 0} → Opening → Result (A × Stamp) Refusal → List Receipt
+    → List Receipt → Type 0
+HasOneMore o (Ok told) old new = (left : List Receipt) × HasForgottenAny o old left
+    × (r : Receipt) × (r.end ≡ told.1.0) × (new ≡ left ++ r ∷ [])
+HasOneMore o (Err e) old new = HasForgottenAny o old new
 
 -- Attempts up to the first that doesn't fail, up to so many in all, and at least one: the answer is
 -- the last one's, and a failure alone where all of them failed.
@@ -80,7 +91,7 @@ pub record AreAttempts {A : Type 0} (o : Opening) (work : Work A) (times : ℕ) 
   pub last : IsAttempt o work before result new
   pub fewer : failures < max 1 times
   pub spent : IfErr result (λ e. is_failure e ≡ true → failures + 1 ≡ max 1 times)
-  pub receipts : HasOneMore result old.receipts new.receipts
+  pub receipts : HasOneMore o result old.receipts new.receipts
   pub tx : new.tx ≡ None
 
 -- Refused with Busy where it has a transaction, and nothing changes.

@@ -65,7 +65,7 @@ impl<'e, L: Run> CoreGuard<'e, L> {
         self.held.tale_start()
     }
 
-    /// How many sessions were made.
+    /// How many sessions there are: made, and not retired.
     pub fn made(&self) -> u32
         ensures { result ≡ self.now.made }
     {

@@ -1,5 +1,6 @@
 mod call_by_call;
 mod jobs;
+mod retiring;
 
 ghost use Rattle.std.specs.Prelude.{◌≡◌};
 ghost use Rattle.mvo_store.specs.Seen.{mark_of};
@@ -90,10 +91,11 @@ impl<L: Run, D: Disk, G: Gate + Drop> Engine<L, D, G> {
     }
 
     /// A session, which has begun no transaction and has no receipts. Refused with TableFull where
-    /// as many were made as may be (`MAX_SESSIONS`).
+    /// there are as many as may be (`MAX_SESSIONS`): made, and not retired (`retire`).
     pub fn session<R: Wait>(&self, rt: &R) -> Result<Session<'_, L, D, G>, Refusal>
         ensures ok { IfOk result (λ session. session.tx ≡ None) }
         ensures receipts { IfOk result (λ session. session.receipts ≡ []) }
+        ensures forgotten { IfOk result (λ session. session.forgotten ≡ 0) }
         ensures err { IfErr result (λ r. r ≡ Refusal.TableFull) }
         ensures made { WasMade L.opening result }
     {

@@ -1,6 +1,6 @@
 use crate::chain::Chain;
 use crate::ends::Ends;
-use crate::run::MAX_SESSIONS;
+use crate::run::PARTS;
 use mvo_core::Core;
 use mvo_disk::Disk;
 use mvo_group::Group;
@@ -37,7 +37,7 @@ impl<D: Disk> Model for Fresh<D> {
     ghost use Rattle.mvo_store.specs.Seen.{disk_of, mark_of};
     ghost use Rattle.mvo_engine.specs.run.Rings.{ring_of, ring_from};
     ghost use Rattle.mvo_engine.specs.run.Opening.{opening_of};
-    ghost use Rattle.mvo_engine.specs.declared.run.run.TheConstants.{MAX_SESSIONS};
+    ghost use Rattle.mvo_engine.specs.declared.run.run.TheConstants.{PARTS};
     ghost use Rattle.mvo_engine.specs.Opened.{FreshData, HasOpened, AreFreshSeats, IsFreshRing};
 
     ghost Value = { FreshData D };
@@ -55,7 +55,7 @@ impl<D: Disk> Model for Fresh<D> {
 
     ghost invariant = { λ f. HasOpened D.Disk (opening_of D.Disk (disk_of f.store)) f.core f.store ×
         AreFreshSeats f.marks (mark_of f.store) f.publisher f.seat ×
-        IsFreshRing (mark_of f.store) f.producer f.consumer × (f.blank.parts ≡ MAX_SESSIONS) };
+        IsFreshRing (mark_of f.store) f.producer f.consumer × (f.blank.parts ≡ PARTS) };
 }
 
 impl<D: Disk> Fresh<D> {
@@ -124,7 +124,7 @@ impl<D: Disk> Fresh<D> {
             marks,
             publisher,
             seat,
-            blank: Blank::new(MAX_SESSIONS as u64),
+            blank: Blank::new(PARTS as u64),
         })
     }
 }

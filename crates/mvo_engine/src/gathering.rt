@@ -1,16 +1,18 @@
 //! The receipts of all sessions, and what they count.
-ghost use Rattle.std.specs.Prelude.{◌≡◌, ◌+◌, ◌≤◌, ◌++◌, [], length, vec_len, vec_capacity};
+ghost use Rattle.std.specs.Prelude.{◌≡◌, ◌+◌, ◌<◌, ◌≤◌, ◌++◌, [], length, vec_len, vec_capacity};
 ghost use Rattle.std.specs.Prelude.{IfOk, IfErr, IfSome, IsTrue};
-ghost use Rattle.mvo_types.specs.declared.refusal.Refusal.{Refusal};
 ghost use Rattle.mvo_engine.specs.run.Watching.{count_of};
-ghost use Rattle.mvo_engine.specs.Gathering.{HasGathered, receipts_in, gathered_receipts};
+ghost use Rattle.mvo_engine.specs.Booked.{IsBooked};
+ghost use Rattle.mvo_engine.specs.Gathering.{HasGathered, IsNotGathered, AreForgottenUpTo};
+ghost use Rattle.mvo_engine.specs.Gathering.{receipts_in, gathered_receipts};
 
 use crate::core_guard::CoreGuard;
 use crate::gate::Gate;
+use crate::locked_core::LockedCore;
 use crate::run::{Receipt, Run};
 use crate::session::Session;
 use mvo_disk::Disk;
-use mvo_types::Refusal;
+use mvo_types::{Refusal, Stamp};
 use std::alloc::Global;
 use std::sync::ledger::Share;
 
@@ -26,7 +28,8 @@ pub enum Gathered<'e, L: Run, D: Disk + Drop, G: Gate + Drop> {
 /// The receipts of all sessions that were made, those of the last one first; or, where fewer are
 /// handed in, these sessions. The receipt that the run watches, which may be any, is among all
 /// receipts as often as among the stored commits, where the tale starts below its end. Refused with
-/// OutOfMemory, the sessions come back.
+/// OutOfMemory, or with Busy where a session let go of receipts above the start of the tale, which
+/// no run meets, the sessions come back.
 pub fn gather<'e, L: Run, D: Disk + Drop, G: Gate + Drop>(
     core: &mut CoreGuard<'_, L>,
     alloc: Global,
@@ -34,20 +37,60 @@ pub fn gather<'e, L: Run, D: Disk + Drop, G: Gate + Drop>(
 ) -> Result<Gathered<'e, L, D, G>, (Refusal, Vec<Session<'e, L, D, G>>)>
     ensures gathered { IfOk result (HasGathered L.watched core.old sessions.entry.items) }
     ensures refused { IfErr result (λ e.
-        (e.0 ≡ Refusal.OutOfMemory) × (e.1.items ≡ sessions.entry.items)) }
+        IsNotGathered core.old sessions.entry.items e.0 × (e.1.items ≡ sessions.entry.items)) }
     ensures core { core.new ≡ core.old }
 {
     if (sessions.len() as u64) < u64::from(core.made()) {
         return Ok(Gathered::Missing(sessions));
     }
+    let start = core.tale_start();
+    if !are_forgotten_up_to(start, sessions.as_slice()) {
+        return Err((Refusal::Busy, sessions));
+    }
     let mut all = Vec::new(alloc);
     if !reserve_for(&mut all, sessions.as_slice()) {
         return Err((Refusal::OutOfMemory, sessions));
     }
-    let nothing = core.held.no_part();
-    let whole = pour(&mut all, sessions, nothing);
-    core.held.tally(whole);
+    pour_all(&mut *core.held, &mut all, sessions, start);
     Ok(Gathered::All(all))
+}
+
+/// Pours the receipts of all sessions into the list, those of the last one first, and compares what
+/// their parts count with the book. The tale starts at the stamp.
+fn pour_all<L: Run, D: Disk + Drop, G: Gate + Drop>(
+    core: &mut LockedCore<L>,
+    all: &mut Vec<Receipt>,
+    sessions: Vec<Session<'_, L, D, G>>,
+    start: Stamp,
+)
+    requires empty { all.old.items ≡ [] }
+    requires room { receipts_in sessions.items ≤ vec_capacity all.old }
+    requires made { core.old.made ≤ length sessions.items }
+    requires start { start.0 ≡ core.old.core.start }
+    requires forgotten { AreForgottenUpTo start.0 sessions.items }
+    ensures items { all.new.items ≡ gathered_receipts sessions.entry.items }
+    ensures booked { IsBooked L.watched core.old.core (count_of L.watched all.new.items) }
+    ensures core { core.new ≡ core.old }
+{
+    let nothing = core.no_part();
+    let whole = pour(all, sessions, nothing, start);
+    core.tally(whole);
+}
+
+/// Whether none of these sessions has let go of receipts above the stamp.
+fn are_forgotten_up_to<L: Run, D: Disk, G: Gate + Drop>(
+    start: Stamp,
+    sessions: &[Session<'_, L, D, G>],
+) -> bool
+    ensures yes { IsTrue result → AreForgottenUpTo start.0 sessions.now }
+    ensures no { AreForgottenUpTo start.0 sessions.now → IsTrue result }
+{
+    for session in sessions {
+        if start < session.forgotten() {
+            return false;
+        }
+    }
+    true
 }
 
 /// Takes room for the receipts of all these sessions.
@@ -77,19 +120,21 @@ fn count_all<L: Run, D: Disk, G: Gate + Drop>(sessions: &[Session<'_, L, D, G>])
 }
 
 /// Pours the receipts of these sessions into the list, those of the last one first, and their parts
-/// into one.
+/// into one. The tale starts at the stamp.
 #[tactic(auto, using(crate::proofs::Pouring::poured, crate::proofs::Pouring::all_poured))]
 fn pour<L: Run, D: Disk + Drop, G: Gate + Drop>(
     all: &mut Vec<Receipt>,
     sessions: Vec<Session<'_, L, D, G>>,
     nothing: Share<L>,
+    start: Stamp,
 ) -> Share<L>
     requires empty { all.old.items ≡ [] }
     requires room { receipts_in sessions.items ≤ vec_capacity all.old }
     requires nothing { (nothing.parts ≡ 0) × (nothing.amount ≡ 0) }
+    requires forgotten { AreForgottenUpTo start.0 sessions.items }
     ensures parts { result.parts ≡ length sessions.entry.items }
     ensures items { all.new.items ≡ gathered_receipts sessions.entry.items }
-    ensures amount { result.amount ≡ count_of L.watched all.new.items }
+    ensures amount { start.0 < L.watched.end → result.amount ≡ count_of L.watched all.new.items }
 {
     let mut whole = nothing;
     let mut left = sessions;

@@ -1,5 +1,5 @@
 use crate::locked_store::LockedStore;
-use crate::run::{MAX_SESSIONS, Receipt, Receipts, Run, Told};
+use crate::run::{MAX_SESSIONS, PARTS, Receipt, Receipts, Run, Told};
 use crate::sends::Sends;
 use mvo_core::{Closed, Collection, Core, Finishing, Settlement, Tale, Validation};
 use mvo_disk::Disk;
@@ -7,6 +7,7 @@ use mvo_marks::{Marks, Seat};
 use mvo_types::{Answer, Op, Refusal, Stamp, TxId};
 use std::alloc::Global;
 use std::marker::Model;
+use std::mem;
 use std::sync::ledger::{Book, Share};
 
 /// What lies under the lock of the core: the core, where it closes its groups, and the book of the
@@ -22,7 +23,7 @@ pub struct LockedCore<L: Run> {
     sends: Sends<L>,
     book: Book<L>,
     spare: Share<L>,
-    /// How many sessions were made.
+    /// How many sessions there are: made, and not retired.
     made: u32,
 }
 
@@ -54,7 +55,7 @@ impl<L: Run> Model for LockedCore<L> {
 
     ghost invariant = { λ s. IsSoundCore L.opening s.core s.sends.sent
         × IsBooked L.watched s.core s.book.total
-        × HasSpareParts L.parts s.made s.spare.parts s.spare.amount };
+        × HasSpareParts L.watched s.core.start L.parts s.made s.spare.parts s.spare.amount };
 }
 
 impl<L: Run> LockedCore<L> {
@@ -85,7 +86,8 @@ impl<L: Run> LockedCore<L> {
     ) -> LockedCore<L>
         requires sound { IsSoundCore L.opening core sends.sent }
         requires booked { IsBooked L.watched core ledger.0.total }
-        requires parts { HasSpareParts L.parts 0 ledger.1.parts ledger.1.amount }
+        requires parts { HasSpareParts L.watched core.start L.parts 0
+            ledger.1.parts ledger.1.amount }
         ensures core { result.core ≡ core }
         ensures sends { result.sends ≡ sends }
         ensures made { result.made ≡ 0 }
@@ -119,7 +121,8 @@ impl<L: Run> LockedCore<L> {
 
     /// As `Core::tale_start`.
     pub fn tale_start(&self) -> Stamp
-        ensures { result.0 ≡ self.now.core.start }
+        ensures start { result.0 ≡ self.now.core.start }
+        ensures sound { IsSoundCore L.opening self.now.core self.now.sends.sent }
     {
         self.core.tale_start()
     }
@@ -162,6 +165,7 @@ impl<L: Run> LockedCore<L> {
         ensures sound { IsSoundCore L.opening self.old.core self.old.sends.sent }
         ensures seat { IfSome result (λ given. given.0.marks ≡ L.marks) }
         ensures receipts { IfSome result (λ given. given.1.list ≡ []) }
+        ensures forgotten { IfSome result (λ given. given.1.forgotten ≡ 0) }
         ensures made { IsAnother self.old result self.new }
     {
         if self.made >= MAX_SESSIONS {
@@ -172,7 +176,7 @@ impl<L: Run> LockedCore<L> {
         Some((self.sends.split(marks), Receipts::new(self.alloc, share)))
     }
 
-    /// How many sessions were made.
+    /// How many sessions there are.
     pub fn made(&self) -> u32
         ensures { result ≡ self.now.made }
     {
@@ -197,10 +201,27 @@ impl<L: Run> LockedCore<L> {
         let mut whole = whole;
         // No part, no amount.
         self.book.audit(&mut whole);
-        let parts = MAX_SESSIONS - self.made;
-        self.spare.give(&mut whole, parts as u64, 0);
-        self.book.audit(&mut whole);
-        whole.give(&mut self.spare, parts as u64, 0);
+        let none = self.spare.empty();
+        let mut all = mem::replace(&mut self.spare, none);
+        all.merge(whole);
+        self.book.audit(&mut all);
+        if self.made > 0 {
+            self.spare = all.split_off((PARTS - self.made) as u64, 0);
+        } else {
+            self.spare = all;
+        }
+    }
+
+    /// Takes the part of a session back, whose receipts are all gone: there is one session fewer.
+    pub fn take_back(&mut self, receipts: Receipts<L>)
+        requires none { receipts.list ≡ [] }
+        requires forgotten { receipts.forgotten ≤ self.old.core.start }
+        ensures fewer { self.new.made + 1 ≡ self.old.made }
+        ensures rest { self.new ≡ record self.old { made = self.new.made } }
+    {
+        let (_, share) = receipts.into_parts();
+        self.spare.merge(share);
+        self.made -= 1;
     }
 
     /// What is known with both locks. It changes nothing.

@@ -2,6 +2,7 @@
 
 mod copying;
 mod counting;
+mod kept_receipts;
 mod receipt;
 mod receipts;
 mod run;
@@ -9,5 +10,5 @@ mod told;
 
 pub use receipt::Receipt;
 pub use receipts::Receipts;
-pub use run::{MAX_SESSIONS, Run};
+pub use run::{MAX_SESSIONS, PARTS, Run};
 pub use told::Told;

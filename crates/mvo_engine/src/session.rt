@@ -1,4 +1,5 @@
 mod committing;
+mod forgetting;
 mod operating;
 mod transacting;
 
@@ -16,8 +17,8 @@ use std::sync::{MutexGuard, Wait};
 use std::thread;
 
 /// One caller of an engine, in one thread at a time. It has one transaction at a time, and keeps a
-/// receipt of each that it committed. A session that is dropped inside a transaction leaves it
-/// unfinished.
+/// receipt of each that it committed, until its end isn't above the start of the tale. A session
+/// that is dropped inside a transaction leaves it unfinished.
 pub struct Session<'e, L: Run, D: Disk, G: Gate + Drop> {
     engine: &'e Engine<L, D, G>,
     seat: Seat,
@@ -52,6 +53,7 @@ impl<'e, L: Run, D: Disk, G: Gate + Drop> Model for Session<'e, L, D, G> {
       told = s.told;
       receipts = s.receipts.list;
       durable = s.seat.known.durable;
+      forgotten = s.receipts.forgotten;
     } };
 
     ghost invariant = { λ s. (s.seat.marks ≡ L.marks)
@@ -60,6 +62,7 @@ impl<'e, L: Run, D: Disk, G: Gate + Drop> Model for Session<'e, L, D, G> {
 
 impl<'e, L: Run, D: Disk, G: Gate + Drop> Session<'e, L, D, G> {
     ghost use Rattle.std.specs.Prelude.{◌≡◌, ◌≤◌, None, IsTrue, OnOk, IfErr};
+    ghost use Rattle.std.specs.Option.{is_some};
     ghost use Rattle.mvo_types.specs.declared.refusal.Refusal.{Refusal};
     ghost use Rattle.mvo_store.specs.Seen.{mark_of};
     ghost use Rattle.mvo_engine.specs.Asked.{WasDown};
@@ -73,6 +76,7 @@ impl<'e, L: Run, D: Disk, G: Gate + Drop> Session<'e, L, D, G> {
         requires { seat.marks ≡ L.marks }
         ensures tx { result.tx ≡ None }
         ensures receipts { result.receipts ≡ receipts.list }
+        ensures forgotten { result.forgotten ≡ receipts.forgotten }
     {
         Session {
             engine,
@@ -85,7 +89,8 @@ impl<'e, L: Run, D: Disk, G: Gate + Drop> Session<'e, L, D, G> {
 
     // Apart: the receipts.
     pub(crate) fn into_receipts(self) -> Receipts<L>
-        ensures { result.list ≡ self.entry.receipts }
+        ensures list { result.list ≡ self.entry.receipts }
+        ensures forgotten { result.forgotten ≡ self.entry.forgotten }
     {
         let Session {
             engine: _,
@@ -97,12 +102,26 @@ impl<'e, L: Run, D: Disk, G: Gate + Drop> Session<'e, L, D, G> {
         receipts
     }
 
-    /// Its receipts, one for each of its commits, by end.
+    /// Its receipts, one for each of its commits but those that it let go of, by end.
     pub fn receipts(&self) -> &[Receipt]
         ensures value { result.now ≡ self.now.receipts }
         ensures rising { Rises self.now.receipts }
     {
         self.receipts.list()
+    }
+
+    // Whether it is in a transaction.
+    pub(crate) fn has_tx(&self) -> bool
+        ensures { result ≡ is_some self.now.tx }
+    {
+        self.tx.is_some()
+    }
+
+    // None of the receipts that it let go of ends above this.
+    pub(crate) fn forgotten(&self) -> Stamp
+        ensures { result.0 ≡ self.now.forgotten }
+    {
+        self.receipts.forgotten()
     }
 
     /// Whether all commits that end up to the stamp are on the disk, as the session sees it now. It

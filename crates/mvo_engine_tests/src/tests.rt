@@ -8,6 +8,7 @@ mod ending;
 mod gathering;
 mod held_disk;
 mod jobs;
+mod lasting;
 mod meeting;
 mod reads_free;
 mod rows;

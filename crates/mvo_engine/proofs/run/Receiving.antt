@@ -1,6 +1,6 @@
 -- Receipts with rising ends, and what they count.
 use Rattle.std.proofs.Common.{◌≡◌, ℕ, ◌+◌, ◌≤◌, ◌<◌, List, [], ◌∷◌, ◌++◌, arith}
-use Rattle.std.proofs.lemmas.List.Sums.{sum_by-cons, sum_by-append}
+use Rattle.std.proofs.lemmas.List.Sums.{sum_by-append}
 use Rattle.mvo_theory.proofs.Each.{each_append, each_weaker}
 use Rattle.mvo_core.specs.Receipts.{Receipt}
 use Rattle.mvo_engine.specs.run.Receiving.{Rises, AreBelow, AreUpTo}

@@ -58,4 +58,9 @@ impl Receipt {
     {
         self.end
     }
+
+    // Lets go of its operations.
+    pub(crate) fn empty(&mut self) {
+        self.operations = Vec::new(*self.operations.allocator());
+    }
 }

@@ -1,11 +1,15 @@
 use std::marker::Brand;
 use std::sync::ledger::Ledger;
 
-/// So many sessions may be made of one engine: each has one part of the ledger.
+/// So many sessions there may be of one engine at a time: each has one part of the ledger.
 pub const MAX_SESSIONS: u32 = 1_048_576;
 
+/// The parts of the ledger. One stays under the lock of the core: it has what sessions counted that
+/// were retired.
+pub const PARTS: u32 = MAX_SESSIONS + 1;
+
 /// Names one run of an engine: what it was opened over, its marks and its ring, a
-/// ledger of `MAX_SESSIONS` parts, and the receipt that the ledger counts, which may be any: no
+/// ledger of `PARTS` parts, and the receipt that the ledger counts, which may be any: no
 /// code knows which. The values under the locks and the sessions agree on it.
 pub trait Run: Ledger {
     ghost use Rattle.mvo_engine.specs.run.Opening.{Opening};

@@ -5,36 +5,61 @@ use crate::gate::Gate;
 use crate::run::Run;
 use mvo_core::copy_of;
 use mvo_disk::Disk;
-use mvo_types::{Answer, Op, Refusal, Row, RowKey, TxId};
+use mvo_types::{Answer, Op, Refusal, Row, RowKey, Stamp, TxId};
 use std::sync::Wait;
+
+/// So many receipts are let go of at most with a begin.
+const FORGOTTEN_AT_ONCE: usize = 64;
 
 impl<'e, L: Run, D: Disk, G: Gate + Drop> Session<'e, L, D, G> {
     ghost use Rattle.std.specs.Prelude.{◌≡◌, [], true, Ok, IfOk, IfErr};
     ghost use Rattle.mvo_types.specs.declared.op.Op.TheVariants as Op;
     ghost use Rattle.mvo_engine.specs.Asked.{IsCoreAnswer, HasLeftTx};
     ghost use Rattle.mvo_engine.specs.Calls.{HasAsked, IsBegun, IsNoTx};
+    ghost use Rattle.mvo_engine.specs.Forgetting.{HasForgottenIfOk, WasStart};
     ghost use Rattle.mvo_engine.specs.Refusing.{refuses_begin, refuses_operation};
+    ghost use Rattle.mvo_engine.specs.declared.session.operating.TheConstants.{FORGOTTEN_AT_ONCE};
     ghost use Rattle.mvo_engine.specs.run.Receiving.{AreBelow};
 
-    /// Begins a transaction, above the ends of all receipts. Its id is its begin timestamp.
-    /// Refused: Busy where the session has one, TableFull, ClockSpent, OutOfMemory.
+    /// Begins a transaction, above the ends of all receipts. Its id is its begin timestamp. It lets
+    /// go of up to 64 receipts that end up to the start of the tale (`forget`). Refused: Busy where
+    /// the session has one, TableFull, ClockSpent, OutOfMemory.
     pub fn begin_tx<R: Wait>(&mut self, rt: &R) -> Result<TxId, Refusal>
         ensures begun { IsBegun self.old.tx result self.new.tx }
         ensures told { IfOk result (λ _. self.new.told ≡ []) }
-        ensures above { IfOk result (λ t. AreBelow t.0 self.new.receipts) }
-        ensures rest { self.new ≡
-            record self.old { tx = self.new.tx; told = self.new.told } }
+        ensures above { IfOk result (λ t. AreBelow t.0 self.old.receipts) }
+        ensures forgets { HasForgottenIfOk L.opening FORGOTTEN_AT_ONCE self.old result self.new }
+        ensures rest { self.new ≡ record self.old {
+          tx = self.new.tx;
+          told = self.new.told;
+          receipts = self.new.receipts;
+          forgotten = self.new.forgotten;
+        } }
         ensures err { IfErr result (λ e. refuses_begin e ≡ true) }
     {
         if self.tx.is_some() {
             return Err(Refusal::Busy);
         }
-        match self.enter(rt).begin_tx(self.receipts.last_end()) {
-            Ok(tx) => {
-                self.told.clear();
-                self.tx = Some(tx);
-                Ok(tx)
-            }
+        let (tx, start) = match self.begun(rt) {
+            Ok(begun) => begun,
+            Err(refusal) => return Err(refusal),
+        };
+        self.receipts.forget(start, FORGOTTEN_AT_ONCE);
+        self.told.clear();
+        self.tx = Some(tx);
+        Ok(tx)
+    }
+
+    // Begins a transaction in the core, and tells where the tale starts.
+    fn begun<R: Wait>(&self, rt: &R) -> Result<(TxId, Stamp), Refusal>
+        ensures above { IfOk result (λ b. AreBelow b.0.0 self.now.receipts) }
+        ensures start { IfOk result (λ b. WasStart L.opening b.1.0) }
+        ensures err { IfErr result (λ e. refuses_begin e ≡ true) }
+    {
+        let mut core = self.enter(rt);
+        let start = core.tale_start();
+        match core.begin_tx(self.receipts.last_end()) {
+            Ok(tx) => Ok((tx, start)),
             Err(refusal) => Err(refusal),
         }
     }

@@ -19,7 +19,8 @@ impl<'e, L: Run, D: Disk, G: Gate + Drop> Session<'e, L, D, G> {
     /// (WriteConflict, ValidationFailed, DependencyAborted), all of it is done again, up to so many
     /// times in all, at least once. Where anything else is refused it is rolled back, so the
     /// session is left without a transaction. Answers what the work gave, with the end timestamp
-    /// of the commit, whose receipt is one more; what is refused has left none.
+    /// of the commit, whose receipt is one more; what is refused has left none. Each attempt lets
+    /// go of up to 64 receipts that end up to the start of the tale.
     ///
     /// Refused with Busy where the session has a transaction, which stays; as the last attempt
     /// was; and where the work ended the transaction itself, with NoSuchTransaction.

@@ -9,7 +9,7 @@ use Rattle.mvo_core.specs.Receipts.{Receipt, receipt}
 use Rattle.mvo_engine.specs.run.Receiving.{AreBelow}
 use Rattle.mvo_engine.proofs.run.Receiving.{below_later}
 use Rattle.mvo_engine.proofs.CoreSound.{stays_sound}
-use Rattle.mvo_engine.proofs.Booked.{committed, waited, refused, ends_above}
+use Rattle.mvo_engine.proofs.Booked.{committed, waited, refused, ends_above, start_up, spare_later}
 use Rattle.mvo_engine.proofs.locked_core.LockedCore.settle.Goals as goal
 
 pub add-requires-clause-above : goal.add-requires-clause-above
@@ -64,7 +64,7 @@ invariant_of-self g c =
     let counts = c.add.ensures.total ∙ ap (λ (r : Receipt). c.self.inside.book.total + g.L.Run.watched.weigh r) added in (
       stays_sound i.0 c.settle.result c.settle.ensures.step refl,
       committed g.L.Run.watched i.1 c.args.tx end c.args.told.now c.holds.result new c.add.new.book.total step answer holds c.if-not-holds.false counts,
-      i.2,
+      spare_later _ i.2 (start_up g.L.Run.watched i.1 _ c.settle.result c.settle.new.self c.settle.ensures.step),
     )
 
 pub invariant_of-self-in-Ok-Waiting : goal.invariant_of-self-in-Ok-Waiting
@@ -78,7 +78,7 @@ invariant_of-self-in-Ok-Waiting g c =
       waited g.L.Run.watched i.1 c.args.tx c.in-Ok-Waiting.other new
           (subst (λ (a : Settlement). IsStep {A = Settlement} old (Settle c.args.tx.0) (Ok a) new) q e.step)
           (subst (λ (a : Settlement). IsSettlement old c.args.tx.0 a) q e.answer),
-      i.2,
+      spare_later _ i.2 (start_up g.L.Run.watched i.1 _ c.settle.result c.settle.new.self c.settle.ensures.step),
     )
 
 pub invariant_of-self-in-Err : goal.invariant_of-self-in-Err
@@ -87,5 +87,5 @@ invariant_of-self-in-Err g c =
     let new = c.settle.new.self in (
       stays_sound i.0 c.settle.result c.settle.ensures.step refl,
       refused g.L.Run.watched i.1 c.args.tx c.in-Err.refusal new c.in-Err.ensures.step,
-      i.2,
+      spare_later _ i.2 (start_up g.L.Run.watched i.1 _ c.settle.result c.settle.new.self c.settle.ensures.step),
     )
