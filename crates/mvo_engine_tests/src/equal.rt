@@ -17,3 +17,8 @@ pub fn holds(rt: &impl Abort, it: bool)
 {
     assert!(rt; it);
 }
+
+/// Asserts that two values are equal, at a place of a table.
+pub fn same_at<T: PartialEq + Debug>(rt: &impl Abort, at: usize, left: &T, right: &T) {
+    assert_eq!(rt; *left, *right, "at {at}");
+}

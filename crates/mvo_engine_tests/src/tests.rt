@@ -1,3 +1,4 @@
+mod asking;
 mod beside;
 mod calls;
 mod counting;
@@ -13,9 +14,12 @@ mod meeting;
 mod reads_free;
 mod rows;
 mod sessions;
+mod steps;
 mod through;
+mod told;
 mod transacting;
 mod trial;
+mod turns;
 mod upkeep;
 mod waiting;
 

@@ -4,7 +4,6 @@ use mvo_disk::Disk;
 use mvo_world::World;
 use std::alloc::Global;
 use std::io::{self, BufRead, BufReader, BufWriter, Read, Write};
-use std::thread::Threads;
 use thiserror::Error;
 
 /// Why a script isn't run to its end.
@@ -21,19 +20,6 @@ pub enum ScriptError {
     OutOfMemory,
 }
 
-/// Runs a script over a fresh store in memory, as `run_over` does. Who writes the script must not
-/// know the seed, as `World::open` says.
-pub fn run_script<R: Read + Drop, W: Write + Drop>(
-    rt: &(impl Threads + Sync),
-    alloc: Global,
-    seed: u64,
-    reader: R,
-    writer: W,
-) -> Result<(), ScriptError> {
-    let driver = Driver::new(rt, alloc, seed).map_err(|_| ScriptError::OutOfMemory)?;
-    run_driver(alloc, driver, reader, writer)
-}
-
 /// Runs a script over a world: one reply a line, also to a last line without its line feed. It
 /// keeps no more than a bounded part of a line, however long that is. The replies are written as
 /// the buffer fills, before it waits for more lines, and at the end. No group is flushed then.
@@ -43,17 +29,7 @@ pub fn run_over<D: Disk + Drop, R: Read + Drop, W: Write + Drop>(
     reader: R,
     writer: W,
 ) -> Result<(), ScriptError> {
-    run_driver(alloc, Driver::over(alloc, world), reader, writer)
-}
-
-/// Runs a script by a driver.
-fn run_driver<D: Disk + Drop, R: Read + Drop, W: Write + Drop>(
-    alloc: Global,
-    driver: Driver<D>,
-    reader: R,
-    writer: W,
-) -> Result<(), ScriptError> {
-    let mut driver = driver;
+    let mut driver = Driver::over(alloc, world);
     run_streams(alloc, &mut driver, reader, writer)
 }
 

@@ -1,114 +1,97 @@
 //! The disk meets a fault: the store is down, and groups wait for it in the ring.
 
+use super::asking::Ask::{Await, Poll, Put};
 use super::formatted;
-use super::rows::{change, put};
-use super::trial::{Trial, all_right, tried};
-use crate::equal::holds;
+use super::rows::change;
+use super::steps::CoreStep::{IsStored, TrimAll};
+use super::steps::Step::{Checkpoint, Core, Flush, Merge, One, Rotate, Store};
+use super::steps::StoreStep::{Call, FlushOne, Take};
+use super::steps::{Line, follow_new};
+use super::told::Told::{Done, Is, Number};
+use super::told::{DISK_FAULT, DOWN, stamped};
+use super::trial::{Alone, Trial, tried};
+use crate::equal::{holds, same_at};
 use mvo_disk::{Disk, MemDisk};
-use mvo_engine::{Engine, Gate, OpenGate, Run};
-use mvo_store::StoreCall;
-use mvo_types::{Refusal, Stamp};
+use mvo_engine::{Engine, Gate, OpenGate, Run, Session};
+use mvo_store::StoreCall::Reclaim;
+use mvo_types::Refusal;
 use std::alloc::Global;
+use std::process::Abort;
 use std::sync::Wait;
 use std::test::*;
 use std::thread::Threads;
 
 /// The first call of the disk behind the opening fails.
-#[derive(Drop)]
-struct Fault;
+const GONE_DOWN: [Line; 11] = [
+    // The row is put by 2, and its flush meets the fault. It isn't durable, and who waits is told
+    // so.
+    (One(Put(0)), Number(2)),
+    (Flush, DISK_FAULT),
+    (One(Await(2)), DOWN),
+    (One(Poll(2)), Is(false)),
+    (One(Await(0)), Done),
+    // Each step of the store is refused.
+    (Rotate, DOWN),
+    (Checkpoint, DOWN),
+    (Merge(0), DOWN),
+    (Store(FlushOne), DOWN),
+    (Store(Take), DOWN),
+    (Store(Call(Reclaim)), DOWN),
+];
 
-impl Trial<MemDisk, OpenGate> for Fault {
-    fn go<L: Run + Send + Sync, R: Threads + Wait + Sync>(
-        &self,
-        rt: &R,
-        alloc: Global,
-        engine: &Engine<L, MemDisk, OpenGate>,
-    ) -> Result<Vec<bool>, Refusal> {
-        let mut told = Vec::new(alloc);
-        goes_down(rt, alloc, engine, &mut told)?;
-        is_down_for_jobs(rt, engine, &mut told)?;
-        fills_the_ring(rt, alloc, engine, &mut told)?;
-        Ok(told)
-    }
-}
+/// 64 groups wait in the ring, and the last commit is in none, so that it is still stored.
+const RING_IS_FULL: [Line; 3] = [
+    (Core(TrimAll), Done),
+    (Core(IsStored(64)), Is(false)),
+    (Core(IsStored(65)), Is(true)),
+];
 
-fn is_down<X: Drop>(answer: Result<X, Refusal>) -> bool {
-    matches!(answer, Err(Refusal::Down))
-}
-
-// The row is put by 2, and its flush meets the fault. It isn't durable, and who waits is told so.
-fn goes_down<L: Run, D: Disk, G: Gate + Drop, R: Wait>(
+/// The store goes down, and its ring is filled.
+pub fn go_down<L: Run, D: Disk, G: Gate + Drop, R: Abort + Wait>(
     rt: &R,
     alloc: Global,
     engine: &Engine<L, D, G>,
-    told: &mut Vec<bool>,
 ) -> Result<(), Refusal> {
-    let mut session = engine.session(rt)?;
-    put(rt, alloc, &mut session, 0)?;
-    told.push(matches!(engine.flush(rt), Err(Refusal::DiskFault)))?;
-    told.push(is_down(session.wait_durable(rt, Stamp(2))))?;
-    told.push(!session.poll_durable(Stamp(2)))?;
-    told.push(session.wait_durable(rt, Stamp(0)).is_ok())?;
-    Ok(())
+    follow_new(rt, alloc, engine, &GONE_DOWN)?;
+    fill_the_ring(rt, alloc, engine)?;
+    follow_new(rt, alloc, engine, &RING_IS_FULL)
 }
 
-// Each step of the store is refused.
-fn is_down_for_jobs<L: Run, D: Disk, G: Gate + Drop, R: Wait>(
-    rt: &R,
-    engine: &Engine<L, D, G>,
-    told: &mut Vec<bool>,
-) -> Result<(), Refusal> {
-    told.push(is_down(engine.rotate(rt)))?;
-    told.push(is_down(engine.checkpoint(rt)))?;
-    told.push(is_down(engine.merge(rt, 0)))?;
-    told.push(is_down(engine.lock_store(rt).flush_one()))?;
-    told.push(is_down(engine.lock_store(rt).take()))?;
-    told.push(is_down(engine.lock_store(rt).call(StoreCall::Reclaim)))?;
-    Ok(())
-}
-
-// Each flush closes a group and is then told that the store is down. The row is changed 65 times:
-// 64 groups wait in the ring, and the last commit is in none, so that it is still stored.
-fn fills_the_ring<L: Run, D: Disk, G: Gate + Drop, R: Wait>(
+fn fill_the_ring<L: Run, D: Disk, G: Gate + Drop, R: Abort + Wait>(
     rt: &R,
     alloc: Global,
     engine: &Engine<L, D, G>,
-    told: &mut Vec<bool>,
 ) -> Result<(), Refusal> {
     let mut session = engine.session(rt)?;
-    let mut each_down = true;
+    change_and_flush(rt, alloc, engine, &mut session)
+}
+
+// Each flush closes a group and is then told that the store is down. The row is changed 65 times.
+fn change_and_flush<L: Run, D: Disk, G: Gate + Drop, R: Abort + Wait>(
+    rt: &R,
+    alloc: Global,
+    engine: &Engine<L, D, G>,
+    session: &mut Session<'_, L, D, G>,
+) -> Result<(), Refusal> {
     for byte in 1..=65 {
-        change(rt, alloc, &mut session, byte)?;
-        each_down &= is_down(engine.flush(rt));
+        change(rt, alloc, session, byte)?;
+        same_at(rt, byte as usize, &stamped(engine.flush(rt)), &DOWN);
     }
-    told.push(each_down)?;
-    let clock = engine.lock_core(rt).clock();
-    told.push(engine.lock_core(rt).trim_tale(clock).is_ok())?;
-    told.push(!is_stored(rt, engine, 64))?;
-    told.push(is_stored(rt, engine, 65))?;
     Ok(())
 }
 
-// Whether a commit is stored at the place.
-fn is_stored<L: Run, D: Disk, G: Gate + Drop, R: Wait>(
-    rt: &R,
-    engine: &Engine<L, D, G>,
-    place: usize,
-) -> bool {
-    engine.lock_core(rt).tale().get(place).is_some()
-}
-
-/// What is told over a disk on which so many calls go on. None where the opening meets the fault.
-fn told_behind<R: Threads + Wait + Sync>(
+/// Whether it goes so over a disk on which so many calls go on, and not where the opening meets the
+/// fault.
+fn goes_down_behind<R: Abort + Threads + Wait + Sync>(
     rt: &R,
     alloc: Global,
     mut disk: MemDisk,
     calls: u64,
-) -> Result<Option<Vec<bool>>, Refusal> {
+) -> Result<bool, Refusal> {
     disk.fail_at(calls);
-    match tried(rt, alloc, disk, OpenGate, &Fault) {
-        Ok((told, _)) => Ok(Some(told)),
-        Err(Refusal::DiskFault) => Ok(None),
+    match tried(rt, alloc, disk, OpenGate, Trial::Alone(Alone::Down)) {
+        Ok(_disk) => Ok(true),
+        Err(Refusal::DiskFault) => Ok(false),
         Err(refusal) => Err(refusal),
     }
 }
@@ -118,8 +101,7 @@ fn a_fault_is_told_to_all(rt: HostRuntime) -> Result<(), Fail> {
     let alloc = rt.alloc();
     let mut was_told = false;
     for calls in 0..2000 {
-        if let Some(told) = told_behind(&rt, alloc, formatted(alloc)?, calls)? {
-            all_right(&rt, &told, 14);
+        if goes_down_behind(&rt, alloc, formatted(alloc)?, calls)? {
             was_told = true;
             break;
         }

@@ -5,11 +5,11 @@ ghost use Rattle.mvo_engine.specs.Opening.{WasFormatted};
 ghost use Rattle.mvo_engine_tests.specs.Ends.{HasAll};
 
 use super::rows::{change, put};
-use super::through::finding;
+use super::through::FOUND;
+use super::trial::{Trial, tried};
 use super::{SEED, formatted};
-use crate::equal::same;
 use mvo_disk::Disk;
-use mvo_engine::{Engine, Fresh, OpenGate, Run, SeenDurable};
+use mvo_engine::{Engine, Fresh, OpenGate, Run, SeenDurable, Session};
 use mvo_types::Refusal;
 use std::alloc::Global;
 use std::marker::Brand;
@@ -26,10 +26,30 @@ fn work<L: Run, D: Disk, R: Wait>(
 ) -> Result<Vec<SeenDurable<L>>, Refusal> {
     let mut session = engine.session(rt)?;
     let mut other = engine.session(rt)?;
-    let end = put(rt, alloc, &mut session, 0x61)?;
+    match wait_and_change(rt, alloc, engine, &mut session) {
+        Ok(()) => seen_by(alloc, &mut session, &mut other),
+        Err(refusal) => Err(refusal),
+    }
+}
+
+fn wait_and_change<L: Run, D: Disk, R: Wait>(
+    rt: &R,
+    alloc: Global,
+    engine: &Engine<L, D, OpenGate>,
+    session: &mut Session<'_, L, D, OpenGate>,
+) -> Result<(), Refusal> {
+    let end = put(rt, alloc, session, 0x61)?;
     engine.flush(rt)?;
     session.wait_durable(rt, end)?;
-    change(rt, alloc, &mut session, 0x62)?;
+    change(rt, alloc, session, 0x62)?;
+    Ok(())
+}
+
+fn seen_by<L: Run, D: Disk>(
+    alloc: Global,
+    session: &mut Session<'_, L, D, OpenGate>,
+    other: &mut Session<'_, L, D, OpenGate>,
+) -> Result<Vec<SeenDurable<L>>, Refusal> {
     let mut seen = Vec::new(alloc);
     seen.push(session.seen())?;
     seen.push(other.seen())?;
@@ -72,7 +92,6 @@ fn run_ending<L: Run + Send + Sync, D: Disk + Drop + Send, R: Threads + Wait + S
 fn what_was_told_durable_is_on_the_disk(rt: HostRuntime) -> Result<(), Fail> {
     let alloc = rt.alloc();
     let disk = ending(&rt, alloc, formatted(alloc)?)?;
-    let (byte, _) = finding(&rt, alloc, disk)?;
-    same(&rt, &byte, &Some(0x61));
+    tried(&rt, alloc, disk, OpenGate, Trial::Steps(&FOUND))?;
     Ok(())
 }

@@ -1,15 +1,15 @@
 //! What the sessions of four threads were told is what is stored, each commit once.
-ghost use Rattle.mvo_engine.specs.Opened.{IsNamedBy};
 
+use super::day::{compare, push_all};
 use super::rows::byte_in;
-use super::{SEED, formatted};
+use super::trial::{Meeting, Trial, tried_anew};
 use crate::equal::same;
 use mvo_core::Tale;
 use mvo_disk::Disk;
-use mvo_engine::{CoreGuard, Engine, Fresh, Gathered, OpenGate, Receipt, Run, Session, gather};
+use mvo_engine::{CoreGuard, Engine, Gate, Gathered, OpenGate, Receipt, Run, Session, gather};
 use mvo_types::{Answer, Op, Refusal, Row, RowKey};
 use std::alloc::{AllocError, Global};
-use std::marker::Brand;
+use std::process::Abort;
 use std::sync::Wait;
 use std::test::*;
 use std::thread::{Threads, map_indices};
@@ -19,49 +19,68 @@ const WORKERS: usize = 4;
 /// So many transactions each worker commits.
 const ROUNDS: u8 = 8;
 
-/// A row of the worker.
-fn row_of(alloc: Global, worker: usize, byte: u8) -> Result<Row, AllocError> {
-    let key = RowKey {
+fn key_of(worker: usize) -> RowKey {
+    RowKey {
         table: 0,
         key: worker as u64,
-    };
-    Row::new(key, 50, [byte].to_vec(alloc)?)
+    }
+}
+
+/// A row of the worker.
+fn row_of(alloc: Global, worker: usize, byte: u8) -> Result<Row, AllocError> {
+    Row::new(key_of(worker), 50, [byte].to_vec(alloc)?)
 }
 
 /// One worker puts a row of its own, and then reads and changes it.
-fn work<'e, L: Run, D: Disk, R: Wait>(
+fn work<'e, L: Run, D: Disk, G: Gate + Drop, R: Wait>(
     rt: &R,
     alloc: Global,
-    engine: &'e Engine<L, D, OpenGate>,
+    engine: &'e Engine<L, D, G>,
     worker: usize,
-) -> Result<Session<'e, L, D, OpenGate>, Refusal> {
+) -> Result<Session<'e, L, D, G>, Refusal> {
     let mut session = engine.session(rt)?;
+    match work_rounds(rt, alloc, &mut session, worker) {
+        Ok(()) => Ok(session),
+        Err(refusal) => Err(refusal),
+    }
+}
+
+fn work_rounds<L: Run, D: Disk, G: Gate + Drop, R: Wait>(
+    rt: &R,
+    alloc: Global,
+    session: &mut Session<'_, L, D, G>,
+    worker: usize,
+) -> Result<(), Refusal> {
     for round in 0..ROUNDS {
         session.begin_tx(rt)?;
         session.insert(rt, row_of(alloc, worker, round)?)?;
         session.update(rt, row_of(alloc, worker, round)?)?;
-        session.read(rt, row_of(alloc, worker, round)?.row_key())?;
+        session.read(rt, key_of(worker))?;
         session.commit_tx(rt)?;
     }
-    Ok(session)
+    Ok(())
 }
 
 /// The sessions of all workers, each in a thread of its own.
-fn work_all<'e, L: Run + Send + Sync, D: Disk + Send, R: Threads + Wait + Sync>(
+fn work_all<
+    'e,
+    L: Run + Send + Sync,
+    D: Disk + Send,
+    G: Gate + Drop + Send + Sync,
+    R: Threads + Wait + Sync,
+>(
     rt: &R,
     alloc: Global,
-    engine: &'e Engine<L, D, OpenGate>,
-) -> Result<Vec<Session<'e, L, D, OpenGate>>, Refusal> {
-    let mut sessions = Vec::new(alloc);
-    for session in map_indices(
+    engine: &'e Engine<L, D, G>,
+    sessions: &mut Vec<Session<'e, L, D, G>>,
+) -> Result<(), Refusal> {
+    let made = map_indices(
         rt,
         alloc,
         WORKERS,
         &|worker| work(rt, alloc, engine, worker),
-    )? {
-        sessions.push(session?)?;
-    }
-    Ok(sessions)
+    );
+    push_all(sessions, made?)
 }
 
 /// How often the receipt is told of the commit in the tale.
@@ -98,12 +117,12 @@ fn told_once(tale: &Tale, receipts: &[Receipt]) -> u64 {
     count
 }
 
-/// With one session kept back all others come back. How many these are.
-fn gather_but_one<'e, L: Run, D: Disk + Drop>(
+/// With one session kept back all others come back.
+fn gather_but_one<'e, L: Run, D: Disk + Drop, G: Gate + Drop>(
     alloc: Global,
     core: &mut CoreGuard<'_, L>,
-    sessions: Vec<Session<'e, L, D, OpenGate>>,
-) -> Result<Vec<Session<'e, L, D, OpenGate>>, Refusal> {
+    sessions: Vec<Session<'e, L, D, G>>,
+) -> Result<Vec<Session<'e, L, D, G>>, Refusal> {
     match gather(core, alloc, sessions) {
         Ok(Gathered::Missing(sessions)) => Ok(sessions),
         Ok(Gathered::All(_receipts)) => Err(Refusal::Busy),
@@ -111,67 +130,104 @@ fn gather_but_one<'e, L: Run, D: Disk + Drop>(
     }
 }
 
-/// The receipts of all.
-fn gather_all<L: Run, D: Disk + Drop>(
+/// The receipts of these sessions, which are gathered without the last one first.
+fn gather_twice<L: Run, D: Disk + Drop, G: Gate + Drop, R: Abort>(
+    rt: &R,
     alloc: Global,
     core: &mut CoreGuard<'_, L>,
-    sessions: Vec<Session<'_, L, D, OpenGate>>,
+    mut sessions: Vec<Session<'_, L, D, G>>,
 ) -> Result<Vec<Receipt>, Refusal> {
-    match gather(core, alloc, sessions) {
-        Ok(Gathered::All(receipts)) => Ok(receipts),
-        Ok(Gathered::Missing(_sessions)) => Err(Refusal::Busy),
-        Err((refusal, _sessions)) => Err(refusal),
+    match sessions.pop() {
+        Some(kept_back) => gather_with(rt, alloc, core, sessions, kept_back),
+        None => Err(Refusal::NothingToDo),
     }
 }
 
-/// How many sessions came back, how many receipts there are, and how many commits are told once.
-fn see<L: Run + Send + Sync, D: Disk + Drop + Send, R: Threads + Wait + Sync>(
+fn gather_with<'e, L: Run, D: Disk + Drop, G: Gate + Drop, R: Abort>(
     rt: &R,
     alloc: Global,
-    engine: &Engine<L, D, OpenGate>,
-) -> Result<(usize, usize, u64), Refusal> {
-    let mut sessions = work_all(rt, alloc, engine)?;
-    engine.flush(rt)?;
-    let mut core = engine.lock_core(rt);
-    let Some(kept_back) = sessions.pop() else {
-        return Err(Refusal::NothingToDo);
-    };
-    let mut back = gather_but_one(alloc, &mut core, sessions)?;
-    let came_back = back.len();
+    core: &mut CoreGuard<'_, L>,
+    sessions: Vec<Session<'e, L, D, G>>,
+    kept_back: Session<'e, L, D, G>,
+) -> Result<Vec<Receipt>, Refusal> {
+    let mut back = gather_but_one(alloc, core, sessions)?;
+    same(rt, &back.len(), &3);
     back.push(kept_back)?;
-    let receipts = gather_all(alloc, &mut core, back)?;
-    let mut store = engine.lock_store(rt);
-    engine.audit(&mut core, &mut store);
-    Ok((came_back, receipts.len(), told_once(core.tale(), &receipts)))
+    compare(alloc, core, back)
 }
 
-/// An engine over what is on the disk.
-fn seeing<D: Disk + Drop + Send, R: Threads + Wait + Sync>(
-    rt: &R,
-    alloc: Global,
-    disk: D,
-) -> Result<(usize, usize, u64), Refusal> {
-    match Fresh::open(rt, alloc, SEED, disk) {
-        Ok(fresh) => run_seeing::<Brand, D, R>(rt, alloc, fresh),
-        Err((refusal, _)) => Err(refusal),
+/// All sessions are told of all commits.
+pub fn gather_all<
+    L: Run + Send + Sync,
+    D: Disk + Drop + Send,
+    G: Gate + Drop + Send + Sync,
+    R: Abort + Threads + Wait + Sync,
+>(rt: &R, alloc: Global, engine: &Engine<L, D, G>) -> Result<(), Refusal> {
+    let mut sessions = Vec::new(alloc);
+    match work_and_flush(rt, alloc, engine, &mut sessions) {
+        Ok(()) => see_once(rt, alloc, engine, sessions),
+        Err(refusal) => Err(refusal),
     }
 }
 
-fn run_seeing<L: Run + Send + Sync, D: Disk + Drop + Send, R: Threads + Wait + Sync>(
+fn work_and_flush<
+    'e,
+    L: Run + Send + Sync,
+    D: Disk + Send,
+    G: Gate + Drop + Send + Sync,
+    R: Threads + Wait + Sync,
+>(
     rt: &R,
     alloc: Global,
-    fresh: Fresh<D>,
-) -> Result<(usize, usize, u64), Refusal>
-    requires { IsNamedBy D.Disk L.opening L.marks L.ring L.name L.parts fresh }
-{
-    let engine = Engine::<L, D, OpenGate>::new(fresh, OpenGate);
-    see(rt, alloc, &engine)
+    engine: &'e Engine<L, D, G>,
+    sessions: &mut Vec<Session<'e, L, D, G>>,
+) -> Result<(), Refusal> {
+    work_all(rt, alloc, engine, sessions)?;
+    engine.flush(rt)?;
+    Ok(())
+}
+
+fn see_once<L: Run, D: Disk + Drop, G: Gate + Drop, R: Abort + Wait>(
+    rt: &R,
+    alloc: Global,
+    engine: &Engine<L, D, G>,
+    sessions: Vec<Session<'_, L, D, G>>,
+) -> Result<(), Refusal> {
+    let mut core = engine.lock_core(rt);
+    see_under(rt, alloc, engine, &mut core, sessions)
+}
+
+fn see_under<L: Run, D: Disk + Drop, G: Gate + Drop, R: Abort + Wait>(
+    rt: &R,
+    alloc: Global,
+    engine: &Engine<L, D, G>,
+    core: &mut CoreGuard<'_, L>,
+    sessions: Vec<Session<'_, L, D, G>>,
+) -> Result<(), Refusal> {
+    let receipts = gather_twice(rt, alloc, core, sessions)?;
+    audit_all(rt, engine, core, &receipts);
+    Ok(())
+}
+
+fn audit_all<L: Run, D: Disk, G: Gate + Drop, R: Abort + Wait>(
+    rt: &R,
+    engine: &Engine<L, D, G>,
+    core: &mut CoreGuard<'_, L>,
+    receipts: &[Receipt],
+) {
+    let mut store = engine.lock_store(rt);
+    engine.audit(core, &mut store);
+    same(rt, &receipts.len(), &32);
+    same(rt, &told_once(core.tale(), receipts), &32);
 }
 
 #[test]
 fn receipts_are_the_stored_commits(rt: HostRuntime) -> Result<(), Fail> {
-    let alloc = rt.alloc();
-    let seen = seeing(&rt, alloc, formatted(alloc)?)?;
-    same(&rt, &seen, &(3, 32, 32));
+    tried_anew(
+        &rt,
+        rt.alloc(),
+        OpenGate,
+        Trial::Threads(Meeting::Gathering),
+    )?;
     Ok(())
 }

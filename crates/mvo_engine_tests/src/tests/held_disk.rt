@@ -1,12 +1,7 @@
 //! A disk whose syncs are held until something else has happened.
+use super::turns::has_come;
 use mvo_disk::{Disk, DiskFault};
 use std::sync::atomic::{AtomicU64, Ordering};
-use std::thread::yield_now;
-
-/// How many turns a sync waits at most, and how often it yields in each.
-const TURNS: u32 = 10_000;
-
-const YIELDS: u32 = 100;
 
 /// What a held sync and the thread that lets it go tell one another.
 #[derive(Drop)]
@@ -37,15 +32,9 @@ impl Hold {
             return;
         }
         self.held.store(1, Ordering::SeqCst);
-        for _ in 0..TURNS {
-            if self.free.load(Ordering::SeqCst) == 1 {
-                return;
-            }
-            for _ in 0..YIELDS {
-                yield_now();
-            }
+        if !has_come(&self.free, 1) {
+            self.late.store(1, Ordering::SeqCst);
         }
-        self.late.store(1, Ordering::SeqCst);
     }
 }
 

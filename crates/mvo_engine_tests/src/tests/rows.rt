@@ -8,9 +8,16 @@ use std::sync::Wait;
 
 pub const KEY: RowKey = RowKey { table: 0, key: 5 };
 
+const BESIDE: RowKey = RowKey { table: 0, key: 7 };
+
 /// The row at the key, with a byte of data.
 pub fn row(alloc: Global, byte: u8) -> Result<Row, AllocError> {
     Row::new(KEY, 50, [byte].to_vec(alloc)?)
+}
+
+/// The row at another key, with a byte of data.
+pub fn beside(alloc: Global, byte: u8) -> Result<Row, AllocError> {
+    Row::new(BESIDE, 60, [byte].to_vec(alloc)?)
 }
 
 /// Puts the row in a transaction of its own, and answers its end.
@@ -37,15 +44,56 @@ pub fn change<L: Run, D: Disk, G: Gate + Drop, R: Wait>(
     session.commit_tx(rt)
 }
 
+/// Changes the row to each of these bytes in turn, and answers the last end.
+pub fn changes<L: Run, D: Disk, G: Gate + Drop, R: Wait>(
+    rt: &R,
+    alloc: Global,
+    session: &mut Session<'_, L, D, G>,
+    first: u8,
+    last: u8,
+) -> Result<Stamp, Refusal> {
+    let mut end = Stamp(0);
+    for byte in first..=last {
+        end = change(rt, alloc, session, byte)?;
+    }
+    Ok(end)
+}
+
+/// Changes the row so many times, and answers the last end.
+pub fn many<L: Run, D: Disk, G: Gate + Drop, R: Wait>(
+    rt: &R,
+    alloc: Global,
+    session: &mut Session<'_, L, D, G>,
+    times: u32,
+    byte: u8,
+) -> Result<Stamp, Refusal> {
+    let mut end = Stamp(0);
+    for _ in 0..times {
+        end = change(rt, alloc, session, byte)?;
+    }
+    Ok(end)
+}
+
 /// The byte of the row's data, as a read in a transaction of its own finds it.
 pub fn found<L: Run, D: Disk, G: Gate + Drop, R: Wait>(
     rt: &R,
     session: &mut Session<'_, L, D, G>,
 ) -> Result<Option<u8>, Refusal> {
     session.begin_tx(rt)?;
-    let answer = session.read(rt, KEY)?;
+    let byte = read(rt, session)?;
     session.commit_tx(rt)?;
-    Ok(byte_in(&answer))
+    Ok(byte)
+}
+
+/// The byte of the row's data, as the session's transaction reads it.
+pub fn read<L: Run, D: Disk, G: Gate + Drop, R: Wait>(
+    rt: &R,
+    session: &mut Session<'_, L, D, G>,
+) -> Result<Option<u8>, Refusal> {
+    match session.read(rt, KEY) {
+        Ok(answer) => Ok(byte_in(&answer)),
+        Err(refusal) => Err(refusal),
+    }
 }
 
 /// The byte of the data that was found.

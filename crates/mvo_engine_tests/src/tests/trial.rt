@@ -1,43 +1,126 @@
 //! An engine over a disk, for what a test does with it.
 ghost use Rattle.mvo_engine.specs.Opened.{IsNamedBy};
 
-use super::SEED;
-use crate::equal::same;
-use mvo_disk::Disk;
+use super::beside::{merge_in_threads, merge_waits};
+use super::day::spend_day;
+use super::depending::{Passes, depend};
+use super::down::go_down;
+use super::gathering::gather_all;
+use super::held_disk::Hold;
+use super::jobs::do_jobs;
+use super::meeting::meet_for_a_key;
+use super::reads_free::flush_and_read;
+use super::sessions::{ask_sessions, make_all};
+use super::steps::{Line, follow_new};
+use super::through::put_and_find;
+use super::upkeep::keep_up;
+use super::waiting::{Words, flush_both, wait_and_flush};
+use super::{SEED, formatted};
+use mvo_disk::{Disk, MemDisk};
 use mvo_engine::{Engine, Fresh, Gate, Run};
 use mvo_types::Refusal;
 use std::alloc::Global;
 use std::marker::Brand;
 use std::process::Abort;
 use std::sync::Wait;
-use std::sync::atomic::{AtomicU64, Ordering};
-use std::thread::{Threads, yield_now};
+use std::sync::atomic::AtomicU64;
+use std::test::Fail;
+use std::thread::Threads;
 
-/// How many turns a thread waits at most, and how often it yields in each.
-const TURNS: u32 = 10_000;
+/// What is done with an engine.
+#[derive(Clone, Copy)]
+pub enum Trial<'t> {
+    /// These steps, by two sessions.
+    Steps(&'t [Line]),
+    /// What one thread does.
+    Alone(Alone<'t>),
+    /// What several threads do.
+    Threads(Meeting<'t>),
+}
 
-const YIELDS: u32 = 100;
+/// What one thread does. The words count how often it comes to a lock.
+#[derive(Clone, Copy)]
+pub enum Alone<'t> {
+    Sessions,
+    AllSessions,
+    Upkeep(&'t AtomicU64),
+    Jobs(&'t AtomicU64),
+    MergeWaits,
+    Down,
+}
 
-/// What is done with an engine, and for each thing that it was told whether that is right.
-pub trait Trial<D: Disk, G: Gate + Drop> {
-    fn go<L: Run + Send + Sync, R: Threads + Wait + Sync>(
-        &self,
-        rt: &R,
-        alloc: Global,
-        engine: &Engine<L, D, G>,
-    ) -> Result<Vec<bool>, Refusal>;
+/// What several threads do, and the words between them.
+#[derive(Clone, Copy)]
+pub enum Meeting<'t> {
+    Through,
+    ReadsFree(&'t Hold),
+    ForAKey,
+    Depending(&'t Passes),
+    Flushes(&'t Words),
+    Waits(&'t Words),
+    MergeBesideCheckpoint,
+    Gathering,
+    Day,
+}
+
+fn go<
+    L: Run + Send + Sync,
+    D: Disk + Drop + Send,
+    G: Gate + Drop + Send + Sync,
+    R: Abort + Threads + Wait + Sync,
+>(rt: &R, alloc: Global, engine: &Engine<L, D, G>, trial: Trial<'_>) -> Result<(), Refusal> {
+    match trial {
+        Trial::Steps(lines) => follow_new(rt, alloc, engine, lines),
+        Trial::Alone(alone) => go_alone(rt, alloc, engine, alone),
+        Trial::Threads(meeting) => go_in_threads(rt, alloc, engine, meeting),
+    }
+}
+
+fn go_alone<L: Run, D: Disk, G: Gate + Drop, R: Abort + Wait>(
+    rt: &R,
+    alloc: Global,
+    engine: &Engine<L, D, G>,
+    alone: Alone<'_>,
+) -> Result<(), Refusal> {
+    match alone {
+        Alone::Sessions => ask_sessions(rt, alloc, engine),
+        Alone::AllSessions => make_all(rt, alloc, engine),
+        Alone::Upkeep(passes) => keep_up(rt, alloc, engine, passes),
+        Alone::Jobs(passes) => do_jobs(rt, alloc, engine, passes),
+        Alone::MergeWaits => merge_waits(rt, alloc, engine),
+        Alone::Down => go_down(rt, alloc, engine),
+    }
+}
+
+fn go_in_threads<
+    L: Run + Send + Sync,
+    D: Disk + Drop + Send,
+    G: Gate + Drop + Send + Sync,
+    R: Abort + Threads + Wait + Sync,
+>(rt: &R, alloc: Global, engine: &Engine<L, D, G>, meeting: Meeting<'_>) -> Result<(), Refusal> {
+    match meeting {
+        Meeting::Through => put_and_find(rt, alloc, engine),
+        Meeting::ReadsFree(hold) => flush_and_read(rt, alloc, engine, hold),
+        Meeting::ForAKey => meet_for_a_key(rt, alloc, engine),
+        Meeting::Depending(passes) => depend(rt, alloc, engine, passes),
+        Meeting::Flushes(words) => flush_both(rt, alloc, engine, words),
+        Meeting::Waits(words) => wait_and_flush(rt, alloc, engine, words),
+        Meeting::MergeBesideCheckpoint => merge_in_threads(rt, alloc, engine),
+        Meeting::Gathering => gather_all(rt, alloc, engine),
+        Meeting::Day => spend_day(rt, alloc, engine),
+    }
 }
 
 /// Does it with an engine over what is on the disk, which comes back.
-pub fn tried<D: Disk + Drop + Send, G: Gate + Drop, T: Trial<D, G>, R: Threads + Wait + Sync>(
+pub fn tried<D: Disk + Drop + Send, G: Gate + Drop + Send + Sync, R: Abort + Threads + Wait + Sync>(
     rt: &R,
     alloc: Global,
     disk: D,
     gate: G,
-    trial: &T,
-) -> Result<(Vec<bool>, D), Refusal> {
+    trial: Trial<'_>,
+) -> Result<D, Refusal> {
     match Fresh::open(rt, alloc, SEED, disk) {
-        Ok(fresh) => run_tried::<Brand, D, G, T, R>(rt, alloc, fresh, gate, trial),
+        Ok(fresh) => run_tried::<Brand, D, G, R>(rt, alloc, fresh, gate, trial),
         Err((refusal, _)) => Err(refusal),
     }
 }
@@ -45,34 +128,23 @@ pub fn tried<D: Disk + Drop + Send, G: Gate + Drop, T: Trial<D, G>, R: Threads +
 fn run_tried<
     L: Run + Send + Sync,
     D: Disk + Drop + Send,
-    G: Gate + Drop,
-    T: Trial<D, G>,
-    R: Threads + Wait + Sync,
->(rt: &R, alloc: Global, fresh: Fresh<D>, gate: G, trial: &T) -> Result<(Vec<bool>, D), Refusal>
+    G: Gate + Drop + Send + Sync,
+    R: Abort + Threads + Wait + Sync,
+>(rt: &R, alloc: Global, fresh: Fresh<D>, gate: G, trial: Trial<'_>) -> Result<D, Refusal>
     requires { IsNamedBy D.Disk L.opening L.marks L.ring L.name L.parts fresh }
 {
     let engine = Engine::<L, D, G>::new(fresh, gate);
-    let told = trial.go(rt, alloc, &engine)?;
-    Ok((told, engine.into_disk(Vec::new(alloc))))
+    go(rt, alloc, &engine, trial)?;
+    Ok(engine.into_disk(Vec::new(alloc)))
 }
 
-/// Asserts that so many things were told, and that each is right.
-pub fn all_right(rt: &impl Abort, told: &[bool], count: usize) {
-    for (place, right) in told.iter().enumerate() {
-        assert!(rt; *right, "answer {place}");
-    }
-    same(rt, &told.len(), &count);
-}
-
-/// Waits until the word is at least this number, or for long. Whether it is.
-pub fn has_come(word: &AtomicU64, number: u64) -> bool {
-    for _ in 0..TURNS {
-        if word.load(Ordering::SeqCst) >= number {
-            return true;
-        }
-        for _ in 0..YIELDS {
-            yield_now();
-        }
-    }
-    false
+/// Does it with an engine over a new disk, which comes back.
+pub fn tried_anew<G: Gate + Drop + Send + Sync, R: Abort + Threads + Wait + Sync>(
+    rt: &R,
+    alloc: Global,
+    gate: G,
+    trial: Trial<'_>,
+) -> Result<MemDisk, Fail> {
+    let disk = formatted(alloc)?;
+    Ok(tried(rt, alloc, disk, gate, trial)?)
 }

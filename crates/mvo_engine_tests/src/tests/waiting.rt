@@ -1,15 +1,15 @@
 //! Two flushes wait for the store at once, and a session waits for the disk.
-ghost use Rattle.mvo_engine.specs.Opened.{IsNamedBy};
 
-use super::counting::CountingStore;
+use super::counting::Counting;
 use super::rows::{change, put};
-use super::trial::{all_right, has_come};
-use super::{SEED, formatted};
+use super::trial::{Meeting, Trial, tried_anew};
+use super::turns::has_come;
+use crate::equal::{holds, same};
 use mvo_disk::Disk;
-use mvo_engine::{Engine, Fresh, Gate, Run, Session};
+use mvo_engine::{Engine, Gate, Place, Run, Session};
 use mvo_types::{Refusal, Stamp};
 use std::alloc::Global;
-use std::marker::Brand;
+use std::process::Abort;
 use std::sync::Wait;
 use std::sync::atomic::{AtomicU64, Ordering};
 use std::test::*;
@@ -17,37 +17,63 @@ use std::thread::{Threads, join};
 
 /// How often threads have come to the lock of the store, and 1 once it is held.
 #[derive(Drop)]
-struct Words {
+pub struct Words {
     passes: AtomicU64,
     holds: AtomicU64,
 }
 
-/// What is done in threads.
-#[derive(Clone, Copy)]
-enum Trial {
-    /// Both flushes wait for the store with a group in the ring, until another thread, which holds
-    /// the store, lets it go.
-    Flushes,
-    /// One session waits until its commit is durable. Meanwhile the other commits, and flushes.
-    Waits,
-}
+impl Words {
+    fn new() -> Words {
+        Words {
+            passes: AtomicU64::new(0),
+            holds: AtomicU64::new(0),
+        }
+    }
 
-fn go<L: Run + Send + Sync, D: Disk + Send, G: Gate + Drop + Send + Sync, R: Threads + Wait + Sync>(
-    rt: &R,
-    alloc: Global,
-    engine: &Engine<L, D, G>,
-    words: &Words,
-    trial: Trial,
-) -> Result<Vec<bool>, Refusal> {
-    let mut one = engine.session(rt)?;
-    let mut two = engine.session(rt)?;
-    match trial {
-        Trial::Flushes => flushes(rt, alloc, engine, (&mut one, &mut two), words),
-        Trial::Waits => waits(rt, alloc, engine, (&mut one, &mut two), words),
+    fn gate(&self) -> Counting<'_> {
+        Counting {
+            passes: &self.passes,
+            at: Place::Store,
+        }
     }
 }
 
-fn flushes<
+type Marks = (Result<Stamp, Refusal>, Result<Stamp, Refusal>);
+
+/// Both flushes wait for the store with a group in the ring, until another thread, which holds the
+/// store, lets it go.
+pub fn flush_both<
+    L: Run + Send + Sync,
+    D: Disk + Send,
+    G: Gate + Drop + Send + Sync,
+    R: Abort + Threads + Wait + Sync,
+>(rt: &R, alloc: Global, engine: &Engine<L, D, G>, words: &Words) -> Result<(), Refusal> {
+    let mut one = engine.session(rt)?;
+    let mut two = engine.session(rt)?;
+    flush_while_held(rt, alloc, engine, &mut one, &mut two, words)
+}
+
+fn flush_while_held<
+    L: Run + Send + Sync,
+    D: Disk + Send,
+    G: Gate + Drop + Send + Sync,
+    R: Abort + Threads + Wait + Sync,
+>(
+    rt: &R,
+    alloc: Global,
+    engine: &Engine<L, D, G>,
+    one: &mut Session<'_, L, D, G>,
+    two: &mut Session<'_, L, D, G>,
+    words: &Words,
+) -> Result<(), Refusal> {
+    let (in_time, (first, second)) = hold_and_flush(rt, alloc, engine, one, two, words);
+    holds(rt, in_time);
+    same(rt, &first?, &Stamp(4));
+    same(rt, &second?, &Stamp(4));
+    Ok(())
+}
+
+fn hold_and_flush<
     L: Run + Send + Sync,
     D: Disk + Send,
     G: Gate + Drop + Send + Sync,
@@ -56,19 +82,15 @@ fn flushes<
     rt: &R,
     alloc: Global,
     engine: &Engine<L, D, G>,
-    (one, two): (&mut Session<'_, L, D, G>, &mut Session<'_, L, D, G>),
+    one: &mut Session<'_, L, D, G>,
+    two: &mut Session<'_, L, D, G>,
     words: &Words,
-) -> Result<Vec<bool>, Refusal> {
-    let (in_time, (first, second)) = join(
+) -> (bool, Marks) {
+    join(
         rt,
         || hold(rt, engine, words),
         || flush_twice(rt, alloc, engine, one, two, words),
-    );
-    let mut told = Vec::new(alloc);
-    told.push(in_time)?;
-    told.push(first? == Stamp(4))?;
-    told.push(second? == Stamp(4))?;
-    Ok(told)
+    )
 }
 
 // Holds the store until both others have come to its lock. Whether they have, and nothing is
@@ -96,7 +118,7 @@ fn flush_twice<
     one: &mut Session<'_, L, D, G>,
     two: &mut Session<'_, L, D, G>,
     words: &Words,
-) -> (Result<Stamp, Refusal>, Result<Stamp, Refusal>) {
+) -> Marks {
     join(
         rt,
         || put_and_flush(rt, alloc, engine, one, &words.holds),
@@ -130,7 +152,39 @@ fn change_and_flush<L: Run, D: Disk, G: Gate + Drop, R: Wait>(
     engine.flush(rt)
 }
 
-fn waits<
+/// One session waits until its commit is durable. Meanwhile the other commits, and flushes.
+pub fn wait_and_flush<
+    L: Run + Send + Sync,
+    D: Disk + Send,
+    G: Gate + Drop + Send + Sync,
+    R: Abort + Threads + Wait + Sync,
+>(rt: &R, alloc: Global, engine: &Engine<L, D, G>, words: &Words) -> Result<(), Refusal> {
+    let mut one = engine.session(rt)?;
+    let mut two = engine.session(rt)?;
+    wait_beside(rt, alloc, engine, &mut one, &mut two, words)
+}
+
+fn wait_beside<
+    L: Run + Send + Sync,
+    D: Disk + Send,
+    G: Gate + Drop + Send + Sync,
+    R: Abort + Threads + Wait + Sync,
+>(
+    rt: &R,
+    alloc: Global,
+    engine: &Engine<L, D, G>,
+    one: &mut Session<'_, L, D, G>,
+    two: &mut Session<'_, L, D, G>,
+    words: &Words,
+) -> Result<(), Refusal> {
+    let end = put(rt, alloc, one, 1)?;
+    let (waited, flushed) = wait_for_flush(rt, alloc, engine, one, two, words, end);
+    holds(rt, waited.is_ok());
+    same(rt, &flushed?, &Stamp(4));
+    Ok(())
+}
+
+fn wait_for_flush<
     L: Run + Send + Sync,
     D: Disk + Send,
     G: Gate + Drop + Send + Sync,
@@ -139,81 +193,30 @@ fn waits<
     rt: &R,
     alloc: Global,
     engine: &Engine<L, D, G>,
-    (one, two): (&mut Session<'_, L, D, G>, &mut Session<'_, L, D, G>),
+    one: &mut Session<'_, L, D, G>,
+    two: &mut Session<'_, L, D, G>,
     words: &Words,
-) -> Result<Vec<bool>, Refusal> {
-    let end = put(rt, alloc, one, 1)?;
-    let (waited, flushed) = join(
+    end: Stamp,
+) -> (Result<(), Refusal>, Result<Stamp, Refusal>) {
+    join(
         rt,
         || one.wait_durable(rt, end),
         || change_and_flush(rt, alloc, engine, two, &words.passes),
-    );
-    let mut told = Vec::new(alloc);
-    told.push(waited.is_ok())?;
-    told.push(flushed? == Stamp(4))?;
-    Ok(told)
-}
-
-/// An engine over what is on the disk.
-fn waiting<D: Disk + Drop + Send, G: Gate + Drop + Send + Sync, R: Threads + Wait + Sync>(
-    rt: &R,
-    alloc: Global,
-    disk: D,
-    gate: G,
-    words: &Words,
-    trial: Trial,
-) -> Result<Vec<bool>, Refusal> {
-    match Fresh::open(rt, alloc, SEED, disk) {
-        Ok(fresh) => run_waiting::<Brand, D, G, R>(rt, alloc, fresh, gate, words, trial),
-        Err((refusal, _)) => Err(refusal),
-    }
-}
-
-fn run_waiting<
-    L: Run + Send + Sync,
-    D: Disk + Drop + Send,
-    G: Gate + Drop + Send + Sync,
-    R: Threads + Wait + Sync,
->(
-    rt: &R,
-    alloc: Global,
-    fresh: Fresh<D>,
-    gate: G,
-    words: &Words,
-    trial: Trial,
-) -> Result<Vec<bool>, Refusal>
-    requires { IsNamedBy D.Disk L.opening L.marks L.ring L.name L.parts fresh }
-{
-    let engine = Engine::<L, D, G>::new(fresh, gate);
-    go(rt, alloc, &engine, words, trial)
-}
-
-fn told_of(
-    rt: &(impl Threads + Wait + Sync),
-    alloc: Global,
-    trial: Trial,
-) -> Result<Vec<bool>, Fail> {
-    let words = Words {
-        passes: AtomicU64::new(0),
-        holds: AtomicU64::new(0),
-    };
-    let gate = CountingStore {
-        passes: &words.passes,
-    };
-    let told = waiting(rt, alloc, formatted(alloc)?, gate, &words, trial)?;
-    Ok(told)
+    )
 }
 
 #[test]
 fn each_flush_answers_for_all_groups(rt: HostRuntime) -> Result<(), Fail> {
-    let told = told_of(&rt, rt.alloc(), Trial::Flushes)?;
-    all_right(&rt, &told, 3);
+    let words = Words::new();
+    let trial = Trial::Threads(Meeting::Flushes(&words));
+    tried_anew(&rt, rt.alloc(), words.gate(), trial)?;
     Ok(())
 }
 
 #[test]
 fn who_waits_for_the_disk_holds_no_lock(rt: HostRuntime) -> Result<(), Fail> {
-    let told = told_of(&rt, rt.alloc(), Trial::Waits)?;
-    all_right(&rt, &told, 2);
+    let words = Words::new();
+    let trial = Trial::Threads(Meeting::Waits(&words));
+    tried_anew(&rt, rt.alloc(), words.gate(), trial)?;
     Ok(())
 }

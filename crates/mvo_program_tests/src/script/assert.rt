@@ -1,11 +1,22 @@
 //! What a script is answered.
 use crate::equal::same;
-use mvo_script::run_script;
+use mvo_disk::MemDisk;
+use mvo_script::{Driver, run_over};
+use mvo_types::Refusal;
+use mvo_world::World;
 use std::alloc::Global;
 use std::io::Write;
 use std::process::Abort;
 use std::test::Fail;
 use std::thread::Threads;
+
+/// A world over a fresh store in memory.
+pub fn fresh(rt: &(impl Threads + Sync), alloc: Global) -> Result<World<MemDisk>, Refusal> {
+    match Driver::new(rt, alloc, 0) {
+        Ok(driver) => Ok(driver.into_world()),
+        Err(refusal) => Err(refusal),
+    }
+}
 
 /// Runs a script, and asserts what it is answered.
 pub fn assert_replies(
@@ -15,7 +26,7 @@ pub fn assert_replies(
     expected: &[u8],
 ) -> Result<(), Fail> {
     let mut replies = Vec::new(alloc);
-    run_script(rt, alloc, 0, script, &mut replies)?;
+    run_over(alloc, fresh(rt, alloc)?, script, &mut replies)?;
     same(rt, &replies.as_slice(), &expected);
     Ok(())
 }

@@ -1,6 +1,6 @@
 //! Lines that are none of a script, and the longest ones.
-use crate::script::assert::assert_replies;
-use mvo_script::{Line, run_script};
+use crate::script::assert::{assert_replies, fresh};
+use mvo_script::{Line, run_over};
 use std::alloc::AllocError;
 use std::test::Fail;
 
@@ -171,7 +171,7 @@ fn bad_lines_change_nothing(rt: HostRuntime) -> Result<(), Fail> {
         script.extend_from_slice(bad)?;
         script.extend_from_slice(b"\nread t1 0 5\nbegin t1\n")?;
         let mut replies = Vec::new(alloc);
-        run_script(&rt, alloc, 0, script.as_slice(), &mut replies)?;
+        run_over(alloc, fresh(&rt, alloc)?, script.as_slice(), &mut replies)?;
         let expected = b"began 1\nbad line\nnone\nbegan 2\n".as_slice();
         assert_eq!(rt; replies.as_slice(), expected, "at {bad:?}");
     }

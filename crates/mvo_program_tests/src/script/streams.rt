@@ -1,6 +1,7 @@
 //! Readers and writers that fail.
 use crate::equal::{holds, same};
-use mvo_script::{ScriptError, run_script};
+use crate::script::assert::fresh;
+use mvo_script::{ScriptError, run_over};
 use std::io::{self, Read, Write};
 use std::test::Fail;
 
@@ -26,7 +27,7 @@ fn a_reader_that_fails_ends_the_run(rt: HostRuntime) -> Result<(), Fail> {
         bytes: b"begin t1\nbegin t2",
     };
     let mut replies = Vec::new(alloc);
-    let ran = run_script(&rt, alloc, 0, reader, &mut replies);
+    let ran = run_over(alloc, fresh(&rt, alloc)?, reader, &mut replies);
     holds(&rt, matches!(ran, Err(ScriptError::Read(_))));
     same(&rt, &replies.as_slice(), &b"began 1\n".as_slice());
     Ok(())
@@ -49,12 +50,12 @@ impl Write for Full {
 #[test]
 fn a_writer_that_fails_ends_the_run(rt: HostRuntime) -> Result<(), Fail> {
     let alloc = rt.alloc();
-    let ran = run_script(&rt, alloc, 0, b"begin t1\n".as_slice(), Full);
+    let ran = run_over(alloc, fresh(&rt, alloc)?, b"begin t1\n".as_slice(), Full);
     holds(&rt, matches!(ran, Err(ScriptError::Write(_))));
-    let ran = run_script(&rt, alloc, 0, b"".as_slice(), Full);
+    let ran = run_over(alloc, fresh(&rt, alloc)?, b"".as_slice(), Full);
     holds(&rt, ran.is_ok());
     let lines = vec![in alloc; b'\n'; 10_000]?;
-    let ran = run_script(&rt, alloc, 0, lines.as_slice(), Full);
+    let ran = run_over(alloc, fresh(&rt, alloc)?, lines.as_slice(), Full);
     holds(&rt, matches!(ran, Err(ScriptError::Write(_))));
     Ok(())
 }
