@@ -17,7 +17,8 @@ use Rattle.mvo_group.specs.Rules.{IsRecord, IsGroup}
 use Rattle.mvo_format.specs.declared.format.Format.{Format}
 use Rattle.mvo_format.specs.Formats.{AllowsNoMore}
 use Rattle.mvo_format.proofs.Versions.{later_allows}
-use Rattle.mvo_frame.specs.Frames.{Frames, IsAllowed, mark_after, sized}
+use Rattle.mvo_group.specs.Allowed.{IsAllowed}
+use Rattle.mvo_frame.specs.Frames.{Frames, mark_after, sized}
 use Rattle.mvo_group.specs.Body.{body_of}
 use Rattle.mvo_format.specs.declared.header.TheConstants.{HEADER_LEN}
 use Rattle.mvo_pair.specs.Data.{EntryData, entry_cmp}

@@ -8,8 +8,10 @@ use Rattle.std.proofs.lemmas.List.Elements.{All-from_recursion, recursion_from_A
 use Rattle.mvo_types.specs.RowData.{ContentData}
 use Rattle.mvo_types.specs.Write.{Write, Effect}
 use Rattle.mvo_types.specs.Write.Effect.{Put, Delete}
+use Rattle.mvo_format.specs.declared.format.Format.{Format}
 use Rattle.mvo_group.specs.Data.{RecordData, GroupData}
 use Rattle.mvo_group.specs.Rules.{sort_of, put_bytes, KeepsLimits, IsRecord, KeepsRules, HasWords, IsGroup}
+use Rattle.mvo_group.specs.Allowed.{IsAllowedGroup, IsGroupWithin}
 use Rattle.mvo_bytes.specs.Fields.{field}
 use Rattle.mvo_group.specs.Body.{effect_bytes, write_bytes, record_bytes, body_of}
 use Rattle.mvo_bytes.specs.Reading.{◌>>=◌, number_at, data_at, times}
@@ -235,19 +237,21 @@ pub words_of : (rs : List RecordData) → AllByRecursion HasRecordWords rs → A
 words_of [] all = tt
 words_of (r ∷ rs) all = (All-from_recursion HasWords r.writes all.0, words_of rs all.1)
 
-pub found_is : (found : Option GroupData) (bytes : List ℕ) (d : GroupData) → IsBytes bytes → group_at bytes ≡ Some d → SomeIff found (KeepsRules d) d → IfSome found (λ g. IsGroup g × (bytes ≡ body_of g))
-found_is None bytes d fits read iff = tt
-found_is (Some g) bytes d fits read iff =
-    let took = group_takes bytes d fits read in
-    subst (λ h. IsGroup h × (bytes ≡ body_of h)) (sym iff.1) (record { rules = iff.0; words = All-from_recursion (λ r. All HasWords r.writes) d.records (words_of d.records took.1) }, took.0)
+module _ (f : Format) where
+  pub found_is : (found : Option GroupData) (bytes : List ℕ) (d : GroupData) → IsBytes bytes → group_at bytes ≡ Some d → SomeIff found (KeepsRules d × IsAllowedGroup f d) d → IfSome found (λ g. IsGroupWithin f g × (bytes ≡ body_of g))
+  found_is None bytes d fits read iff = tt
+  found_is (Some g) bytes d fits read iff =
+      let took = group_takes bytes d fits read in
+      let is : IsGroup d = record { rules = iff.0.0; words = All-from_recursion (λ r. All HasWords r.writes) d.records (words_of d.records took.1) } in
+      subst (λ h. IsGroupWithin f h × (bytes ≡ body_of h)) (sym iff.1) (record { is = is; allowed = iff.0.1 }, took.0)
 
-pub no_other : (found : Option GroupData) (bytes : List ℕ) (d : GroupData) → group_at bytes ≡ Some d → SomeIff found (KeepsRules d) d → (g : GroupData) → IsGroup g → bytes ≡ body_of g → found ≡ Some g
-no_other None bytes d read iff g is e =
-    let same : d ≡ g = some_is d g (sym read ∙ ap group_at e ∙ group_again g is) in
-    absurd (iff (subst KeepsRules (sym same) is.rules))
-no_other (Some h) bytes d read iff g is e =
-    let same : d ≡ g = some_is d g (sym read ∙ ap group_at e ∙ group_again g is) in
-    ap (λ (x : GroupData). Some x) (iff.1 ∙ same)
+  pub no_other : (found : Option GroupData) (bytes : List ℕ) (d : GroupData) → group_at bytes ≡ Some d → SomeIff found (KeepsRules d × IsAllowedGroup f d) d → (g : GroupData) → IsGroupWithin f g → bytes ≡ body_of g → found ≡ Some g
+  no_other None bytes d read iff g is e =
+      let same : d ≡ g = some_is d g (sym read ∙ ap group_at e ∙ group_again g is.is) in
+      absurd (iff (subst (λ (x : GroupData). KeepsRules x × IsAllowedGroup f x) (sym same) (is.is.rules, is.allowed)))
+  no_other (Some h) bytes d read iff g is e =
+      let same : d ≡ g = some_is d g (sym read ∙ ap group_at e ∙ group_again g is.is) in
+      ap (λ (x : GroupData). Some x) (iff.1 ∙ same)
 
 pub none_reads : (bytes : List ℕ) → group_at bytes ≡ None → (g : GroupData) → IsGroup g → bytes ≡ body_of g → None ≡ Some g
 none_reads bytes none g is e = sym none ∙ ap group_at e ∙ group_again g is

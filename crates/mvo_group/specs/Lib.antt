@@ -1,4 +1,5 @@
 pub mod Data
 pub mod Rules
+pub mod Allowed
 pub mod Body
 pub mod Reading

@@ -2,6 +2,7 @@ use crate::decode::parts_of;
 use crate::encode::append_body;
 use crate::record::Record;
 use crate::rules::{keeps_rules, len_of_body};
+use mvo_format::Format;
 use mvo_types::{MAX_BODY_LEN, Stamp};
 use std::alloc::{AllocError, Global};
 use std::marker::Model;
@@ -18,6 +19,13 @@ pub struct Group {
     mark: Stamp,
     records: Vec<Record>,
 }
+
+/// A version that allows each row that there is.
+const NO_LIMITS: Format = Format {
+    version: 0,
+    max_table: u8::MAX,
+    max_data_len: u16::MAX,
+};
 
 impl Drop for Group {
     fn drop(self) {
@@ -45,13 +53,15 @@ impl Group {
     ghost use Rattle.std.specs.Option.{SomeIff};
     ghost use Rattle.mvo_group.specs.Data.{GroupData, group_of};
     ghost use Rattle.mvo_group.specs.Rules.{KeepsRules, IsGroup, body_len};
+    ghost use Rattle.mvo_group.specs.Allowed.{IsAllowedGroup, IsGroupWithin};
     ghost use Rattle.mvo_group.specs.Body.{body_of};
 
-    /// The group of these parts, where they keep the rules. Parts that break one are dropped.
-    pub fn new(prev: Stamp, mark: Stamp, records: Vec<Record>) -> Option<Group>
-        ensures { let g = group_of prev.0 mark.0 records.items in SomeIff result (KeepsRules g) g }
+    /// The group of these parts, where they keep the rules and the version allows each write.
+    fn of_parts(format: Format, prev: Stamp, mark: Stamp, records: Vec<Record>) -> Option<Group>
+        ensures { let g = group_of prev.0 mark.0 records.items in
+            SomeIff result (KeepsRules g × IsAllowedGroup format g) g }
     {
-        if !keeps_rules(prev, mark, &records) {
+        if !keeps_rules(format, prev, mark, &records) {
             return None;
         }
         Some(Group {
@@ -59,6 +69,13 @@ impl Group {
             mark,
             records,
         })
+    }
+
+    /// The group of these parts, where they keep the rules. Parts that break one are dropped.
+    pub fn new(prev: Stamp, mark: Stamp, records: Vec<Record>) -> Option<Group>
+        ensures { let g = group_of prev.0 mark.0 records.items in SomeIff result (KeepsRules g) g }
+    {
+        Group::of_parts(NO_LIMITS, prev, mark, records)
     }
 
     /// The mark that held before it: each record ends above that.
@@ -134,11 +151,12 @@ impl Group {
         Ok(body)
     }
 
-    /// The group with this body, or none where the bytes aren't all of one group's body.
-    pub fn decode(alloc: Global, body: &[u8]) -> Result<Option<Group>, AllocError>
+    /// The group with this body, of which the version allows each write, or none where the bytes
+    /// aren't all of one such group's body.
+    pub fn decode(alloc: Global, format: Format, body: &[u8]) -> Result<Option<Group>, AllocError>
         ensures found { IfOk result (λ found. IfSome found
-            (λ g. IsGroup g × (body.now ≡ body_of g))) }
-        ensures only { IfOk result (λ found. (g : GroupData) → IsGroup g
+            (λ g. IsGroupWithin format g × (body.now ≡ body_of g))) }
+        ensures only { IfOk result (λ found. (g : GroupData) → IsGroupWithin format g
             → body.now ≡ body_of g → found ≡ Some g) }
     {
         if body.len() > MAX_BODY_LEN {
@@ -147,6 +165,6 @@ impl Group {
         let Some((prev, mark, records)) = parts_of(alloc, body)? else {
             return Ok(None);
         };
-        Ok(Group::new(prev, mark, records))
+        Ok(Group::of_parts(format, prev, mark, records))
     }
 }

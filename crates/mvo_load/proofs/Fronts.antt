@@ -23,5 +23,5 @@ slot_on_disk version slot bytes = only_alike (SlotSays version slot (slot_front 
 pub segment_on_disk : (f : Format) (file mark : ℕ) (kind : Kind) (bytes : List ℕ) (found : Found (List GroupData)) → IsOnly (SegmentIs f file mark kind (segment_front bytes)) found → IsOnly (SegmentIs f file mark kind bytes) found
 segment_on_disk f file mark kind bytes = only_alike (SegmentIs f file mark kind (segment_front bytes)) (SegmentIs f file mark kind bytes) (segment_says_of_front f file mark kind bytes) (segment_says_in_front f file mark kind bytes)
 
-pub pair_on_disk : (f : Format) (p : Pair) (a b : List ℕ) (out : Result (List Numbered) Refusal) → IsOnly (LoadsAs f p (take (data_reach f p) a) (take (delta_reach p) b)) out → IsOnly (LoadsAs f p a b) out
-pair_on_disk f p a b = only_alike (LoadsAs f p (take (data_reach f p) a) (take (delta_reach p) b)) (LoadsAs f p a b) (loads_of_front f p a b) (loads_in_front f p a b)
+pub pair_on_disk : (f : Format) (p : Pair) (a b : List ℕ) (out : Result (List Numbered) Refusal) → IsOnly (LoadsAs f.version p (take (data_reach f.version p) a) (take (delta_reach p) b)) out → IsOnly (LoadsAs f.version p a b) out
+pair_on_disk f p a b = only_alike (LoadsAs f.version p (take (data_reach f.version p) a) (take (delta_reach p) b)) (LoadsAs f.version p a b) (loads_of_front f.version p a b) (loads_in_front f.version p a b)

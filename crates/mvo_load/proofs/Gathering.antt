@@ -123,7 +123,7 @@ module _ (f : Format) (image : Image) (m : ManifestData) where
     places = λ apart. no_places;
   }
 
-  module _ (p : Pair) (ps : List Pair) (before : List Filed) (here : GatheredSoFar (p ∷ ps) before) (live sorted : List Numbered) (moved : IsPermutation live sorted) (only : IsOnly (LoadsAs f p (image p.data_file) (image p.delta_file)) (Ok live)) (good : IsManifest m) where
+  module _ (p : Pair) (ps : List Pair) (before : List Filed) (here : GatheredSoFar (p ∷ ps) before) (live sorted : List Numbered) (moved : IsPermutation live sorted) (only : IsOnly (LoadsAs f.version p (image p.data_file) (image p.delta_file)) (Ok live)) (good : IsManifest m) where
     front : AreApart (here.lives ++ live ∷ []) → AreApart here.lives
     front apart = distinct_front eq (keys_of here.lives) (map key_of live) (subst (λ (ks : List RowKey). IsDistinct eq ks) (keys-push here.lives live) apart)
 
@@ -141,7 +141,7 @@ module _ (f : Format) (image : Image) (m : ManifestData) where
 
     places_more : AreApart (here.lives ++ live ∷ []) → ArePlaces (here.done ++ p ∷ []) (here.lives ++ live ∷ []) (from_entries (record_places (here.done ++ p ∷ []) (here.lives ++ live ∷ [])))
     places_more apart =
-        let grown = places_grow here.done here.lives (from_entries (record_places here.done here.lives)) p live (here.places (front apart)) files_differ apart (live_numbers_rise f p (image p.data_file) (image p.delta_file) live only.0).0 in
+        let grown = places_grow here.done here.lives (from_entries (record_places here.done here.lives)) p live (here.places (front apart)) files_differ apart (live_numbers_rise f.version p (image p.data_file) (image p.delta_file) live only.0).0 in
         subst (λ (at : PlaceMap). ArePlaces (here.done ++ p ∷ []) (here.lives ++ live ∷ []) at) grown.are grown
 
     pub one_gathered : GatheredSoFar ps (before ++ file_all p.data_file sorted)
@@ -249,7 +249,7 @@ small_parts f (b ∷ bs) [] fit are = absurd are
 small_parts f (b ∷ bs) (part ∷ parts) fit are =
     let p = b.pair in
     let sorted = part.live.items in
-    let few = All-permutation (λ (l : Numbered). l.0 < p.records) are.0.live sorted are.0.moved (live_numbers_rise f p b.data_bytes b.delta_bytes are.0.live are.0.only.0).1 in
+    let few = All-permutation (λ (l : Numbered). l.0 < p.records) are.0.live sorted are.0.moved (live_numbers_rise f.version p b.data_bytes b.delta_bytes are.0.live are.0.only.0).1 in
     let here = All-from_recursion MayLie (file_all p.data_file sorted) (may_lie p sorted fit.0 (recursion_from_All (λ l. l.0 < p.records) sorted few)) in
     let mine : All MayLie (filed_of part) = subst (λ (n : ℕ). All MayLie (file_all n sorted)) (sym are.0.file) here in
     subst (λ (l : List Filed). All MayLie l) (sym (flat_map-cons filed_of part parts)) (All-append MayLie (filed_of part) (filed_in parts) mine (small_parts f bs parts fit.1 are.1))

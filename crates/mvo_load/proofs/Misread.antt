@@ -8,7 +8,7 @@ use Rattle.mvo_pair.specs.declared.unread.Unread.{Unread}
 use Rattle.mvo_pair.specs.declared.unread.Unread.TheVariants.{Memory, Broken, OtherVersion}
 use Rattle.mvo_pair.specs.Answers.{FoundOrUnread, IsFound, Goes, After, file_refusal}
 use Rattle.mvo_pair.specs.Data.{Numbered, live_of}
-use Rattle.mvo_pair.specs.Files.{HasEntries, HasDeadNumbers, HasOtherVersion, data_magic, delta_magic}
+use Rattle.mvo_pair.specs.Files.{IsDataFile, HasDeadNumbers, HasOtherVersion, HasUnknownVersion, data_magic, delta_magic}
 use Rattle.mvo_pair.specs.Loading.{LoadsAs}
 use Rattle.mvo_recovery.specs.image.Files.{SegmentIs}
 use Rattle.mvo_load.specs.Read.{IsMisread}
@@ -26,9 +26,9 @@ after {X} {Y} file Other Holds next so e h = go h.0 h.1 h.2
     go (Err u) says goes = let same : file_refusal file u ≡ e = cc goes in subst IsMisread same (unread file Other Holds u says)
 
 -- the live records of a pair
-pub pair_misread : (f : Format) (p : Pair) (a b : List ℕ) (e : Refusal) → LoadsAs f p a b (Err e) → IsMisread e
-pair_misread f p a b e = after {Y = List Numbered} p.data_file (HasOtherVersion data_magic f.version a) (λ es. HasEntries f p.lo.0 p.hi.0 p.records es a) _
-    (λ es k. after {Y = List Numbered} p.delta_file (HasOtherVersion delta_magic f.version b) (λ ns. HasDeadNumbers f.version p.records p.entries ns b) (λ ns out. out ≡ Ok (live_of ns es)) (λ ns r same. absurd (cc same)) k) e
+pub pair_misread : (f : Format) (p : Pair) (a b : List ℕ) (e : Refusal) → LoadsAs f.version p a b (Err e) → IsMisread e
+pair_misread f p a b e = after {Y = List Numbered} p.data_file (HasUnknownVersion data_magic f.version a) (λ d. IsDataFile f.version p.lo.0 p.hi.0 p.records d a) _
+    (λ d k. after {Y = List Numbered} p.delta_file (HasOtherVersion delta_magic d.0.version b) (λ ns. HasDeadNumbers d.0.version p.records p.entries ns b) (λ ns out. out ≡ Ok (live_of ns d.1)) (λ ns r same. absurd (cc same)) k) e
 
 -- the groups of a segment
 pub segment_misread : (f : Format) (file mark : ℕ) (kind : Kind) (bytes : List ℕ) (e : Refusal) → SegmentIs f file mark kind bytes (Err e) → IsMisread e

@@ -38,11 +38,11 @@ pub fn data_on<D: Disk>(
     requires file { pair.data_file < 1024 }
     requires room { D.fault_count disk.old + 1 < 2 ^ 64 }
     ensures bytes { IsHonest (D.moment disk.new) → IfOk result (λ v.
-        v.items ≡ take (data_reach format pair) (D.content disk.old pair.data_file)) }
+        v.items ≡ take (data_reach format.version pair) (D.content disk.old pair.data_file)) }
     ensures stopped { IfErr result IsStop }
     ensures read { HasRead D.Disk disk.old disk.new result }
 {
-    match read_up_to(alloc, disk, pair.data_file, pair.data_reach(format)) {
+    match read_up_to(alloc, disk, pair.data_file, pair.data_reach(format.version)) {
         Ok(bytes) => Ok(bytes),
         Err(failure) => Err(stop_of(failure)),
     }

@@ -18,7 +18,7 @@ use Rattle.mvo_merge.specs.Merged.{entries_alone}
 use Rattle.mvo_merge.specs.Laws.{MergeGivesEntries}
 use Rattle.mvo_merge.proofs.Lists.{names}
 use Rattle.mvo_merge.proofs.Moves.{among_numbered}
-use Rattle.mvo_merge.proofs.Loaded.{Loaded, loaded}
+use Rattle.mvo_merge.proofs.Loaded.{Loaded, loaded_later}
 
 -- a live record is one of the records
 entry_among : (ns : List ℕ) (es : List EntryData) (e : EntryData) → Among (entries_alone (live_of ns es)) e → Among es e
@@ -70,9 +70,9 @@ module _ (f : Format) (p : Pair) (live : List Numbered) (l : Loaded f p live) wh
   entries_rise = subst (λ (ls : List Numbered). IsStrictlySortedBy entry_cmp (entries_alone ls)) (sym l.is) (sorted_some l.numbers 0 l.entries l.are.rise)
 
 pub gives_entries : MergeGivesEntries
-gives_entries f p q left right are =
-    let here = loaded f p are.left_data are.left_delta left are.left_loads in
-    let there = loaded f q are.right_data are.right_delta right are.right_loads in
+gives_entries upto f p q left right known le are =
+    let here = loaded_later upto f known le p are.left_data are.left_delta left are.left_loads in
+    let there = loaded_later upto f known le q are.right_data are.right_delta right are.right_loads in
     record {
       each = All-append (IsEntry f p.lo.0 q.hi.0) (entries_alone left) (entries_alone right)
           (All-from_recursion (IsEntry f p.lo.0 q.hi.0) (entries_alone left) (all_from (IsEntry f p.lo.0 q.hi.0) (entries_alone left) (λ e a.

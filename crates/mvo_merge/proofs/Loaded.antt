@@ -4,14 +4,16 @@ use Rattle.std.specs.Prelude.{not, nat_eq, ◌==◌, ◌||◌}
 use Rattle.std.specs.List.{AllByRecursion, IsDistinct, enumerate_from}
 use Rattle.std.proofs.lemmas.Bool.{cases_lt, eq-eqb, eqb-false}
 use Rattle.std.proofs.lemmas.List.{length-map}
-use Rattle.std.proofs.lemmas.List.Elements.{recursion_from_All}
+use Rattle.std.proofs.lemmas.List.Elements.{recursion_from_All, All-weaker}
 use Rattle.std.proofs.lemmas.List.Folds.{list_any-append}
 use Rattle.std.proofs.lemmas.List.FromFn.{length-enumerate_from}
 use Rattle.mvo_types.specs.declared.refusal.Refusal.{Refusal}
 use Rattle.mvo_format.specs.declared.format.Format.{Format}
+use Rattle.mvo_format.specs.Formats.{IsFormatUpTo, AllowsNoMore}
+use Rattle.mvo_format.proofs.Versions.{later_allows}
 use Rattle.mvo_pair.specs.Data.{EntryData, Numbered, live_of}
 use Rattle.mvo_pair.specs.Answers.{FoundOrUnread, Goes, After}
-use Rattle.mvo_pair.specs.Files.{AreEntries, AreNumbers}
+use Rattle.mvo_pair.specs.Files.{IsEntry, AreEntries, AreNumbers}
 use Rattle.mvo_pair.specs.Loading.{DataSays, DeltaSays, LoadsAs}
 use Rattle.mvo_pair.specs.declared.pair.Pair.{Pair}
 use Rattle.mvo_places.proofs.Members.{Among, among_map, among_mapped, among_filter, all_among, Rises}
@@ -30,20 +32,47 @@ pub record Loaded (f : Format) (p : Pair) (live : List Numbered) : Type 0 where
   pub numbers_are : AreNumbers p.records numbers
   pub is : live ≡ live_of numbers entries
 
-module _ (f : Format) (p : Pair) (delta_bytes : List ℕ) (live : List Numbered) where
+module _ (upto : ℕ) (p : Pair) (delta_bytes : List ℕ) (live : List Numbered) where
   abbrev Rest : List EntryData → List ℕ → Result (List Numbered) Refusal → Type 0
   Rest es ns out = out ≡ Ok (live_of ns es)
 
-  of_numbers : (es : List EntryData) → length es ≡ p.records → AreEntries f p.lo.0 p.hi.0 es → (found : FoundOrUnread (List ℕ)) → DeltaSays f p delta_bytes found → Goes p.delta_file (Rest es) found (Ok live) → Loaded f p live
-  of_numbers es counted are (Ok ns) says is = let same : live ≡ live_of ns es = cc in record { entries = es; numbers = ns; counted = counted; are = are; numbers_counted = says.counted; numbers_are = says.are; is = same }
-  of_numbers es counted are (Err e) says is = absurd cc
+  -- it is loaded by the format of its own version
+  abbrev IsLoaded : Type 0
+  IsLoaded = (own : Format) × IsFormatUpTo upto own × Loaded own p live
 
-  of_entries : (data_bytes : List ℕ) (found : FoundOrUnread (List EntryData)) → DataSays f p data_bytes found → Goes p.data_file (λ es. After p.delta_file (DeltaSays f p delta_bytes) (Rest es)) found (Ok live) → Loaded f p live
-  of_entries data_bytes (Ok es) says goes = of_numbers es says.counted says.are goes.0 goes.1 goes.2
+  of_numbers : (own : Format) → IsFormatUpTo upto own → (es : List EntryData) → length es ≡ p.records → AreEntries own p.lo.0 p.hi.0 es → (found : FoundOrUnread (List ℕ)) → DeltaSays own p delta_bytes found → Goes p.delta_file (Rest es) found (Ok live) → IsLoaded
+  of_numbers own known es counted are (Ok ns) says is = let same : live ≡ live_of ns es = cc in (own, known, record { entries = es; numbers = ns; counted = counted; are = are; numbers_counted = says.counted; numbers_are = says.are; is = same })
+  of_numbers own known es counted are (Err e) says is = absurd cc
+
+  of_entries : (data_bytes : List ℕ) (found : FoundOrUnread (Format × List EntryData)) → DataSays upto p data_bytes found → Goes p.data_file (λ d. After p.delta_file (DeltaSays d.0 p delta_bytes) (Rest d.1)) found (Ok live) → IsLoaded
+  of_entries data_bytes (Ok d) says goes = of_numbers d.0 says.known d.1 says.has.counted says.has.are goes.0 goes.1 goes.2
   of_entries data_bytes (Err e) says goes = absurd cc
 
-pub loaded : (f : Format) (p : Pair) (data_bytes delta_bytes : List ℕ) (live : List Numbered) → LoadsAs f p data_bytes delta_bytes (Ok live) → Loaded f p live
-loaded f p data_bytes delta_bytes live loads = of_entries f p delta_bytes live data_bytes loads.0 loads.1 loads.2
+pub loaded : (upto : ℕ) (p : Pair) (data_bytes delta_bytes : List ℕ) (live : List Numbered) → LoadsAs upto p data_bytes delta_bytes (Ok live) → (own : Format) × IsFormatUpTo upto own × Loaded own p live
+loaded upto p data_bytes delta_bytes live loads = of_entries upto p delta_bytes live data_bytes loads.0 loads.1 loads.2
+
+-- records that keep the rules of a version keep those of one that allows no less
+entries_later : (own f : Format) → AllowsNoMore own f → (lo hi : ℕ) (es : List EntryData) → AreEntries own lo hi es → AreEntries f lo hi es
+entries_later own f more lo hi es are = record {
+  each = All-weaker (IsEntry own lo hi) (IsEntry f lo hi) (λ e is. let table = is.table in let size = is.size in record { above = is.above; upto = is.upto; table = omega (arith, table, more.table); size = omega (arith, size, more.size) }) es are.each;
+  rise = are.rise;
+}
+
+-- and the pair is loaded by each version that isn't earlier
+pub loaded_later : (upto : ℕ) (f : Format) → IsFormatUpTo f.version f → upto ≤ f.version → (p : Pair) (data_bytes delta_bytes : List ℕ) (live : List Numbered) → LoadsAs upto p data_bytes delta_bytes (Ok live) → Loaded f p live
+loaded_later upto f known le p data_bytes delta_bytes live loads =
+    let l = loaded upto p data_bytes delta_bytes live loads in
+    let low = l.1.within in
+    let more = later_allows upto f.version l.0 f l.1 known (omega (arith, low, le)) in
+    record {
+      entries = l.2.entries;
+      numbers = l.2.numbers;
+      counted = l.2.counted;
+      are = entries_later l.0 f more p.lo.0 p.hi.0 l.2.entries l.2.are;
+      numbers_counted = l.2.numbers_counted;
+      numbers_are = l.2.numbers_are;
+      is = l.2.is;
+    }
 
 -- ---- more numbers
 
@@ -125,8 +154,8 @@ count_live (n ∷ ns) es below differ =
     omega (arith, fewer, later, same)
 
 pub counts_live : CountsLive
-counts_live f p data_bytes delta_bytes live loads =
-    let l = loaded f p data_bytes delta_bytes live loads in
+counts_live upto p data_bytes delta_bytes live loads =
+    let l = (loaded upto p data_bytes delta_bytes live loads).2 in
     let count = count_live l.numbers l.entries (subst (λ k. AllByRecursion (λ n. n < k) l.numbers) (sym l.counted) (recursion_from_All (λ n. n < p.records) l.numbers l.numbers_are.each)) l.numbers_are.distinct in
     let same : length live ≡ length (live_of l.numbers l.entries) = ap (λ (ls : List Numbered). length ls) l.is in
     omega (arith, count, same, l.counted, l.numbers_counted)
@@ -135,10 +164,10 @@ pub has_both : HasBoth
 has_both left right = omega (arith, length-append (entries_alone left) (entries_alone right), length-map left (λ (l : Numbered). l.1), length-map right (λ (l : Numbered). l.1))
 
 pub few_enough : MergeIsFewEnough
-few_enough f p q left right are few =
-    let here = counts_live f p are.left_data are.left_delta left are.left_loads in
-    let there = counts_live f q are.right_data are.right_delta right are.right_loads in
+few_enough upto p q left right are few =
+    let here = counts_live upto p are.left_data are.left_delta left are.left_loads in
+    let there = counts_live upto q are.right_data are.right_delta right are.right_loads in
     omega (arith, few, here, there)
 
 pub loads_merged : LoadsMerged
-loads_merged f p left right late_left late_right data_bytes delta_bytes entries numbers = (Ok (merged left right), entries, (Ok _, numbers, refl))
+loads_merged upto f p left right late_left late_right data_bytes delta_bytes known entries numbers = (Ok (f, merged left right), record { known = known; has = entries }, (Ok _, numbers, refl))

@@ -3,6 +3,7 @@ use Rattle.std.specs.Prelude.{◌≡◌, ◌↔◌, ◌⊎◌, ℕ, ◌+◌, ◌
 use Rattle.std.specs.List.{Contains, IsDistinct, enumerate_from}
 use Rattle.mvo_types.specs.declared.limits.TheConstants.{MAX_PAIR_RECORDS}
 use Rattle.mvo_format.specs.declared.format.Format.{Format}
+use Rattle.mvo_format.specs.Formats.{IsFormatUpTo}
 use Rattle.mvo_pair.specs.Data.{EntryData, Numbered, live_of, AreApart}
 use Rattle.mvo_pair.specs.Files.{AreEntries, AreNumbers, HasEntries, HasDeadNumbers}
 use Rattle.mvo_pair.specs.Loading.{LoadsAs}
@@ -78,26 +79,27 @@ MergeStaysApart = (left right : List Numbered) (late_left late_right : List ℕ)
 
 -- A pair has as many live records as it has records that its delta file doesn't name.
 abbrev pub CountsLive : Type 0
-CountsLive = (f : Format) (p : Pair) (data_bytes delta_bytes : List ℕ) (live : List Numbered) →
-    LoadsAs f p data_bytes delta_bytes (Ok live) → length live + p.entries ≡ p.records
+CountsLive = (upto : ℕ) (p : Pair) (data_bytes delta_bytes : List ℕ) (live : List Numbered) →
+    LoadsAs upto p data_bytes delta_bytes (Ok live) → length live + p.entries ≡ p.records
 
 -- two pairs, the right one directly behind the left one, with their live records
-pub record LoadAsNeighbours (f : Format) (p q : Pair) (left right : List Numbered) : Type 0 where
+pub record LoadAsNeighbours (upto : ℕ) (p q : Pair) (left right : List Numbered) : Type 0 where
   pub left_data : List ℕ
   pub left_delta : List ℕ
   pub right_data : List ℕ
   pub right_delta : List ℕ
-  pub left_loads : LoadsAs f p left_data left_delta (Ok left)
-  pub right_loads : LoadsAs f q right_data right_delta (Ok right)
+  pub left_loads : LoadsAs upto p left_data left_delta (Ok left)
+  pub right_loads : LoadsAs upto q right_data right_delta (Ok right)
   pub rises : p.lo.0 < p.hi.0
   pub next : q.lo.0 ≡ p.hi.0
   pub goes_on : q.lo.0 < q.hi.0
 
 -- The records of two neighbours keep the rules of a data file from the lo of the left pair to the
--- hi of the right one.
+-- hi of the right one, of each version that isn't earlier than theirs.
 abbrev pub MergeGivesEntries : Type 0
-MergeGivesEntries = (f : Format) (p q : Pair) (left right : List Numbered) →
-    LoadAsNeighbours f p q left right → AreEntries f p.lo.0 q.hi.0 (merged left right)
+MergeGivesEntries = (upto : ℕ) (f : Format) (p q : Pair) (left right : List Numbered) →
+    IsFormatUpTo f.version f → upto ≤ f.version → LoadAsNeighbours upto p q left right →
+    AreEntries f p.lo.0 q.hi.0 (merged left right)
 
 -- They are as many as both pairs have live ones.
 abbrev pub HasBoth : Type 0
@@ -106,8 +108,8 @@ HasBoth = (left right : List Numbered) →
 
 -- They are no more than a pair may have, where the counts say so.
 abbrev pub MergeIsFewEnough : Type 0
-MergeIsFewEnough = (f : Format) (p q : Pair) (left right : List Numbered) →
-    LoadAsNeighbours f p q left right →
+MergeIsFewEnough = (upto : ℕ) (p q : Pair) (left right : List Numbered) →
+    LoadAsNeighbours upto p q left right →
     (p.records - p.entries) + (q.records - q.entries) ≤ MAX_PAIR_RECORDS →
     length left + length right ≤ MAX_PAIR_RECORDS
 
@@ -120,12 +122,12 @@ GivesNumbers = (left right : List Numbered) (late_left late_right : List ℕ) �
 
 -- Where the files of a pair hold the records and the late numbers, it loads as the merged pair.
 abbrev pub LoadsMerged : Type 0
-LoadsMerged = (f : Format) (p : Pair) (left right : List Numbered) (late_left late_right : List ℕ)
-    (data_bytes delta_bytes : List ℕ) →
+LoadsMerged = (upto : ℕ) (f : Format) (p : Pair) (left right : List Numbered)
+    (late_left late_right : List ℕ) (data_bytes delta_bytes : List ℕ) → IsFormatUpTo upto f →
     HasEntries f p.lo.0 p.hi.0 p.records (merged left right) data_bytes →
     HasDeadNumbers f.version p.records p.entries
     (renumbered (renumbering_of left right) late_left late_right) delta_bytes →
-    LoadsAs f p data_bytes delta_bytes (Ok (live_after left right late_left late_right))
+    LoadsAs upto p data_bytes delta_bytes (Ok (live_after left right late_left late_right))
 
 -- ---- places
 

@@ -1,5 +1,5 @@
 -- What the first bytes of a pair's files say is what the files say, as many as its counts reach.
-use Rattle.std.proofs.Common.{◌≡◌, ℕ, suc, ◌+◌, ◌-◌, ◌*◌, ◌≤◌, List, [], ◌∷◌, ◌++◌, length, take, drop, Result, Ok, Err, refl, sym, ap, subst, ◌∙◌, length-append, arith}
+use Rattle.std.proofs.Common.{◌≡◌, ℕ, zero, suc, ◌+◌, ◌-◌, ◌*◌, ◌≤◌, List, [], ◌∷◌, ◌++◌, length, take, drop, Result, Ok, Err, refl, sym, ap, subst, ◌∙◌, length-append, arith}
 use Rattle.std.proofs.Math.Nat.{suc-mul}
 use Rattle.std.specs.List.{flat_map, AllByRecursion}
 use Rattle.std.proofs.lemmas.List.Concat.{flat_map-cons}
@@ -13,9 +13,11 @@ use Rattle.mvo_pair.specs.declared.pair.Pair.{Pair}
 use Rattle.mvo_pair.specs.declared.unread.Unread.TheVariants.{Memory, Broken, OtherVersion}
 use Rattle.mvo_pair.specs.Data.{EntryData, Numbered, live_of}
 use Rattle.mvo_pair.specs.Answers.{FoundOrUnread, IsFound, Goes, After, IsOnly}
-use Rattle.mvo_pair.specs.Files.{file_header, data_magic, delta_magic, HasOtherVersion, entry_bytes, data_bytes, IsEntry, HasEntries, delta_bytes, HasDeadNumbers}
-use Rattle.mvo_pair.specs.Loading.{DataSays, DeltaSays, LoadsAs, data_reach, delta_reach}
+use Rattle.mvo_pair.specs.Files.{file_header, data_magic, delta_magic, HasOtherVersion, HasUnknownVersion, IsDataFile, entry_bytes, data_bytes, IsEntry, HasEntries, delta_bytes, HasDeadNumbers}
+use Rattle.mvo_pair.specs.Loading.{DataSays, DeltaSays, LoadsAs, most_data, data_reach, delta_reach}
+use Rattle.mvo_format.specs.Formats.{IsFormatUpTo}
 use Rattle.mvo_pair.proofs.Appends.{length-delta}
+use Rattle.mvo_pair.proofs.Said.{known_most}
 
 -- ---- headers
 
@@ -34,6 +36,25 @@ module _ (n : ℕ) (magic : List ℕ) (version : ℕ) (bytes : List ℕ) where
 
   other_of_front : HasOtherVersion magic version (take n bytes) → HasOtherVersion magic version bytes
   other_of_front o = record {
+    number = o.number;
+    rest = o.rest ++ drop n bytes;
+    whole = front_back n bytes (file_header magic o.number) o.rest o.whole;
+    fits = o.fits;
+    other = o.other;
+  }
+
+module _ (n : ℕ) (magic : List ℕ) (upto : ℕ) (bytes : List ℕ) where
+  unknown_in_front : length magic ≡ 4 → 8 ≤ n → HasUnknownVersion magic upto bytes → HasUnknownVersion magic upto (take n bytes)
+  unknown_in_front four le o = record {
+    number = o.number;
+    rest = take (n - length (file_header magic o.number)) o.rest;
+    whole = front_taken n bytes (file_header magic o.number) o.rest (omega (arith, le, length-header magic o.number four)) o.whole;
+    fits = o.fits;
+    other = o.other;
+  }
+
+  unknown_of_front : HasUnknownVersion magic upto (take n bytes) → HasUnknownVersion magic upto bytes
+  unknown_of_front o = record {
     number = o.number;
     rest = o.rest ++ drop n bytes;
     whole = front_back n bytes (file_header magic o.number) o.rest o.whole;
@@ -62,35 +83,43 @@ length-entries f lo hi (e ∷ es) all =
     let next : suc (length es) * (27 + f.max_data_len) ≡ length es * (27 + f.max_data_len) + (27 + f.max_data_len) = suc-mul (length es) (27 + f.max_data_len) in
     omega (arith, one, next, more, size, length-entry e)
 
-module _ (f : Format) (p : Pair) (bytes : List ℕ) where
-  abbrev n : ℕ
-  n = data_reach f p
+mul_up : (k a b : ℕ) → a ≤ b → k * a ≤ k * b
+mul_up zero a b le = omega arith
+mul_up (suc k) a b le = let more = mul_up k a b le in omega (arith, suc-mul k a, suc-mul k b, more, le)
 
-  length-data : (es : List EntryData) → HasEntries f p.lo.0 p.hi.0 p.records es bytes → length (data_bytes f.version es) ≤ n
-  length-data es h =
+module _ (upto : ℕ) (p : Pair) (bytes : List ℕ) where
+  abbrev n : ℕ
+  n = data_reach upto p
+
+  abbrev Holds : List ℕ → Format × List EntryData → Type 0
+  Holds l d = IsDataFile upto p.lo.0 p.hi.0 p.records d l
+
+  length-data : (f : Format) (es : List EntryData) (l : List ℕ) → IsFormatUpTo upto f → HasEntries f p.lo.0 p.hi.0 p.records es l → length (data_bytes f.version es) ≤ n
+  length-data f es l known h =
       let whole : length (data_bytes f.version es) ≡ length (file_header data_magic f.version) + length (flat_map entry_bytes es) = length-append (file_header data_magic f.version) (flat_map entry_bytes es) in
       let most = subst (λ (k : ℕ). length (flat_map entry_bytes es) ≤ k * (27 + f.max_data_len)) h.counted (length-entries f p.lo.0 p.hi.0 es (recursion_from_All (IsEntry f p.lo.0 p.hi.0) es h.are.each)) in
-      omega (arith, whole, most, length-header data_magic f.version refl)
+      let up = mul_up p.records (27 + f.max_data_len) (27 + most_data upto) (omega (arith, known_most upto f known)) in
+      omega (arith, whole, most, up, length-header data_magic f.version refl)
 
-  entries_in_front : (es : List EntryData) → HasEntries f p.lo.0 p.hi.0 p.records es bytes → HasEntries f p.lo.0 p.hi.0 p.records es (take n bytes)
-  entries_in_front es h =
-      let front = data_bytes f.version es in
-      record { rest = take (n - length front) h.rest; whole = front_taken n bytes front h.rest (length-data es h) h.whole; counted = h.counted; are = h.are; words = h.words }
+  entries_in_front : (d : Format × List EntryData) → Holds bytes d → Holds (take n bytes) d
+  entries_in_front d file =
+      let h = file.has in
+      let front = data_bytes d.0.version d.1 in
+      record { known = file.known; has = record { rest = take (n - length front) h.rest; whole = front_taken n bytes front h.rest (length-data d.0 d.1 bytes file.known h) h.whole; counted = h.counted; are = h.are; words = h.words } }
 
-  entries_of_front : (es : List EntryData) → HasEntries f p.lo.0 p.hi.0 p.records es (take n bytes) → HasEntries f p.lo.0 p.hi.0 p.records es bytes
-  entries_of_front es h = record { rest = h.rest ++ drop n bytes; whole = front_back n bytes (data_bytes f.version es) h.rest h.whole; counted = h.counted; are = h.are; words = h.words }
-
-  abbrev Holds : List ℕ → List EntryData → Type 0
-  Holds l es = HasEntries f p.lo.0 p.hi.0 p.records es l
+  entries_of_front : (d : Format × List EntryData) → Holds (take n bytes) d → Holds bytes d
+  entries_of_front d file =
+      let h = file.has in
+      record { known = file.known; has = record { rest = h.rest ++ drop n bytes; whole = front_back n bytes (data_bytes d.0.version d.1) h.rest h.whole; counted = h.counted; are = h.are; words = h.words } }
 
   abbrev Other : List ℕ → Type 0
-  Other l = HasOtherVersion data_magic f.version l
+  Other l = HasUnknownVersion data_magic upto l
 
-  data_of_front : (found : FoundOrUnread (List EntryData)) → DataSays f p (take n bytes) found → DataSays f p bytes found
-  data_of_front = found_alike (Other (take n bytes)) (Other bytes) (Holds (take n bytes)) (Holds bytes) (other_of_front n data_magic f.version bytes) (other_in_front n data_magic f.version bytes refl (omega arith)) entries_of_front entries_in_front
+  data_of_front : (found : FoundOrUnread (Format × List EntryData)) → DataSays upto p (take n bytes) found → DataSays upto p bytes found
+  data_of_front = found_alike (Other (take n bytes)) (Other bytes) (Holds (take n bytes)) (Holds bytes) (unknown_of_front n data_magic upto bytes) (unknown_in_front n data_magic upto bytes refl (omega arith)) entries_of_front entries_in_front
 
-  data_in_front : (found : FoundOrUnread (List EntryData)) → DataSays f p bytes found → DataSays f p (take n bytes) found
-  data_in_front = found_alike (Other bytes) (Other (take n bytes)) (Holds bytes) (Holds (take n bytes)) (other_in_front n data_magic f.version bytes refl (omega arith)) (other_of_front n data_magic f.version bytes) entries_in_front entries_of_front
+  data_in_front : (found : FoundOrUnread (Format × List EntryData)) → DataSays upto p bytes found → DataSays upto p (take n bytes) found
+  data_in_front = found_alike (Other bytes) (Other (take n bytes)) (Holds bytes) (Holds (take n bytes)) (unknown_in_front n data_magic upto bytes refl (omega arith)) (unknown_of_front n data_magic upto bytes) entries_in_front entries_of_front
 
 -- ---- delta files
 
@@ -129,31 +158,31 @@ after_alike {X} {Y} file A B first second over next out h = (h.0, over h.0 h.1, 
     go (Ok x) goes = next x out goes
     go (Err e) goes = goes
 
-module _ (f : Format) (p : Pair) (a b : List ℕ) where
+module _ (upto : ℕ) (p : Pair) (a b : List ℕ) where
   abbrev Answer : Type 0
   Answer = Result (List Numbered) Refusal
 
-  abbrev Behind : List ℕ → List EntryData → Answer → Type 0
-  Behind l es = After p.delta_file (DeltaSays f p l) (λ ns out. out ≡ Ok (live_of ns es))
+  abbrev Behind : List ℕ → Format × List EntryData → Answer → Type 0
+  Behind l d = After p.delta_file (DeltaSays d.0 p l) (λ ns out. out ≡ Ok (live_of ns d.1))
 
   abbrev live : List EntryData → List ℕ → Answer → Type 0
   live es ns out = out ≡ Ok (live_of ns es)
 
   abbrev data_front : List ℕ
-  data_front = take (data_reach f p) a
+  data_front = take (data_reach upto p) a
 
   abbrev delta_front : List ℕ
   delta_front = take (delta_reach p) b
 
-  pub loads_of_front : (out : Answer) → LoadsAs f p data_front delta_front out → LoadsAs f p a b out
+  pub loads_of_front : (out : Answer) → LoadsAs upto p data_front delta_front out → LoadsAs upto p a b out
   loads_of_front =
-      after_alike p.data_file (DataSays f p data_front) (DataSays f p a) (Behind delta_front) (Behind b) (data_of_front f p a)
-      (λ es. after_alike p.delta_file (DeltaSays f p delta_front) (DeltaSays f p b) (live es) (live es) (delta_of_front f p b) (λ ns out is. is))
+      after_alike p.data_file (DataSays upto p data_front) (DataSays upto p a) (Behind delta_front) (Behind b) (data_of_front upto p a)
+      (λ d. after_alike p.delta_file (DeltaSays d.0 p delta_front) (DeltaSays d.0 p b) (live d.1) (live d.1) (delta_of_front d.0 p b) (λ ns out is. is))
 
-  pub loads_in_front : (out : Answer) → LoadsAs f p a b out → LoadsAs f p data_front delta_front out
+  pub loads_in_front : (out : Answer) → LoadsAs upto p a b out → LoadsAs upto p data_front delta_front out
   loads_in_front =
-      after_alike p.data_file (DataSays f p a) (DataSays f p data_front) (Behind b) (Behind delta_front) (data_in_front f p a)
-      (λ es. after_alike p.delta_file (DeltaSays f p b) (DeltaSays f p delta_front) (live es) (live es) (delta_in_front f p b) (λ ns out is. is))
+      after_alike p.data_file (DataSays upto p a) (DataSays upto p data_front) (Behind b) (Behind delta_front) (data_in_front upto p a)
+      (λ d. after_alike p.delta_file (DeltaSays d.0 p b) (DeltaSays d.0 p delta_front) (live d.1) (live d.1) (delta_in_front d.0 p b) (λ ns out is. is))
 
 -- what is the one answer of some bytes is that of others which say the same
 pub only_alike : {Y : Type 0} (A B : Y → Type 0) → ((y : Y) → A y → B y) → ((y : Y) → B y → A y) → (y : Y) → IsOnly A y → IsOnly B y

@@ -86,7 +86,7 @@ live_kept p ns es counted = (
       omega (arith, few, counted))),
 )
 
-module _ (f : Format) (p : Pair) (delta : List ℕ) (live : List Numbered) where
+module _ (upto : ℕ) (p : Pair) (delta : List ℕ) (live : List Numbered) where
   abbrev Rest : List EntryData → List ℕ → Result (List Numbered) Refusal → Type 0
   Rest es ns out = out ≡ Ok (live_of ns es)
 
@@ -94,9 +94,9 @@ module _ (f : Format) (p : Pair) (delta : List ℕ) (live : List Numbered) where
   of_numbers es counted (Ok ns) is = let same : live ≡ live_of ns es = cc in subst (HasRising p) (sym same) (live_kept p ns es counted)
   of_numbers es counted (Err e) is = absurd cc
 
-  of_entries : (data_bytes : List ℕ) (found : FoundOrUnread (List EntryData)) → DataSays f p data_bytes found → Goes p.data_file (λ es. After p.delta_file (DeltaSays f p delta) (Rest es)) found (Ok live) → HasRising p live
-  of_entries data_bytes (Ok es) says goes = of_numbers es says.counted goes.0 goes.2
+  of_entries : (data_bytes : List ℕ) (found : FoundOrUnread (Format × List EntryData)) → DataSays upto p data_bytes found → Goes p.data_file (λ d. After p.delta_file (DeltaSays d.0 p delta) (Rest d.1)) found (Ok live) → HasRising p live
+  of_entries data_bytes (Ok d) says goes = of_numbers d.1 says.has.counted goes.0 goes.2
   of_entries data_bytes (Err e) says goes = absurd cc
 
 pub live_numbers_rise : LiveNumbersRise
-live_numbers_rise f p data_bytes delta live loads = of_entries f p delta live data_bytes loads.0 loads.1 loads.2
+live_numbers_rise upto p data_bytes delta live loads = of_entries upto p delta live data_bytes loads.0 loads.1 loads.2

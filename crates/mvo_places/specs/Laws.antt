@@ -2,7 +2,6 @@
 use Rattle.std.specs.Prelude.{ℕ, ◌<◌, List, [], ◌∷◌, ◌++◌, map, All, Ok, nat_eq}
 use Rattle.std.specs.List.{IsDistinct}
 use Rattle.std.specs.FinMap.{empty}
-use Rattle.mvo_format.specs.declared.format.Format.{Format}
 use Rattle.mvo_pair.specs.Data.{Numbered, AreApart}
 use Rattle.mvo_pair.specs.Loading.{LoadsAs}
 use Rattle.mvo_pair.specs.declared.pair.Pair.{Pair}
@@ -10,8 +9,8 @@ use Rattle.mvo_places.specs.Places.{PlaceMap, Rise, ArePlaces, file_of, with_liv
 
 -- The numbers of the live records of a pair rise, and lie below its count.
 abbrev pub LiveNumbersRise : Type 0
-LiveNumbersRise = (f : Format) (p : Pair) (data_bytes delta : List ℕ) (live : List Numbered) →
-    LoadsAs f p data_bytes delta (Ok live) → Rise live × All (λ l. l.0 < p.records) live
+LiveNumbersRise = (upto : ℕ) (p : Pair) (data_bytes delta : List ℕ) (live : List Numbered) →
+    LoadsAs upto p data_bytes delta (Ok live) → Rise live × All (λ l. l.0 < p.records) live
 
 -- Without pairs there are no places.
 abbrev pub NoPlaces : Type 0

@@ -26,7 +26,7 @@ use Rattle.mvo_recovery.specs.Settled.{IsSettled}
 use Rattle.mvo_recovery.specs.Merging.{MergeData, merged_manifest}
 use Rattle.mvo_recovery.proofs.Merged.{named_merged, manifest_merged, rise_merged}
 use Rattle.mvo_recovery.proofs.Pairs.{few_records, delta_named}
-use Rattle.mvo_recovery.proofs.Gained.{counted_of}
+use Rattle.mvo_recovery.proofs.Gained.{HasCounted, counted_of}
 use Rattle.mvo_recovery.specs.beside.Seen.{SeenData, grown, WasSeen, pairs_now, NumbersNow}
 use Rattle.mvo_recovery.proofs.beside.Seen.{left_now, right_now, in_left, in_right}
 use Rattle.mvo_recovery.proofs.beside.Two.{few_one, has_first, has_second}
@@ -75,8 +75,8 @@ module _ (content : Image) (m : ManifestData) (saw : SeenData) (seen : WasSeen F
 -- the delta file of a pair has room for the numbers that count
 pub counted_start : (content : Image) (may : ℕ → List ℕ → Type 0) (m : ManifestData) (x : Parts) → IsSettled FIRST_FORMAT content may m x → (p : Pair) → Contains m.pairs p → place_behind p.entries ≤ length (content p.delta_file)
 counted_start content may m x settled p in_pairs =
-    let has : (ns : List ℕ) × HasDeadNumbers VERSION p.records p.entries ns (content p.delta_file) = counted_of FIRST_FORMAT content may m x settled p in_pairs x.lives m.pairs settled.installed.parts.live in_pairs in
-    omega (arith, ap (λ (l : List ℕ). length l) has.1.whole, length-append (delta_bytes VERSION has.0) has.1.rest, length-delta VERSION has.0 p.entries has.1.counted)
+    let has : HasCounted FIRST_FORMAT content p = counted_of FIRST_FORMAT content may m x settled p in_pairs x.lives m.pairs settled.installed.parts.live in_pairs in
+    omega (arith, ap (λ (l : List ℕ). length l) has.3.whole, length-append (delta_bytes has.0.version has.2) has.3.rest, length-delta has.0.version has.2 p.entries has.3.counted)
 
 -- the neighbours at a place are among the pairs
 module _ (m : ManifestData) (place : ℕ) (p q : Pair) (two : neighbours_at place m.pairs ≡ Some (p, q)) where
@@ -113,11 +113,11 @@ module _ (content : Image) (may : ℕ → List ℕ → Type 0) (m : ManifestData
   -- those that count now
   numbers_now : NumbersNow FIRST_FORMAT content m saw has.seen
   numbers_now =
-      let counted : (p : Pair) → Contains m.pairs p → (ns : List ℕ) × HasDeadNumbers VERSION p.records p.entries ns (content p.delta_file) =
+      let counted : (p : Pair) → Contains m.pairs p → HasCounted FIRST_FORMAT content p =
       λ p in_pairs. counted_of FIRST_FORMAT content may m x settled p in_pairs x.lives m.pairs settled.installed.parts.live in_pairs in
       let left = counted (left_now FIRST_FORMAT content m saw has.seen) (in_left FIRST_FORMAT content m saw has.seen) in
       let right = counted (right_now FIRST_FORMAT content m saw has.seen) (in_right FIRST_FORMAT content m saw has.seen) in
-      record { left = left.0; right = right.0; left_has = left.1; right_has = right.1 }
+      record { left = left.2; right = right.2; left_own = left.0; right_own = right.0; left_known = left.1; right_known = right.1; left_has = left.3; right_has = right.3 }
 
   abbrev late_left : List ℕ
   late_left = drop s.left.entries numbers_now.left
@@ -133,13 +133,13 @@ module _ (content : Image) (may : ℕ → List ℕ → Type 0) (m : ManifestData
     left_is =
         let p = first_now content m saw has.seen in
         let here : AreThoseFrom s.left.entries p.entries (content p.delta_file) left = subst (λ (t : Pair × Pair). AreThoseFrom s.left.entries t.0.entries (content t.0.delta_file) left) two_same are.left_are in
-        here VERSION s.left.records numbers_now.left (omega (arith, few_records m is_manifest p (in_left FIRST_FORMAT content m saw has.seen))) numbers_now.left_has
+        here numbers_now.left_own.version s.left.records numbers_now.left (omega (arith, few_records m is_manifest p (in_left FIRST_FORMAT content m saw has.seen))) numbers_now.left_has
 
     right_is : right ≡ late_right
     right_is =
         let q = second_now content m saw has.seen in
         let here : AreThoseFrom s.right.entries q.entries (content q.delta_file) right = subst (λ (t : Pair × Pair). AreThoseFrom s.right.entries t.1.entries (content t.1.delta_file) right) two_same are.right_are in
-        here VERSION s.right.records numbers_now.right (omega (arith, few_records m is_manifest q (in_right FIRST_FORMAT content m saw has.seen))) numbers_now.right_has
+        here numbers_now.right_own.version s.right.records numbers_now.right (omega (arith, few_records m is_manifest q (in_right FIRST_FORMAT content m saw has.seen))) numbers_now.right_has
 
     late_now : late_of s left right ≡ late_of s late_left late_right
     late_now = ap (λ (l : List ℕ). late_of s l right) left_is ∙ ap (λ (r : List ℕ). late_of s late_left r) right_is

@@ -1,5 +1,6 @@
 use crate::equal::{holds, same};
 use crate::files::changes::changed;
+use mvo_format::{FIRST_FORMAT, Format};
 use mvo_group::{Group, Record, Write};
 use mvo_types::{Row, RowKey, Stamp};
 use std::alloc::Global;
@@ -73,7 +74,7 @@ fn the_vectors_are_written(rt: HostRuntime) -> Result<(), Fail> {
 }
 
 fn read(alloc: Global, vector: &[u8]) -> Result<Group, Fail> {
-    Ok(Group::decode(alloc, vector)?.ok_or("a group")?)
+    Ok(Group::decode(alloc, FIRST_FORMAT, vector)?.ok_or("a group")?)
 }
 
 fn is_empty(rt: &impl Abort, group: &Group) {
@@ -100,9 +101,26 @@ fn the_vectors_are_read(rt: HostRuntime) -> Result<(), Fail> {
     Ok(())
 }
 
+// Whether the put, of one byte in table 0, is read where a version allows so many bytes of data.
+fn is_read(alloc: Global, max_data_len: u16) -> Result<bool, Fail> {
+    let format = Format {
+        version: 1,
+        max_table: 0,
+        max_data_len,
+    };
+    Ok(Group::decode(alloc, format, &ONE_PUT)?.is_some())
+}
+
+#[test]
+fn the_limits_are_those_of_the_version(rt: HostRuntime) -> Result<(), Fail> {
+    holds(&rt, is_read(rt.alloc(), 1)?);
+    holds(&rt, !is_read(rt.alloc(), 0)?);
+    Ok(())
+}
+
 /// Whether the bytes are a group, which must be encoded as exactly these.
 fn is_group(rt: &impl Abort, alloc: Global, bytes: &[u8]) -> Result<bool, Fail> {
-    let Some(group) = Group::decode(alloc, bytes)? else {
+    let Some(group) = Group::decode(alloc, FIRST_FORMAT, bytes)? else {
         return Ok(false);
     };
     same(rt, &group.encode()?.as_slice(), &bytes);
@@ -129,7 +147,10 @@ fn is_one_spelling(
     groups: usize,
 ) -> Result<(), Fail> {
     for len in 0..vector.len() {
-        holds(rt, Group::decode(alloc, &vector[..len])?.is_none());
+        holds(
+            rt,
+            Group::decode(alloc, FIRST_FORMAT, &vector[..len])?.is_none(),
+        );
     }
     let mut found = 0usize;
     for i in 0..vector.len() {

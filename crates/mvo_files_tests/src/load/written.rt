@@ -3,7 +3,7 @@ use crate::load::image::{
     DATA, DELTA, INSERTED, LATER_DATA, NAMED, bytes, finds, places, put, put_all,
 };
 use mvo_disk::{Disk, MemDisk};
-use mvo_format::VERSION;
+use mvo_format::{FIRST_FORMAT, VERSION};
 use mvo_frame::Segment;
 use mvo_group::Group;
 use mvo_manifest::{Manifest, Pair};
@@ -213,7 +213,7 @@ fn few_and_many_records_are_found_alike(rt: HostRuntime) -> Result<(), Fail> {
 fn inserted(alloc: Global) -> Result<Group, Fail> {
     let segment = bytes(alloc, INSERTED)?;
     let body = segment.get(13..62).ok_or("a body")?;
-    Ok(Group::decode(alloc, body)?.ok_or("a group")?)
+    Ok(Group::decode(alloc, FIRST_FORMAT, body)?.ok_or("a group")?)
 }
 
 /// Appends the group to a fresh segment.

@@ -33,10 +33,10 @@ use Rattle.mvo_recovery.proofs.beside.Two.{HaveTwo, have_one, lives_at, two_rule
 use Rattle.mvo_recovery.proofs.beside.Seen.{left_now, right_now, two_now}
 
 pub finds_late : (content : Image) → FindsLate content
-finds_late content f p more seen now ns small top few was is has = (
-  are_late f content p more seen now few was is small top ns has,
-  others_live f content p more seen now few was is small top ns has,
-  late_counted f content p more seen now few was is small top ns has,
+finds_late content f own p more seen now ns known top few was is has = (
+  are_late f content p more seen now few was is own known top ns has,
+  others_live f content p more seen now few was is own known top ns has,
+  late_counted f content p more seen now few was is own known top ns has,
 )
 
 -- ---- what came late
@@ -67,10 +67,10 @@ module _ (f : Format) (content : Image) (m : ManifestData) (lives : List (List N
   late_right = drop s.right.entries now.right
 
   pub are_left : AreLate s.live_left late_left
-  are_left = are_late f content s.left seen.more_left s.live_left two.left rules.0.records seen.left two.left_has small left_top now.left now.left_has
+  are_left = are_late f content s.left seen.more_left s.live_left two.left rules.0.records seen.left two.left_has now.left_own now.left_known left_top now.left now.left_has
 
   pub are_right : AreLate s.live_right late_right
-  are_right = are_late f content s.right seen.more_right s.live_right two.right rules.1.records seen.right two.right_has small right_top now.right now.right_has
+  are_right = are_late f content s.right seen.more_right s.live_right two.right rules.1.records seen.right two.right_has now.right_own now.right_known right_top now.right now.right_has
 
   abbrev live : List Numbered
   live = live_after s.live_left s.live_right late_left late_right
@@ -81,8 +81,8 @@ module _ (f : Format) (content : Image) (m : ManifestData) (lives : List (List N
   lives_are : lives ≡ old_lives
   lives_are =
       two.are
-      ∙ ap (λ (l : List Numbered). two.front ++ l ∷ two.right ∷ two.back) (others_live f content s.left seen.more_left s.live_left two.left rules.0.records seen.left two.left_has small left_top now.left now.left_has)
-      ∙ ap (λ (r : List Numbered). two.front ++ without late_left s.live_left ∷ r ∷ two.back) (others_live f content s.right seen.more_right s.live_right two.right rules.1.records seen.right two.right_has small right_top now.right now.right_has)
+      ∙ ap (λ (l : List Numbered). two.front ++ l ∷ two.right ∷ two.back) (others_live f content s.left seen.more_left s.live_left two.left rules.0.records seen.left two.left_has now.left_own now.left_known left_top now.left now.left_has)
+      ∙ ap (λ (r : List Numbered). two.front ++ without late_left s.live_left ∷ r ∷ two.back) (others_live f content s.right seen.more_right s.live_right two.right rules.1.records seen.right two.right_has now.right_own now.right_known right_top now.right now.right_has)
 
   new_lives : lives_now s live lives ≡ two.front ++ live ∷ two.back
   new_lives = lives_at s live lives two.front two.back two.left two.right two.are (sym two.each ∙ seen.at)
@@ -97,10 +97,10 @@ module _ (f : Format) (content : Image) (m : ManifestData) (lives : List (List N
   pub few_late : length (renumbered (renumbering_of s.live_left s.live_right) late_left late_right) < 2 ^ 32
   few_late =
       let r = renumbering_of s.live_left s.live_right in
-      let left_counts = counts_live f p (content p.data_file) (content p.delta_file) two.left two.left_has in
-      let right_counts = counts_live f q (content q.data_file) (content q.delta_file) two.right two.right_has in
-      let left_more = late_counted f content s.left seen.more_left s.live_left two.left rules.0.records seen.left two.left_has small left_top now.left now.left_has in
-      let right_more = late_counted f content s.right seen.more_right s.live_right two.right rules.1.records seen.right two.right_has small right_top now.right now.right_has in
+      let left_counts = counts_live f.version p (content p.data_file) (content p.delta_file) two.left two.left_has in
+      let right_counts = counts_live f.version q (content q.data_file) (content q.delta_file) two.right two.right_has in
+      let left_more = late_counted f content s.left seen.more_left s.live_left two.left rules.0.records seen.left two.left_has now.left_own now.left_known left_top now.left now.left_has in
+      let right_more = late_counted f content s.right seen.more_right s.live_right two.right rules.1.records seen.right two.right_has now.right_own now.right_known right_top now.right now.right_has in
       omega (arith, length-append (map (of_left r) late_left) (map (of_right r) late_right), length-map late_left (of_left r), length-map late_right (of_right r), left_counts, right_counts, left_more, right_more, rules.0.records, rules.1.records)
 
   module _ (pair : Pair) where
@@ -180,7 +180,7 @@ module _ (f : Format) (content : Image) (may : ℕ → List ℕ → Type 0) (m :
   module _ (may_merge : MayMergeNow m s pair (records_of s.live_left s.live_right) (length lates)) (data_file : HasRecords f content may pair (records_of s.live_left s.live_right)) (delta_file : HasLate f content may pair lates) where
     pair_loads : Loads f content pair joined
     pair_loads =
-        loads_merged f pair s.live_left s.live_right (drop s.left.entries now.left) (drop s.right.entries now.right) (content pair.data_file) (content pair.delta_file)
+        loads_merged f.version f pair s.live_left s.live_right (drop s.left.entries now.left) (drop s.right.entries now.right) (content pair.data_file) (content pair.delta_file) settled.known
         (subst (λ k. HasEntries f pair.lo.0 pair.hi.0 k (records_of s.live_left s.live_right) (content pair.data_file)) (sym may_merge.counted) data_file.has) delta_file.has
 
     live_now : HaveLive f content (seen.before ++ pair ∷ seen.behind) y.lives

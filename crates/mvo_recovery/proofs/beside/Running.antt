@@ -6,6 +6,8 @@ use Rattle.mvo_types.specs.Keys.{Map}
 use Rattle.mvo_disk.specs.Disk.{Image, AllOf, Moment}
 use Rattle.mvo_disk.specs.Moments.{started, runs_on}
 use Rattle.mvo_format.specs.declared.format.Format.{Format}
+use Rattle.mvo_pair.specs.Files.{HasDeadNumbers}
+use Rattle.mvo_format.specs.Formats.{IsFormatUpTo}
 use Rattle.mvo_manifest.specs.Data.{ManifestData, named, pair_files}
 use Rattle.mvo_manifest.specs.Rules.{IsManifest}
 use Rattle.mvo_recovery.specs.image.Files.{GivesRows}
@@ -54,7 +56,8 @@ module _ {D : Type 0} (moment : D → Moment) (left_since : D → Moment → Ima
     numbers_keep : (b : D) → WritesNumbers moment left_since content may f a m b → Keeps s a x b m x
     numbers_keep b w =
         let p = w.pair in
-        let stays = counted_stay f.version p.records p.entries w.more (content a p.delta_file) (content b p.delta_file) w.gains w.follow in
+        let stays : (own : Format) → IsFormatUpTo f.version own → (ns : List ℕ) → HasDeadNumbers own.version p.records p.entries ns (content a p.delta_file) → HasDeadNumbers own.version p.records p.entries ns (content b p.delta_file) =
+        λ own known. counted_stay own.version p.records p.entries w.more (content a p.delta_file) (content b p.delta_file) w.gains (w.follow own known) in
         let others : (n : ℕ) → Contains (named m) n → n ≢ p.delta_file → content b n ≡ content a n = λ n has ne. w.rest.content n ne in
         let live = live_counted f (content a) (content b) m is p w.has others x.lives stays settled.installed.parts.live in
         record {

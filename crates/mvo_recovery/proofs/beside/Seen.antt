@@ -5,6 +5,7 @@ use Rattle.std.specs.List.{Contains}
 use Rattle.std.proofs.lemmas.Bool.{cases_eq}
 use Rattle.std.proofs.lemmas.List.{map-append, length-map}
 use Rattle.mvo_format.specs.declared.format.Format.{Format}
+use Rattle.mvo_format.specs.Formats.{IsFormatUpTo}
 use Rattle.mvo_pair.specs.declared.pair.Pair.{Pair}
 use Rattle.mvo_pair.specs.Data.{Numbered}
 use Rattle.mvo_pair.specs.Files.{HasDeadNumbers}
@@ -44,7 +45,7 @@ seen_at_read content f m before behind p q left right pairs loads_left loads_rig
 
 pub loads_framed : (f : Format) (old new : Image) (p : Pair) (l : List Numbered) → new p.data_file ≡ old p.data_file → new p.delta_file ≡ old p.delta_file → Loads f old p l → Loads f new p l
 loads_framed f old new p l first second has =
-    subst (λ (b : List ℕ). LoadsAs f p (new p.data_file) b (Ok l)) (sym second) (subst (λ (b : List ℕ). LoadsAs f p b (old p.delta_file) (Ok l)) (sym first) has)
+    subst (λ (b : List ℕ). LoadsAs f.version p (new p.data_file) b (Ok l)) (sym second) (subst (λ (b : List ℕ). LoadsAs f.version p b (old p.delta_file) (Ok l)) (sym first) has)
 
 abbrev pub with_loads : (f : Format) (old new : Image) (m : ManifestData) (s : SeenData) → WasSeen f old m s → Loads f new s.left s.live_left → Loads f new s.right s.live_right → WasSeen f new m s
 with_loads f old new m s seen left right = record {
@@ -86,7 +87,7 @@ seen_stays old new f m s same seen =
 -- ---- numbers behind the counted ones
 
 module _ (f : Format) (old new : Image) (m : ManifestData) (is : IsManifest m) (r : Pair) (has : Contains m.pairs r) (others : (n : ℕ) → Contains (named m) n → n ≢ r.delta_file → new n ≡ old n)
-    (stays : (ns : List ℕ) → HasDeadNumbers f.version r.records r.entries ns (old r.delta_file) → HasDeadNumbers f.version r.records r.entries ns (new r.delta_file)) where
+    (stays : (own : Format) → IsFormatUpTo f.version own → (ns : List ℕ) → HasDeadNumbers own.version r.records r.entries ns (old r.delta_file) → HasDeadNumbers own.version r.records r.entries ns (new r.delta_file)) where
   one_stays : (p : Pair) (more : ℕ) (live now : List Numbered) → Contains m.pairs (grown more p) → Loads f old p live → Loads f old (grown more p) now → Loads f new p live
   one_stays p more live now c was load =
       let q = grown more p in
@@ -95,7 +96,7 @@ module _ (f : Format) (old new : Image) (m : ManifestData) (is : IsManifest m) (
         | inl e ↦ (
             let it : r ≡ q = sym (same_data m.pairs (pairs_apart m is) r q has c e) in
             seen_again f old p more live now (few_records m is q c) was load new data_is
-            (subst (λ (k : Pair). (ns : List ℕ) → HasDeadNumbers f.version k.records k.entries ns (old k.delta_file) → HasDeadNumbers f.version k.records k.entries ns (new k.delta_file)) it stays))
+            (subst (λ (k : Pair). (own : Format) → IsFormatUpTo f.version own → (ns : List ℕ) → HasDeadNumbers own.version k.records k.entries ns (old k.delta_file) → HasDeadNumbers own.version k.records k.entries ns (new k.delta_file)) it stays))
         | inr ne ↦ (
             let apart : p.delta_file ≢ r.delta_file = λ e. ne (ap (λ (k : Pair). k.data_file) (same_delta m.pairs (pairs_apart m is) r q has c e)) in
             loads_framed f old new p live data_is (others p.delta_file (delta_named m is q c) apart) was)
@@ -104,7 +105,8 @@ module _ (f : Format) (old new : Image) (m : ManifestData) (is : IsManifest m) (
 pub seen_beside_numbers : (old new : Image) → SeenBesideNumbers old new
 seen_beside_numbers old new f m s r more lives is have has others gains follow seen =
     let two = two_now f old m s seen lives have in
-    let stays = counted_stay f.version r.records r.entries more (old r.delta_file) (new r.delta_file) gains follow in
+    let stays : (own : Format) → IsFormatUpTo f.version own → (ns : List ℕ) → HasDeadNumbers own.version r.records r.entries ns (old r.delta_file) → HasDeadNumbers own.version r.records r.entries ns (new r.delta_file) =
+    λ own known. counted_stay own.version r.records r.entries more (old r.delta_file) (new r.delta_file) gains (follow own known) in
     with_loads f old new m s seen
     (one_stays f old new m is r has others stays s.left seen.more_left s.live_left two.left (in_left f old m s seen) seen.left two.left_has)
     (one_stays f old new m is r has others stays s.right seen.more_right s.live_right two.right (in_right f old m s seen) seen.right two.right_has)

@@ -39,7 +39,7 @@ module _ (f : Format) (image : Image) (next : List (List Numbered) → OpeningOu
   pub open_pairs : (ps : List Pair) (before : List (List Numbered)) → AreApart before → Pairs f image next ps before (Ok r) → (ls : List (List Numbered)) × HaveLive f image ps ls × AreApart (before ++ ls) × next (before ++ ls) (Ok r)
   open_pairs [] before apart n = ([], tt, subst AreApart (sym (append-nil before)) apart, subst (λ lives. next lives (Ok r)) (sym (append-nil before)) n)
   open_pairs (p ∷ ps) before apart h =
-      let a = after_ok (LoadsAs f p (image p.data_file) (image p.delta_file)) (λ live. Beside p.data_file (before ++ live ∷ []) (Pairs f image next ps)) r h in
+      let a = after_ok (LoadsAs f.version p (image p.data_file) (image p.delta_file)) (λ live. Beside p.data_file (before ++ live ∷ []) (Pairs f image next ps)) r h in
       let l = a.0 in
       let b : AreApart (before ++ l ∷ []) × Pairs f image next ps (before ++ l ∷ []) (Ok r) = ⊎_elim (λ (y : AreApart (before ++ l ∷ []) × Pairs f image next ps (before ++ l ∷ []) (Ok r)). y) (λ (y : (AreApart (before ++ l ∷ []) → ⊥) × (Ok r ≡ Err (Corrupt p.data_file))). absurd (let e = y.1 in cc)) a.2 in
       let more = open_pairs ps (before ++ l ∷ []) b.0 b.1 in

@@ -41,10 +41,10 @@ beside_one file lives next n = ⊎_elim
     (distinct_or_not (eq_by_cmp key_cmp) (keys_of lives))
 
 module _ (f : Format) (image : Image) (next : List (List Numbered) → OpeningOutcome → Type 0) (rest : (lives : List (List Numbered)) → HasOne (next lives)) where
-  pub pairs_one : (ps : List Pair) (lives : List (List Numbered)) → AllByRecursion (λ p. HasOne (LoadsAs f p (image p.data_file) (image p.delta_file))) ps → HasOne (Pairs f image next ps lives)
+  pub pairs_one : (ps : List Pair) (lives : List (List Numbered)) → AllByRecursion (λ p. HasOne (LoadsAs f.version p (image p.data_file) (image p.delta_file))) ps → HasOne (Pairs f image next ps lives)
   pairs_one [] lives one = rest lives
   pairs_one (p ∷ ps) lives one =
-      after_one (LoadsAs f p (image p.data_file) (image p.delta_file)) (λ live. Beside p.data_file (lives ++ live ∷ []) (Pairs f image next ps)) one.0
+      after_one (LoadsAs f.version p (image p.data_file) (image p.delta_file)) (λ live. Beside p.data_file (lives ++ live ∷ []) (Pairs f image next ps)) one.0
       (λ live _. beside_one p.data_file (lives ++ live ∷ []) (Pairs f image next ps) (pairs_one ps (lives ++ live ∷ []) one.1))
 
 module _ (slots : SlotReading) (reads : SegmentReading) (f : Format) (image : Image) where
@@ -56,11 +56,11 @@ module _ (slots : SlotReading) (reads : SegmentReading) (f : Format) (image : Im
   -- what the answer of each part is needed for
   pub record EachHasOne : Type 0 where
     pub slot : (n : ℕ) → HasOne (slots n (image n))
-    pub pair : (n : ℕ) (m : ManifestData) → slots n (image n) (Ok (Some m)) → AllByRecursion (λ p. HasOne (LoadsAs f p (image p.data_file) (image p.delta_file))) m.pairs
+    pub pair : (n : ℕ) (m : ManifestData) → slots n (image n) (Ok (Some m)) → AllByRecursion (λ p. HasOne (LoadsAs f.version p (image p.data_file) (image p.delta_file))) m.pairs
     pub segment : (n mark : ℕ) (last : Bool) → HasOne (reads n mark last (image n))
 
   module _ (each : EachHasOne) where
-    with_one : (m : ManifestData) → AllByRecursion (λ p. HasOne (LoadsAs f p (image p.data_file) (image p.delta_file))) m.pairs → HasOne (OpensWith reads f image (Some m))
+    with_one : (m : ManifestData) → AllByRecursion (λ p. HasOne (LoadsAs f.version p (image p.data_file) (image p.delta_file))) m.pairs → HasOne (OpensWith reads f image (Some m))
     with_one m pairs =
         pairs_one f image (λ lives. Segments reads image (rows_of lives) m.segments m.checkpoint_mark []) (λ lives. segments_one each.segment (rows_of lives) m.segments m.checkpoint_mark []) m.pairs [] pairs
 

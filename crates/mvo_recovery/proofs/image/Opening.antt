@@ -35,11 +35,11 @@ module _ (f : Format) (image : Image) (is : AreFiles f image) where
   segment_one n mark last = (segment_found f.version n mark (kind_of last) (image n), segment_exact f n mark (kind_of last) (image n) (is.bytes n))
 
   -- the pairs of a manifest have their words, and so each has one answer
-  pairs_one : (lo hi : ℕ) (ps : List Pair) → PairsRise lo ps hi → AllByRecursion (λ p. HasOne (LoadsAs f p (image p.data_file) (image p.delta_file))) ps
+  pairs_one : (lo hi : ℕ) (ps : List Pair) → PairsRise lo ps hi → AllByRecursion (λ p. HasOne (LoadsAs f.version p (image p.data_file) (image p.delta_file))) ps
   pairs_one lo hi [] rise = tt
   pairs_one lo hi (p ∷ ps) rise =
-      let fits : Fits f p = record { version = is.version; table = is.table; size = is.size; hi = omega (arith, rise.0.top); records = omega (arith, rise.0.records) } in
-      ((pair_found f p (image p.data_file) (image p.delta_file), loads f p (image p.data_file) (image p.delta_file) fits (is.bytes p.data_file) (λ es e. is.bytes p.delta_file)), pairs_one p.hi.0 hi ps rise.1)
+      let fits : Fits p = record { hi = omega (arith, rise.0.top); records = omega (arith, rise.0.records) } in
+      ((pair_found f.version p (image p.data_file) (image p.delta_file), loads f.version p (image p.data_file) (image p.delta_file) fits (is.bytes p.data_file) (λ es e. is.bytes p.delta_file)), pairs_one p.hi.0 hi ps rise.1)
 
 pub one_answer : HasOneAnswer
 one_answer f image is =

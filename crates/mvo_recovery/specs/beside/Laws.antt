@@ -3,6 +3,7 @@ use Rattle.std.specs.Prelude.{◌≡◌, ◌≢◌, ℕ, ◌+◌, ◌<◌, ◌�
 use Rattle.std.specs.List.{Contains, IsDistinct, flat_map}
 use Rattle.mvo_types.specs.declared.limits.TheConstants.{MAX_PAIR_RECORDS}
 use Rattle.mvo_format.specs.declared.format.Format.{Format}
+use Rattle.mvo_format.specs.Formats.{IsFormatUpTo}
 use Rattle.mvo_pair.specs.declared.pair.Pair.{Pair}
 use Rattle.mvo_pair.specs.Data.{Numbered}
 use Rattle.mvo_pair.specs.Files.{AreNumbers, HasDeadNumbers}
@@ -53,7 +54,8 @@ SeenBesideNumbers old new = (f : Format) (m : ManifestData) (s : SeenData) (r : 
     Contains m.pairs r →
     ((n : ℕ) → Contains (named m) n → n ≢ r.delta_file → new n ≡ old n) →
     GainsNumbers (old r.delta_file) (new r.delta_file) r.entries more →
-    ((ns : List ℕ) → HasDeadNumbers f.version r.records r.entries ns (old r.delta_file) →
+    ((own : Format) → IsFormatUpTo f.version own → (ns : List ℕ) →
+    HasDeadNumbers own.version r.records r.entries ns (old r.delta_file) →
     AreNumbers r.records (ns ++ more)) →
     WasSeen f old m s → WasSeen f new m s
 
@@ -80,10 +82,10 @@ StaysUnnamed = (m : ManifestData) (c : CheckpointData) (n : ℕ) →
 -- The numbers behind those that were counted then are of live records of then, and the other ones
 -- are live now.
 abbrev pub FindsLate : Image → Type 0
-FindsLate content = (f : Format) (p : Pair) (more : ℕ) (was now : List Numbered) (ns : List ℕ) →
-    IsSmall f → p.hi.0 < 2 ^ 64 → p.records ≤ MAX_PAIR_RECORDS → Loads f content p was →
-    Loads f content (grown more p) now →
-    HasDeadNumbers f.version p.records (p.entries + more) ns (content p.delta_file) →
+FindsLate content = (f own : Format) (p : Pair) (more : ℕ) (was now : List Numbered)
+    (ns : List ℕ) → IsFormatUpTo f.version own → p.hi.0 < 2 ^ 64 →
+    p.records ≤ MAX_PAIR_RECORDS → Loads f content p was → Loads f content (grown more p) now →
+    HasDeadNumbers own.version p.records (p.entries + more) ns (content p.delta_file) →
     AreLate was (drop p.entries ns) × (now ≡ without (drop p.entries ns) was)
     × (length (drop p.entries ns) ≡ more)
 

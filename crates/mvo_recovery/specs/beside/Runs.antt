@@ -4,6 +4,7 @@ use Rattle.std.specs.Prelude.{◌≡◌, ⊤, ℕ, List, [], ◌∷◌, ◌++◌
 use Rattle.std.specs.List.{Contains}
 use Rattle.mvo_disk.specs.Disk.{Image, Only, OthersStay, Touched, LeavesOnly, Moment}
 use Rattle.mvo_format.specs.declared.format.Format.{Format}
+use Rattle.mvo_format.specs.Formats.{IsFormatUpTo}
 use Rattle.mvo_pair.specs.declared.pair.Pair.{Pair}
 use Rattle.mvo_pair.specs.Files.{AreNumbers, HasDeadNumbers}
 use Rattle.mvo_pair.specs.Writing.{KeepsNumbers, GainsNumbers}
@@ -31,8 +32,8 @@ module _ {D : Type 0} (moment : D → Moment) (left_since : D → Moment → Ima
     pub durable : Only (content b pair.delta_file) (may b pair.delta_file)
     pub gains :
         GainsNumbers (content a pair.delta_file) (content b pair.delta_file) pair.entries more
-    pub follow : (ns : List ℕ) →
-        HasDeadNumbers f.version pair.records pair.entries ns (content a pair.delta_file) →
+    pub follow : (own : Format) → IsFormatUpTo f.version own → (ns : List ℕ) →
+        HasDeadNumbers own.version pair.records pair.entries ns (content a pair.delta_file) →
         AreNumbers pair.records (ns ++ more)
     pub keeps :
         KeepsNumbers moment left_since content may a b pair.delta_file pair.entries

@@ -4,6 +4,7 @@ use Rattle.std.specs.List.{Contains}
 use Rattle.mvo_types.specs.declared.limits.TheConstants.{MAX_PAIR_RECORDS}
 use Rattle.mvo_disk.specs.Disk.{Only}
 use Rattle.mvo_format.specs.declared.format.Format.{Format}
+use Rattle.mvo_format.specs.Formats.{IsFormatUpTo}
 use Rattle.mvo_pair.specs.declared.pair.Pair.{Pair}
 use Rattle.mvo_pair.specs.Data.{EntryData, Numbered}
 use Rattle.mvo_pair.specs.Files.{HasDeadNumbers}
@@ -33,7 +34,7 @@ grown n p = record p { entries = p.entries + n }
 
 -- the files of the pair hold these live records
 abbrev pub Loads : Format → Image → Pair → List Numbered → Type 0
-Loads f content p live = LoadsAs f p (content p.data_file) (content p.delta_file) (Ok live)
+Loads f content p live = LoadsAs f.version p (content p.data_file) (content p.delta_file) (Ok live)
 
 -- The two stand in their places, and more of their deltas' numbers may count. With the counts of
 -- then their files hold the live records of then.
@@ -62,9 +63,9 @@ pairs_now {f} {content} {m} {s} seen pair = record {
 -- the data files of these pairs stay, and the numbers that count in their delta files
 abbrev pub CountsStay : Format → Image → Image → List Pair → Type 0
 CountsStay f old new ps = (p : Pair) → Contains ps p →
-    (new p.data_file ≡ old p.data_file) × ((ns : List ℕ) →
-    HasDeadNumbers f.version p.records p.entries ns (old p.delta_file) →
-    HasDeadNumbers f.version p.records p.entries ns (new p.delta_file))
+    (new p.data_file ≡ old p.data_file) × ((own : Format) → IsFormatUpTo f.version own →
+    (ns : List ℕ) → HasDeadNumbers own.version p.records p.entries ns (old p.delta_file) →
+    HasDeadNumbers own.version p.records p.entries ns (new p.delta_file))
 
 -- ---- what is written
 
@@ -94,10 +95,14 @@ pub record NumbersNow (f : Format) (content : Image) (m : ManifestData) (s : See
     (seen : WasSeen f content m s) : Type 0 where
   pub left : List ℕ
   pub right : List ℕ
-  pub left_has : HasDeadNumbers f.version s.left.records (s.left.entries + seen.more_left) left
-      (content s.left.delta_file)
-  pub right_has : HasDeadNumbers f.version s.right.records (s.right.entries + seen.more_right) right
-      (content s.right.delta_file)
+  pub left_own : Format
+  pub right_own : Format
+  pub left_known : IsFormatUpTo f.version left_own
+  pub right_known : IsFormatUpTo f.version right_own
+  pub left_has : HasDeadNumbers left_own.version s.left.records (s.left.entries + seen.more_left)
+      left (content s.left.delta_file)
+  pub right_has : HasDeadNumbers right_own.version s.right.records
+      (s.right.entries + seen.more_right) right (content s.right.delta_file)
 
 -- the delta file of the pair holds these numbers, durably
 pub record HasLate (f : Format) (content : Image) (may : ℕ → List ℕ → Type 0) (p : Pair)

@@ -26,7 +26,7 @@ HaveLive f image [] [] = Unit {0}
 HaveLive f image [] (l ∷ ls) = ⊥
 HaveLive f image (p ∷ ps) [] = ⊥
 HaveLive f image (p ∷ ps) (l ∷ ls) =
-    LoadsAs f p (image p.data_file) (image p.delta_file) (Ok l) × HaveLive f image ps ls
+    LoadsAs f.version p (image p.data_file) (image p.delta_file) (Ok l) × HaveLive f image ps ls
 
 -- the segments have these groups, one segment after another, from a mark on to another
 abbrev pub HaveGroups : SegmentReading → Image → List ℕ → ℕ → List GroupData → ℕ → Type 0

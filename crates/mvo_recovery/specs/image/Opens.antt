@@ -55,7 +55,7 @@ abbrev pub Pairs : Format → Image → (List (List Numbered) → OpeningOutcome
     → List (List Numbered) → OpeningOutcome → Type 0
 Pairs f image next [] lives out = next lives out
 Pairs f image next (p ∷ ps) lives out =
-    OpeningAfter (LoadsAs f p (image p.data_file) (image p.delta_file)) (λ live.
+    OpeningAfter (LoadsAs f.version p (image p.data_file) (image p.delta_file)) (λ live.
     Beside p.data_file (lives ++ live ∷ []) (Pairs f image next ps)) out
 
 abbrev pub is_empty_list : List ℕ → Bool

@@ -1,7 +1,7 @@
 use crate::equal::{holds, same};
 use crate::files::changes::changed;
 use mvo_disk::{Disk, MemDisk};
-use mvo_format::{Format, VERSION};
+use mvo_format::{FIRST_FORMAT, Format, VERSION};
 use mvo_frame::{Kind, Segment, next_group, read_all};
 use mvo_group::Group;
 use mvo_types::{Refusal, Stamp};
@@ -45,7 +45,7 @@ fn plain_frame(alloc: Global, rest: &[u8]) -> Result<Option<(Group, usize)>, Fai
     let Some(body) = rest.get(4..4 + len) else {
         return Ok(None);
     };
-    Ok(Group::decode(alloc, body)?.map(|group| (group, 4 + len)))
+    Ok(Group::decode(alloc, FIRST_FORMAT, body)?.map(|group| (group, 4 + len)))
 }
 
 // Where the closed gate behind the only frame stands, by such a reading.
@@ -111,7 +111,7 @@ fn is_appended(
 
 #[test]
 fn a_group_is_appended(rt: HostRuntime) -> Result<(), Fail> {
-    let group = Group::decode(rt.alloc(), &SEGMENT[13..62])?.ok_or("a group")?;
+    let group = Group::decode(rt.alloc(), FIRST_FORMAT, &SEGMENT[13..62])?.ok_or("a group")?;
     let mut disk = MemDisk::new(rt.alloc())?;
     is_appended(&rt, rt.alloc(), &mut disk, &group)
 }

@@ -1,6 +1,8 @@
 //! The vectors of the format, and what a pair with them is.
 use crate::equal::{holds, same, same_at};
-use mvo_pair::{FIRST_FORMAT, Live, Pair, load_pair};
+use crate::files::changes::changed;
+use mvo_format::VERSION;
+use mvo_pair::{Live, Pair, load_pair};
 use mvo_types::{Refusal, RowKey, Stamp};
 use std::alloc::Global;
 use std::process::Abort;
@@ -32,7 +34,7 @@ pub fn pair(records: u32, entries: u32) -> Pair {
 
 /// How many records are live, or the refusal.
 pub fn count(alloc: Global, pair: Pair, data: &[u8], delta: &[u8]) -> Result<usize, Refusal> {
-    let live = load_pair(alloc, FIRST_FORMAT, pair, data, delta)?;
+    let live = load_pair(alloc, VERSION, pair, data, delta)?;
     Ok(live.len())
 }
 
@@ -71,7 +73,7 @@ fn is_the_record(rt: &impl Abort, live: &Live) {
 
 #[test]
 fn a_record_is_live_until_it_is_named(rt: HostRuntime) -> Result<(), Fail> {
-    let live = load_pair(rt.alloc(), FIRST_FORMAT, pair(1, 0), &DATA, &DELTA)?;
+    let live = load_pair(rt.alloc(), VERSION, pair(1, 0), &DATA, &DELTA)?;
     match live.as_slice() {
         [only] => is_the_record(&rt, only),
         _ => holds(&rt, false),
@@ -108,11 +110,42 @@ fn the_first_broken_rule_decides(rt: HostRuntime) {
     are_counted(&rt, rt.alloc(), &BROKEN);
 }
 
+// How many records of the pair are live up to a version, where its files have other versions.
+fn live_up_to(alloc: Global, upto: u32, data: u8, delta: u8) -> Result<String, Fail> {
+    let data = changed(alloc, &DATA, 4, data)?;
+    let delta = changed(alloc, &NAMED, 4, delta)?;
+    match load_pair(alloc, upto, pair(1, 1), &data, &delta) {
+        Ok(live) => Ok(format!(in alloc; "{}", live.len())?),
+        Err(refusal) => Ok(format!(in alloc; "{refusal}")?),
+    }
+}
+
+#[test]
+fn a_delta_file_has_the_version_of_its_data_file(rt: HostRuntime) -> Result<(), Fail> {
+    let cases: [(u32, u8, u8, &str); 7] = [
+        (1, 0, 0, "0"),
+        (2, 0, 0, "0"),
+        (2, 3, 3, "0"),
+        // Later than they may be, or than there is one.
+        (1, 3, 3, "refused 55"),
+        (2, 2, 2, "refused 55"),
+        // One is later than the other.
+        (2, 0, 3, "refused 55"),
+        (2, 3, 0, "refused 55"),
+    ];
+    for (at, (upto, data, delta, line)) in cases.iter().enumerate() {
+        let found = live_up_to(rt.alloc(), *upto, *data, *delta)?;
+        same_at(&rt, at, &found.as_str(), line);
+    }
+    Ok(())
+}
+
 #[test]
 fn a_pair_reaches_as_far_as_it_counts(rt: HostRuntime) {
-    // A header has 8 bytes, a record 27 and at most 1,024 of data, a number 4.
-    same(&rt, &pair(0, 0).data_reach(FIRST_FORMAT), &8);
-    same(&rt, &pair(2, 3).data_reach(FIRST_FORMAT), &2_110);
+    // A header has 8 bytes, a record 27 and at most 1,024 of data, or 4,096, a number 4.
+    same(&rt, &pair(0, 0).data_reach(VERSION), &8);
+    same(&rt, &pair(2, 3).data_reach(VERSION), &2_110);
+    same(&rt, &pair(2, 3).data_reach(2), &8_254);
     same(&rt, &pair(0, 0).delta_reach(), &8);
     same(&rt, &pair(2, 3).delta_reach(), &20);
 }

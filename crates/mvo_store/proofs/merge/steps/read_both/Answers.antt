@@ -1,4 +1,5 @@
 use Rattle.std.proofs.Common.{sym}
+use Rattle.mvo_load.proofs.Unchanged.{then_unchanged, was_read, gives_any}
 use Rattle.mvo_store.proofs.Neighbours.{read_is, read_never, has_stayed}
 use Rattle.mvo_store.proofs.merge.steps.read_both.Goals as goal
 
@@ -27,3 +28,9 @@ returns-in-Err-pair_on-clause-stop g c =
     let old = g.D.Disk.content c.args.disk.now in
     let new = g.D.Disk.content c.pair_on.new.disk in
     λ honest a b has_a has_b. read_never new c.args.right b c.in-Err-pair_on.refusal (has_stayed old new c.args.right b c.in-Ok.ensures.read.rest.content has_b) (c.in-Err-pair_on.ensures.says honest)
+
+pub returns-in-Ok-pair_on-clause-read : goal.returns-in-Ok-pair_on-clause-read
+returns-in-Ok-pair_on-clause-read g c =
+    let first = was_read g.D.Disk _ _ c.in-Ok.live c.in-Ok.ensures.read in
+    let second = was_read g.D.Disk _ _ c.in-Ok-pair_on.second c.in-Ok-pair_on.ensures.read in
+    gives_any g.D.Disk _ _ _ _ (then_unchanged g.D.Disk _ _ _ first second)
