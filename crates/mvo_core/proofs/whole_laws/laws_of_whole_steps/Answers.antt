@@ -1,4 +1,5 @@
 use Rattle.mvo_core.proofs.OthersLead.{others_lead}
+use Rattle.mvo_core.proofs.ReaderBegins.{reader_begins}
 use Rattle.mvo_core.proofs.ReadersMoved.{readers_moved}
 use Rattle.mvo_core.proofs.whole_laws.laws_of_whole_steps.Goals as goal
 
@@ -7,3 +8,6 @@ returns-clause-others c = others_lead
 
 pub returns-clause-moves : goal.returns-clause-moves
 returns-clause-moves c = readers_moved
+
+pub returns-clause-begins : goal.returns-clause-begins
+returns-clause-begins c = reader_begins
