@@ -10,7 +10,7 @@ use Rattle.mvo_theory.specs.Calls.Result.{Accepted}
 use Rattle.mvo_readonly.specs.Whole.{WholeState, id_named, stage_named}
 use Rattle.mvo_readonly.specs.WholeCauses.{WholeCall, MayComeWhole, has_reader_to}
 use Rattle.mvo_readonly.specs.WholeCauses.WholeCall.{CoreCall, BeginReadOnly}
-use Rattle.mvo_readonly.specs.WholeCalls.{core_calls, steps_of_whole_call, after_whole_call}
+use Rattle.mvo_readonly.specs.WholeCalls.{core_calls, steps_of_whole_call, after_whole_call, readers_after, committed_after}
 use Rattle.mvo_readonly.specs.WholeKept.{IsWholeKept}
 use Rattle.mvo_txn.specs.Txns.{Txns, table_after_begin}
 use Rattle.mvo_deps.specs.declared.node.Node.{Node}
@@ -21,6 +21,7 @@ use Rattle.mvo_tale.specs.Kept.{HasTale}
 use Rattle.mvo_tale.specs.Next.{AreGroupedTo}
 use Rattle.mvo_tale.specs.Others.{others_places}
 use Rattle.mvo_tale.specs.Slots.{open_end_at}
+use Rattle.mvo_tale.specs.WholePlaces.{HasReaders}
 use Rattle.mvo_core.specs.declared.kept_transaction.KeptTransaction.{KeptTransaction}
 use Rattle.mvo_core.specs.declared.kept_transaction.TransactionKind.TheVariants.{Reading}
 use Rattle.mvo_core.specs.Data.{CoreData}
@@ -93,3 +94,17 @@ ReaderBegins = (opening : Map) (steps own : List Step) (w : WholeState) (c : Cor
       table = table_after_begin c.table node;
       tale = c.tale ++ IsReading (record { 0 = w.core.clock + 1 }) ∷ [];
     })
+
+-- A call of a read-only transaction that is none of the core's, as its precommit and its checks: it
+-- is written what is kept of it, its operations and words stay, and so do the places.
+abbrev pub ReaderGoesOn : Type 0
+ReaderGoesOn = (opening : Map) (steps own : List Step) (w : WholeState) (c : CoreData)
+    (call : Call) (r : Result) (t : ℕ) (table : Txns (Node KeptTransaction))
+    → StandsWhole opening steps own w c → core_calls w (CoreCall call) r ≡ []
+    → MayComeWhole w (CoreCall call) r
+    → AllByRecursion (λ x. x.settled ≡ false → x.id ≢ t) w.core.stamped
+    → IsWritten c.table table t HasSameWork
+    → HasReaders w.core.start (readers_after w (CoreCall call) r)
+    (committed_after w (CoreCall call) r) c.tale
+    → HaveStages (readers_after w (CoreCall call) r) table c.tale
+    → LeadsWhole opening steps own w (CoreCall call) r (record c { table = table })
