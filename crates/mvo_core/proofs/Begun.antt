@@ -69,17 +69,17 @@ module _ (rs : Readers) (opening : Map) (steps : List Step) (s : State) (c : Cor
       go None e = refl
       go (Some x) e = let le = h.dependencies.graph.drawn (tx_id (c.table.clock + 1)) (ap is_some e) in absurd (omega (arith, le))
 
-  fresh_own : own_of c.table (c.table.clock + 1) ≡ None
+  pub fresh_own : own_of c.table (c.table.clock + 1) ≡ None
   fresh_own = ap (λ o. option_map (λ n. n.own) (option_map (λ x. x.kept) o)) fresh
 
   module _ (node : Node KeptTransaction) (none : node.dependencies ≡ no_dependencies) (told : node.own.work.history ≡ []) (wordless : node.own.work.words ≡ []) (other : node.own.kind ≡ Other) where
     begun : Txns (Node KeptTransaction)
     begun = table_after_begin c.table node
 
-    own_begun : own_of (table_after_begin c.table node) (c.table.clock + 1) ≡ Some node.own
+    pub own_begun : own_of (table_after_begin c.table node) (c.table.clock + 1) ≡ Some node.own
     own_begun = ap (λ o. option_map (λ n. n.own) (option_map (λ x. x.kept) o)) (get_inserted c.table.seats (c.table.clock + 1) (record { state = Active; kept = node }))
 
-    own_others : (u : ℕ) → u ≢ c.table.clock + 1 → own_of (table_after_begin c.table node) u ≡ own_of c.table u
+    pub own_others : (u : ℕ) → u ≢ c.table.clock + 1 → own_of (table_after_begin c.table node) u ≡ own_of c.table u
     own_others u ne = ap (λ o. option_map (λ n. n.own) (option_map (λ x. x.kept) o)) (get_beside c.table.seats (c.table.clock + 1) (record { state = Active; kept = node }) u ne)
 
     says_begun : SaysAsMuch c.table (table_after_begin c.table node)

@@ -29,6 +29,7 @@ pub mod ReaderTales
 pub mod ReaderStages
 pub mod OthersLead
 pub mod ReadersMoved
+pub mod ReaderBegins
 pub mod TaleMoves
 pub mod KeptTale
 pub mod Trimmed

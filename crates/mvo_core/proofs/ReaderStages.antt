@@ -17,7 +17,7 @@ use Rattle.mvo_core.specs.Readers.{KeptReader, reader_by, reader_in, HasStage, H
 abbrev pub KeepsReading : List TalePlace → List TalePlace → Type 0
 KeepsReading old new = (q b : ℕ) → reading_begin_at old q ≡ Some b → reading_begin_at new q ≡ Some b
 
-stage_kept : (old new : List TalePlace) → KeepsReading old new → (t : ℕ) (r : Option KeptReader) (p : Option ReaderStage) → HasStage old t r p → HasStage new t r p
+pub stage_kept : (old new : List TalePlace) → KeepsReading old new → (t : ℕ) (r : Option KeptReader) (p : Option ReaderStage) → HasStage old t r p → HasStage new t r p
 stage_kept old new keeps t None None h = h
 stage_kept old new keeps t None (Some p) h = absurd h
 stage_kept old new keeps t (Some r) None h = absurd h

@@ -1,5 +1,5 @@
 -- What is kept of a read-only transaction changes, and its place in the tale: the core stands for the same state of the others.
-use Rattle.std.proofs.Common.{◌≡◌, ◌≢◌, ℕ, false, List, Some, sym, ap, ◌∙◌, subst, ⊎_elim}
+use Rattle.std.proofs.Common.{◌≡◌, ◌≢◌, ℕ, false, List, Some, sym, ap, ◌∙◌, subst, ⊎_elim, [], ◌++◌, append-nil}
 use Rattle.std.specs.List.{AllByRecursion}
 use Rattle.std.proofs.lemmas.Bool.{cases_eq}
 use Rattle.mvo_types.specs.Keys.{Map}
@@ -13,12 +13,16 @@ use Rattle.mvo_tale.specs.Slots.{open_end_at}
 use Rattle.mvo_representation.specs.Laws as representation
 use Rattle.mvo_representation.specs.Order.{AllStandInOrder}
 use Rattle.mvo_representation.specs.WordLists.{HasWordLists}
+use Rattle.mvo_theory.specs.Calls.{Run, trace_of, after_run}
+use Rattle.mvo_readonly.specs.WholeCauses.WholeCall.{CoreCall}
+use Rattle.mvo_readonly.specs.WholeCalls.{core_calls, after_whole_call}
+use Rattle.mvo_readonly.proofs.WholeRuns.{whole_after_call}
 use Rattle.mvo_core.specs.declared.kept_transaction.KeptTransaction.{KeptTransaction}
 use Rattle.mvo_core.specs.Data.{CoreData, own_of}
 use Rattle.mvo_core.specs.Keeping.{IsWritten}
 use Rattle.mvo_core.specs.Readers.{Readers}
 use Rattle.mvo_core.specs.Standing.{StandsAmong, HasWorks, IsKeptActive, IsKeptPreparing, words_in}
-use Rattle.mvo_core.specs.WholeStanding.{HasSameWork, ReadersMove}
+use Rattle.mvo_core.specs.WholeStanding.{readers_of, HasSameWork, ReadersMove, ReaderGoesOn}
 use Rattle.mvo_core.proofs.Carried.{some_own}
 use Rattle.mvo_core.proofs.OwnChanged.{IsOwnChanged, own_changed, words_stay}
 
@@ -73,4 +77,21 @@ readers_moved before after opening steps s c t table tale h apart written opens 
   grouped = grouped;
   start = h.start;
   over = h.over;
+}
+
+-- ---- a call that is none of the core's
+nothing_called : (rs : Readers) (opening : Map) (own : List Step) (s : State) (cs : Run) (new : CoreData) → cs ≡ [] → StandsAmong rs opening own s new → StandsAmong rs opening (own ++ trace_of s cs) (after_run s cs) new
+nothing_called rs opening own s cs new e h =
+    subst (λ (xs : Run). StandsAmong rs opening (own ++ trace_of s xs) (after_run s xs) new) (sym e)
+    (subst (λ (ys : List Step). StandsAmong rs opening ys s new) (sym (append-nil own)) h)
+
+pub reader_goes_on : ReaderGoesOn
+reader_goes_on opening steps own w c call r t table h none may apart written readers stages = record {
+  may = may;
+  stands = record {
+    core = nothing_called (readers_of (after_whole_call w (CoreCall call) r)) opening own w.core (core_calls w (CoreCall call) r) (record c { table = table }) none
+        (readers_moved (readers_of w) (readers_of (after_whole_call w (CoreCall call) r)) opening own w.core c t table c.tale h.core apart written (λ q d e. e) h.core.tale
+        (record { drawn = h.core.places.drawn; readers = readers }) stages h.core.grouped);
+    kept = whole_after_call opening steps own w (CoreCall call) r may h.kept;
+  };
 }

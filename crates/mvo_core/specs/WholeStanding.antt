@@ -1,24 +1,29 @@
 -- What a core stands for with its read-only transactions: a whole state.
-use Rattle.std.specs.Prelude.{ℕ, ◌≡◌, ◌≢◌, ◌++◌, false, List, None, Some, ⊤}
+use Rattle.std.specs.Prelude.{ℕ, ◌≡◌, ◌≢◌, ◌+◌, ◌++◌, false, List, [], ◌∷◌, length, None, Some, ⊤}
 use Rattle.std.specs.List.{AllByRecursion}
 use Rattle.mvo_types.specs.Keys.{Map}
 use Rattle.mvo_model.specs.Trace.{Step}
 use Rattle.mvo_theory.specs.State.{State}
 use Rattle.mvo_theory.specs.Calls.{Call, Result, trace_of}
 use Rattle.mvo_theory.specs.Calls.Call.{Trim}
+use Rattle.mvo_theory.specs.Calls.Result.{Accepted}
 use Rattle.mvo_readonly.specs.Whole.{WholeState, id_named, stage_named}
 use Rattle.mvo_readonly.specs.WholeCauses.{WholeCall, MayComeWhole, has_reader_to}
-use Rattle.mvo_readonly.specs.WholeCauses.WholeCall.{CoreCall}
-use Rattle.mvo_readonly.specs.WholeCalls.{core_calls, steps_of_whole_call, after_whole_call}
+use Rattle.mvo_readonly.specs.WholeCauses.WholeCall.{CoreCall, BeginReadOnly}
+use Rattle.mvo_readonly.specs.WholeCalls.{core_calls, steps_of_whole_call, after_whole_call, readers_after, committed_after}
 use Rattle.mvo_readonly.specs.WholeKept.{IsWholeKept}
-use Rattle.mvo_txn.specs.Txns.{Txns}
+use Rattle.mvo_txn.specs.Txns.{Txns, table_after_begin}
 use Rattle.mvo_deps.specs.declared.node.Node.{Node}
+use Rattle.mvo_deps.specs.Data.{no_dependencies}
 use Rattle.mvo_tale.specs.declared.tale_place.TalePlace.{TalePlace}
+use Rattle.mvo_tale.specs.declared.tale_place.TalePlace.TheVariants.{Reading as IsReading}
 use Rattle.mvo_tale.specs.Kept.{HasTale}
 use Rattle.mvo_tale.specs.Next.{AreGroupedTo}
 use Rattle.mvo_tale.specs.Others.{others_places}
 use Rattle.mvo_tale.specs.Slots.{open_end_at}
+use Rattle.mvo_tale.specs.WholePlaces.{HasReaders}
 use Rattle.mvo_core.specs.declared.kept_transaction.KeptTransaction.{KeptTransaction}
+use Rattle.mvo_core.specs.declared.kept_transaction.TransactionKind.TheVariants.{Reading}
 use Rattle.mvo_core.specs.Data.{CoreData}
 use Rattle.mvo_core.specs.Keeping.{IsWritten}
 use Rattle.mvo_core.specs.Readers.{Readers, HaveStages, HasTalePlaces}
@@ -76,3 +81,30 @@ OthersLeadWhole = (opening : Map) (steps own : List Step) (w : WholeState) (call
     → stage_named w.readers (id_named call) ≡ None → IsBelowReaders w call
     → LeadsAmong (readers_of w) opening own w.core call r new
     → LeadsWhole opening steps own w (CoreCall call) r new
+
+-- A read-only transaction begins: nothing is done in what is kept of it, which has its place in the
+-- tale, behind all others.
+abbrev pub ReaderBegins : Type 0
+ReaderBegins = (opening : Map) (steps own : List Step) (w : WholeState) (c : CoreData)
+    (node : Node KeptTransaction) → StandsWhole opening steps own w c
+    → node.dependencies ≡ no_dependencies → node.own.work.history ≡ []
+    → node.own.work.words ≡ [] → node.own.kind ≡ Reading → node.own.place ≡ length c.tale
+    → MayComeWhole w BeginReadOnly Accepted
+    → LeadsWhole opening steps own w BeginReadOnly Accepted (record c {
+      table = table_after_begin c.table node;
+      tale = c.tale ++ IsReading (record { 0 = w.core.clock + 1 }) ∷ [];
+    })
+
+-- A call of a read-only transaction that is none of the core's, as its precommit and its checks: it
+-- is written what is kept of it, its operations and words stay, and so do the places.
+abbrev pub ReaderGoesOn : Type 0
+ReaderGoesOn = (opening : Map) (steps own : List Step) (w : WholeState) (c : CoreData)
+    (call : Call) (r : Result) (t : ℕ) (table : Txns (Node KeptTransaction))
+    → StandsWhole opening steps own w c → core_calls w (CoreCall call) r ≡ []
+    → MayComeWhole w (CoreCall call) r
+    → AllByRecursion (λ x. x.settled ≡ false → x.id ≢ t) w.core.stamped
+    → IsWritten c.table table t HasSameWork
+    → HasReaders w.core.start (readers_after w (CoreCall call) r)
+    (committed_after w (CoreCall call) r) c.tale
+    → HaveStages (readers_after w (CoreCall call) r) table c.tale
+    → LeadsWhole opening steps own w (CoreCall call) r (record c { table = table })
