@@ -1,5 +1,6 @@
 //! Looks at all that stops and faults may leave at one call.
-ghost use Rattle.std.specs.Prelude.{◌≡◌, IfOk};
+ghost use Rattle.std.specs.Prelude.{◌≡◌, Some, Ok, IfOk};
+ghost use Rattle.mvo_stops.specs.declared.wrong.Wrong.{Wrong};
 
 use crate::base::Base;
 use crate::counts::Counts;
@@ -35,7 +36,20 @@ pub fn check_call(
     let mut judge = Judge::new(history);
     let ended = check_run(rt, &mut judge, recorded, place, left);
     let found = found_by(&judge, ended)?;
-    if place.saturating_add(1) < recorded.calls().len() || found.wrong.is_some() {
+    with_end(rt, recorded, place, found)
+}
+
+/// What was found at the call at this place, with what a stop at the script's end leaves, if it's
+/// the last. What was found wrong stays: then no more is looked at.
+fn with_end(
+    rt: &(impl Threads + Sync),
+    recorded: &Recorded,
+    place: usize,
+    found: Found,
+) -> Result<Found, StopsError>
+    ensures kept { (w : Wrong) → found.wrong ≡ Some w → result ≡ Ok found }
+{
+    if found.wrong.is_some() || place.saturating_add(1) < recorded.calls().len() {
         return Ok(found);
     }
     let end = check_end(rt, recorded)?;
