@@ -272,7 +272,8 @@ fn above_start<L: Run>(core: &CoreGuard<'_, L>, receipts: &[Receipt]) -> (u64, u
     (above, stored)
 }
 
-fn times_stored<L: Run>(core: &CoreGuard<'_, L>, receipt: &Receipt) -> u64 {
+/// How often the receipt is stored.
+pub fn times_stored<L: Run>(core: &CoreGuard<'_, L>, receipt: &Receipt) -> u64 {
     let tale = core.tale();
     let mut times = 0u64;
     for place in 0..tale.len() {

@@ -1,6 +1,7 @@
 //! The steps of a test, and what each is to be answered.
 
 use super::asking::Ask;
+use super::lasting::forget;
 use super::told::{Told, called, done, installed, said, stamped};
 use crate::equal::same_at;
 use mvo_core::Collection;
@@ -28,6 +29,10 @@ pub enum Step {
     Checkpoint,
     /// The pair at this place and the one behind it become one.
     Merge(usize),
+    /// One session lets go of the receipts that it may: how many these are.
+    LetGo,
+    /// How many receipts it has.
+    Receipts,
     /// Under the lock of the core.
     Core(CoreStep),
     /// Under the lock of the store.
@@ -77,6 +82,8 @@ impl Step {
             Step::Rotate => installed(engine.rotate(rt)),
             Step::Checkpoint => installed(engine.checkpoint(rt)),
             Step::Merge(place) => installed(engine.merge(rt, place)),
+            Step::LetGo => Told::Number(forget(rt, engine, one) as u64),
+            Step::Receipts => Told::Number(one.receipts().len() as u64),
             Step::Core(step) => step.of(&mut engine.lock_core(rt)),
             Step::Store(step) => step.of(&mut engine.lock_store(rt)),
         }

@@ -8,6 +8,7 @@ use super::down::go_down;
 use super::gathering::gather_all;
 use super::held_disk::Hold;
 use super::jobs::do_jobs;
+use super::lasting::{last_a_day, make_many, stay};
 use super::meeting::meet_for_a_key;
 use super::reads_free::flush_and_read;
 use super::sessions::{ask_sessions, make_all};
@@ -47,6 +48,10 @@ pub enum Alone<'t> {
     Jobs(&'t AtomicU64),
     MergeWaits,
     Down,
+    /// Sessions are made and given back, one at a time.
+    Retiring,
+    /// A session isn't taken back.
+    Staying,
 }
 
 /// What several threads do, and the words between them.
@@ -61,6 +66,8 @@ pub enum Meeting<'t> {
     MergeBesideCheckpoint,
     Gathering,
     Day,
+    /// A day of sessions that forget, with trims between.
+    LastingDay,
 }
 
 fn go<
@@ -89,6 +96,8 @@ fn go_alone<L: Run, D: Disk, G: Gate + Drop, R: Abort + Wait>(
         Alone::Jobs(passes) => do_jobs(rt, alloc, engine, passes),
         Alone::MergeWaits => merge_waits(rt, alloc, engine),
         Alone::Down => go_down(rt, alloc, engine),
+        Alone::Retiring => make_many(rt, engine),
+        Alone::Staying => stay(rt, alloc, engine),
     }
 }
 
@@ -108,6 +117,7 @@ fn go_in_threads<
         Meeting::MergeBesideCheckpoint => merge_in_threads(rt, alloc, engine),
         Meeting::Gathering => gather_all(rt, alloc, engine),
         Meeting::Day => spend_day(rt, alloc, engine),
+        Meeting::LastingDay => last_a_day(rt, alloc, engine),
     }
 }
 
