@@ -44,7 +44,7 @@ use Rattle.mvo_store.specs.Writing.{IsFileDue, IsMergeFileAt, WritesFor, HasMade
 use Rattle.mvo_store.proofs.Keeping.{OnlyNow}
 use Rattle.mvo_store.proofs.Checkpoints.{stop_or_misread}
 use Rattle.mvo_store.proofs.Logged.{unnamed}
-use Rattle.mvo_store.proofs.Working.{IsNew, IsMergedOf, IsNamedBefore, RestsOn, merge_new, small}
+use Rattle.mvo_store.proofs.Working.{IsNew, IsMergedOf, IsNamedBefore, RestsOn, merge_new}
 use Rattle.mvo_store.proofs.Written.{fill_writes, fill_makes}
 use Rattle.mvo_store.proofs.Neighbours.{two_stand}
 
@@ -152,13 +152,13 @@ module _ (content : Image) (may : ℕ → List ℕ → Type 0) (m : ManifestData
 
     -- THEY ARE FEW, and are numbers of the merge's records.
     pub late_few : length (late_of s left right) < 2 ^ 32
-    late_few = subst (λ (l : List ℕ). length l < 2 ^ 32) (sym late_same) (few_late FIRST_FORMAT content m x.lives saw small is_manifest settled.installed.parts.live has.seen numbers_now)
+    late_few = subst (λ (l : List ℕ). length l < 2 ^ 32) (sym late_same) (few_late FIRST_FORMAT content m x.lives saw is_manifest settled.installed.parts.live has.seen numbers_now)
 
     late_are : AreNumbers s.pair.records (late_of s left right)
     late_are =
         let count : length (records_of has.live_left has.live_right) ≡ s.pair.records = sym (has.may_merge.counted ∙ ap (λ (es : List EntryData). length es) has.records) in
-        let from_left = are_left FIRST_FORMAT content m x.lives saw small is_manifest settled.installed.parts.live has.seen numbers_now in
-        let from_right = are_right FIRST_FORMAT content m x.lives saw small is_manifest settled.installed.parts.live has.seen numbers_now in
+        let from_left = are_left FIRST_FORMAT content m x.lives saw is_manifest settled.installed.parts.live has.seen numbers_now in
+        let from_right = are_right FIRST_FORMAT content m x.lives saw is_manifest settled.installed.parts.live has.seen numbers_now in
         subst (λ (l : List ℕ). AreNumbers s.pair.records l) (sym late_same) (subst (λ k. AreNumbers k (renumbered renumbering late_left late_right)) count (gives_numbers has.live_left has.live_right late_left late_right from_left from_right))
 
 -- they are the same where the manifest's files stay

@@ -65,7 +65,7 @@ use Rattle.mvo_store.specs.Checkpoint.{gained, made_of, IsCheckpointInto}
 use Rattle.mvo_store.specs.Merging.{seen_with, pair_with, IsMergeReady}
 use Rattle.mvo_store.specs.Steps.{manifest_after, places_after, segment_after}
 use Rattle.mvo_store.proofs.Keeping.{give_or, stays_up, AllLeave, OnlyNow, CountsNow, may_step, Begins, begins, file_others, fault_step, other_step, err_is, stays_safe}
-use Rattle.mvo_store.proofs.Working.{Installing, Installs, installs, installing, due_installs, slot_of_install, small, merged_parts_now}
+use Rattle.mvo_store.proofs.Working.{Installing, Installs, installs, installing, due_installs, slot_of_install, merged_parts_now}
 use Rattle.mvo_store.proofs.Beside.{IsDueIn, due_in_jobs, merge_stays, checkpoint_stays, merge_runs_on}
 use Rattle.mvo_store.proofs.Beside.IsDueIn.{TheRotation, TheMerge, TheCheckpoint, OfMerge}
 use Rattle.mvo_store.proofs.Turning.{some_due, step_is, of_due, all_stepped, share_stepped, share_installed}
@@ -375,7 +375,7 @@ module _ {D : Type 0} (d : Ghosts D) (s : StoreData D) (rows : Map) (up : IsUp d
         let merge = is.merge in
         let saw = seen_with g merge.live_left merge.live_right in
         let differ : IsDistinct nat_eq (map file_of (merged_manifest m (pairs_now merge.seen (pair_with g is.late))).pairs) = subst (λ (n : ManifestData). IsDistinct nat_eq (map file_of n.pairs)) is.next_is (data_files_differ next settled.installed.own.is) in
-        let now = places_beside FIRST_FORMAT (d.content s.disk) m up.parts saw (pair_with g is.late) merge.seen is.now s.places.at small up.settled.installed.own.is up.settled.installed.parts.live differ up.places in
+        let now = places_beside FIRST_FORMAT (d.content s.disk) m up.parts saw (pair_with g is.late) merge.seen is.now s.places.at up.settled.installed.own.is up.settled.installed.parts.live differ up.places in
         let at_is : places.at ≡ moved g.left.data_file g.right.data_file g.pair.data_file (records_merged merge.live_left merge.live_right) s.places.at = to ∙ ap (λ (es : List EntryData). moved g.left.data_file g.right.data_file g.pair.data_file es s.places.at) merge.records in
         rw (at_is, is.next_is) now
 

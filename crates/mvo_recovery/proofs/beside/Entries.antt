@@ -9,17 +9,17 @@ use Rattle.mvo_format.specs.declared.format.Format.{Format}
 use Rattle.mvo_pair.specs.Data.{EntryData}
 use Rattle.mvo_pair.specs.Files.{entry_bytes, file_header, data_magic, IsEntry, HasRowWords, HasEntries}
 use Rattle.mvo_pair.specs.Reading.{entry_at}
+use Rattle.mvo_pair.proofs.Said.{FitsFields}
 use Rattle.mvo_pair.proofs.Spelled.{HasFields, entry_again}
-use Rattle.mvo_recovery.specs.beside.Seen.{IsSmall}
 
-module _ (f : Format) (lo hi : ℕ) (small : IsSmall f) (top : hi < 2 ^ 64) where
+module _ (f : Format) (lo hi : ℕ) (fits : FitsFields f) (top : hi < 2 ^ 64) where
   fields_of : (e : EntryData) → IsEntry f lo hi e → HasRowWords e → HasFields e
   fields_of e is words = record {
     begin = omega (arith, is.upto, top);
-    table = omega (arith, is.table, small.table);
+    table = omega (arith, is.table, fits.table);
     key = words.key;
     sort = words.sort;
-    size = omega (arith, is.size, small.size);
+    size = omega (arith, is.size, fits.size);
   }
 
   all_fields : (es : List EntryData) → AllByRecursion (IsEntry f lo hi) es → AllByRecursion HasRowWords es → AllByRecursion HasFields es
@@ -40,12 +40,12 @@ entries_same (a ∷ xs) (b ∷ ys) r s fa fb len e =
     ∙ ap (λ (es : List EntryData). b ∷ es) (entries_same xs ys r s fa.1 fb.1 (omega (arith, len)) (ap (λ (t : EntryData × List ℕ). t.1) same))
 
 -- the records of a data file are these and no others
-pub entries_once : (f : Format) (lo hi count : ℕ) (xs ys : List EntryData) (bytes : List ℕ) → IsSmall f → hi < 2 ^ 64 → HasEntries f lo hi count xs bytes → HasEntries f lo hi count ys bytes → xs ≡ ys
-entries_once f lo hi count xs ys bytes small top a b =
+pub entries_once : (f : Format) (lo hi count : ℕ) (xs ys : List EntryData) (bytes : List ℕ) → FitsFields f → hi < 2 ^ 64 → HasEntries f lo hi count xs bytes → HasEntries f lo hi count ys bytes → xs ≡ ys
+entries_once f lo hi count xs ys bytes fits top a b =
     let h = file_header data_magic f.version in
     let whole : h ++ (flat_map entry_bytes xs ++ a.rest) ≡ h ++ (flat_map entry_bytes ys ++ b.rest) = sym (append_assoc h (flat_map entry_bytes xs) a.rest) ∙ sym a.whole ∙ b.whole ∙ append_assoc h (flat_map entry_bytes ys) b.rest in
     entries_same xs ys a.rest b.rest
-    (all_fields f lo hi small top xs (recursion_from_All (IsEntry f lo hi) xs a.are.each) (recursion_from_All HasRowWords xs a.words))
-    (all_fields f lo hi small top ys (recursion_from_All (IsEntry f lo hi) ys b.are.each) (recursion_from_All HasRowWords ys b.words))
+    (all_fields f lo hi fits top xs (recursion_from_All (IsEntry f lo hi) xs a.are.each) (recursion_from_All HasRowWords xs a.words))
+    (all_fields f lo hi fits top ys (recursion_from_All (IsEntry f lo hi) ys b.are.each) (recursion_from_All HasRowWords ys b.words))
     (a.counted ∙ sym b.counted)
     (append_cancel_left h (flat_map entry_bytes xs ++ a.rest) (flat_map entry_bytes ys ++ b.rest) whole)

@@ -14,7 +14,7 @@ use Rattle.mvo_merge.specs.Laws.{AreLate}
 use Rattle.mvo_merge.proofs.Late.{gained_late}
 use Rattle.mvo_recovery.proofs.Counted.{HasLoaded, loaded, loads, live_of-more, numbers_once, version_once, format_once}
 use Rattle.mvo_recovery.proofs.Gained.{few_word}
-use Rattle.mvo_recovery.specs.beside.Seen.{grown, Loads, IsSmall}
+use Rattle.mvo_recovery.specs.beside.Seen.{grown, Loads}
 use Rattle.mvo_recovery.proofs.beside.Entries.{entries_once}
 use Rattle.mvo_recovery.proofs.beside.Numbers.{first_are, more_are, first_stay}
 
@@ -37,9 +37,6 @@ module _ (f : Format) (content : Image) (p : Pair) (more : ℕ) (seen now : List
   new_numbers : HasDeadNumbers old.own.version p.records (p.entries + more) new.ns (content p.delta_file)
   new_numbers = subst (λ (g : Format). HasDeadNumbers g.version p.records (p.entries + more) new.ns (content p.delta_file)) same_own new.numbers
 
-  old_small : IsSmall old.own
-  old_small = let fields = known_fits f.version old.own old.known in record { table = fields.table; size = fields.size }
-
   module _ (own : Format) (known : IsFormatUpTo f.version own) (top : p.hi.0 < 2 ^ 64) (ns : List ℕ) (has : HasDeadNumbers own.version p.records (p.entries + more) ns (content p.delta_file)) where
     abbrev late : List ℕ
     late = drop p.entries ns
@@ -50,7 +47,7 @@ module _ (f : Format) (content : Image) (p : Pair) (more : ℕ) (seen now : List
         (version_once own.version old.own.version p.records (p.entries + more) p.entries p.records ns old.ns (content p.delta_file) (known_word f.version own known) (known_word f.version old.own old.known) has old.numbers) has
 
     same_entries : new.es ≡ old.es
-    same_entries = entries_once old.own p.lo.0 p.hi.0 p.records new.es old.es (content p.data_file) old_small top new_entries old.entries
+    same_entries = entries_once old.own p.lo.0 p.hi.0 p.records new.es old.es (content p.data_file) (known_fits f.version old.own old.known) top new_entries old.entries
 
     same_numbers : new.ns ≡ old.ns ++ late
     same_numbers =

@@ -26,7 +26,7 @@ use Rattle.mvo_recovery.specs.Settled.{IsSettled}
 use Rattle.mvo_recovery.specs.Installing.{IsReady}
 use Rattle.mvo_recovery.specs.Merging.{MergeData, merged_manifest, HasRecords}
 use Rattle.mvo_recovery.proofs.Merged.{named_merged, named_cases, manifest_merged, rise_merged}
-use Rattle.mvo_recovery.specs.beside.Seen.{SeenData, Loads, WasSeen, pairs_now, IsSmall, MayMergeNow, NumbersNow, HasLate, lives_now, parts_now}
+use Rattle.mvo_recovery.specs.beside.Seen.{SeenData, Loads, WasSeen, pairs_now, MayMergeNow, NumbersNow, HasLate, lives_now, parts_now}
 use Rattle.mvo_recovery.specs.beside.Laws.{FindsLate}
 use Rattle.mvo_recovery.proofs.beside.Late.{are_late, others_live, late_counted}
 use Rattle.mvo_recovery.proofs.beside.Two.{HaveTwo, have_one, lives_at, two_rules, few_one}
@@ -41,7 +41,7 @@ finds_late content f own p more seen now ns known top few was is has = (
 
 -- ---- what came late
 
-module _ (f : Format) (content : Image) (m : ManifestData) (lives : List (List Numbered)) (s : SeenData) (small : IsSmall f) (is : IsManifest m) (have : HaveLive f content m.pairs lives) (seen : WasSeen f content m s) (now : NumbersNow f content m s seen) where
+module _ (f : Format) (content : Image) (m : ManifestData) (lives : List (List Numbered)) (s : SeenData) (is : IsManifest m) (have : HaveLive f content m.pairs lives) (seen : WasSeen f content m s) (now : NumbersNow f content m s seen) where
   abbrev p : Pair
   p = left_now f content m s seen
 
@@ -158,7 +158,7 @@ module _ (f : Format) (content : Image) (m : ManifestData) (lives : List (List N
 
 -- ---- one pair for the two
 
-module _ (f : Format) (content : Image) (may : ℕ → List ℕ → Type 0) (m : ManifestData) (x : Parts) (s : SeenData) (pair : Pair) (small : IsSmall f) (settled : IsSettled f content may m x) (seen : WasSeen f content m s) (now : NumbersNow f content m s seen) where
+module _ (f : Format) (content : Image) (may : ℕ → List ℕ → Type 0) (m : ManifestData) (x : Parts) (s : SeenData) (pair : Pair) (settled : IsSettled f content may m x) (seen : WasSeen f content m s) (now : NumbersNow f content m s seen) where
   abbrev parts : HasParts f content m x
   parts = settled.installed.parts
 
@@ -169,7 +169,7 @@ module _ (f : Format) (content : Image) (may : ℕ → List ℕ → Type 0) (m :
   lates = renumbered (renumbering_of s.live_left s.live_right) (drop s.left.entries now.left) (drop s.right.entries now.right)
 
   abbrev joined : List Numbered
-  joined = live f content m x.lives s small is_manifest parts.live seen now
+  joined = live f content m x.lives s is_manifest parts.live seen now
 
   abbrev y : Parts
   y = parts_now s joined x
@@ -185,7 +185,7 @@ module _ (f : Format) (content : Image) (may : ℕ → List ℕ → Type 0) (m :
 
     live_now : HaveLive f content (seen.before ++ pair ∷ seen.behind) y.lives
     live_now =
-        subst (λ (ls : List (List Numbered)). HaveLive f content (seen.before ++ pair ∷ seen.behind) ls) (sym (new_lives f content m x.lives s small is_manifest parts.live seen now))
+        subst (λ (ls : List (List Numbered)). HaveLive f content (seen.before ++ pair ∷ seen.behind) ls) (sym (new_lives f content m x.lives s is_manifest parts.live seen now))
         (have_one f content seen.before seen.behind (left_now f content m s seen) (right_now f content m s seen) pair twice.front twice.back twice.left twice.right joined twice.each
         (subst (λ (ls : List (List Numbered)). HaveLive f content (seen.before ++ left_now f content m s seen ∷ right_now f content m s seen ∷ seen.behind) ls) twice.are (subst (λ (ps : List Pair). HaveLive f content ps x.lives) seen.pairs parts.live)) pair_loads)
 
@@ -197,7 +197,7 @@ module _ (f : Format) (content : Image) (may : ℕ → List ℕ → Type 0) (m :
         last_file = parts.last_file;
         segments = parts.segments;
         live = live_now;
-        distinct = apart_now f content m x.lives s small is_manifest parts.live seen now parts.distinct;
+        distinct = apart_now f content m x.lives s is_manifest parts.live seen now parts.distinct;
         sealed = parts.sealed;
         last = parts.last;
       };
@@ -206,6 +206,6 @@ module _ (f : Format) (content : Image) (may : ℕ → List ℕ → Type 0) (m :
 
     pub same_now : MakeUpSame x y
     same_now = record {
-      rows = ap (λ (r : Map). after_groups r (x.sealed ++ x.last)) (same_rows f content m x.lives s small is_manifest parts.live seen now);
+      rows = ap (λ (r : Map). after_groups r (x.sealed ++ x.last)) (same_rows f content m x.lives s is_manifest parts.live seen now);
       mark = refl;
     }

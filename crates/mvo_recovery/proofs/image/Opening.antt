@@ -27,19 +27,19 @@ pick_exact upto first second fits fits_too = (pick_says upto first second fits f
 pub segment_exact : SegmentIsExact
 segment_exact f file mark kind bytes fits = (segment_says f.version file mark kind bytes fits, λ z h. sym (segment_alone f.version file mark kind bytes fits z h))
 
-module _ (f : Format) (image : Image) (is : AreFiles f image) where
+module _ (f : Format) (image : Image) (is : AreFiles image) where
   slot_one : (n : ℕ) → HasOne (SlotSays f.version n (image n))
-  slot_one n = (slot_found f.version n (image n), slot_exact f.version n (image n) (is.bytes n))
+  slot_one n = (slot_found f.version n (image n), slot_exact f.version n (image n) (is n))
 
   segment_one : (n mark : ℕ) (last : Bool) → HasOne (SegmentSays f n mark last (image n))
-  segment_one n mark last = (segment_found f.version n mark (kind_of last) (image n), segment_exact f n mark (kind_of last) (image n) (is.bytes n))
+  segment_one n mark last = (segment_found f.version n mark (kind_of last) (image n), segment_exact f n mark (kind_of last) (image n) (is n))
 
   -- the pairs of a manifest have their words, and so each has one answer
   pairs_one : (lo hi : ℕ) (ps : List Pair) → PairsRise lo ps hi → AllByRecursion (λ p. HasOne (LoadsAs f.version p (image p.data_file) (image p.delta_file))) ps
   pairs_one lo hi [] rise = tt
   pairs_one lo hi (p ∷ ps) rise =
       let fits : Fits p = record { hi = omega (arith, rise.0.top); records = omega (arith, rise.0.records) } in
-      ((pair_found f.version p (image p.data_file) (image p.delta_file), loads f.version p (image p.data_file) (image p.delta_file) fits (is.bytes p.data_file) (λ es e. is.bytes p.delta_file)), pairs_one p.hi.0 hi ps rise.1)
+      ((pair_found f.version p (image p.data_file) (image p.delta_file), loads f.version p (image p.data_file) (image p.delta_file) fits (is p.data_file) (λ es e. is p.delta_file)), pairs_one p.hi.0 hi ps rise.1)
 
 pub one_answer : HasOneAnswer
 one_answer f image is =

@@ -24,7 +24,7 @@ use Rattle.mvo_recovery.specs.Settled.{other_slot, IsSettled, GivesParts}
 use Rattle.mvo_recovery.specs.Installing.{IsNext, IsReady}
 use Rattle.mvo_recovery.specs.Checkpoint.{NewNumbers, raise, CheckpointData, checkpointed}
 use Rattle.mvo_recovery.specs.Merging.{MergeData, merged_manifest, HasRecords}
-use Rattle.mvo_recovery.specs.beside.Seen.{SeenData, grown, Loads, WasSeen, CountsStay, pairs_now, IsSmall, MayMergeNow, NumbersNow, HasLate, lives_now, parts_now}
+use Rattle.mvo_recovery.specs.beside.Seen.{SeenData, grown, Loads, WasSeen, CountsStay, pairs_now, MayMergeNow, NumbersNow, HasLate, lives_now, parts_now}
 
 -- ---- what it saw stays
 
@@ -103,7 +103,7 @@ pub record IsMergedNow (f : Format) (content : Image) (may : ℕ → List ℕ �
 -- renumbered, it may be installed in the place of the two.
 abbrev pub MergeBesideIsReady : Image → (ℕ → List ℕ → Type 0) → Type 0
 MergeBesideIsReady content may = (f : Format) (m : ManifestData) (x : Parts) (s : SeenData)
-    (pair : Pair) → IsSmall f → IsSettled f content may m x → (seen : WasSeen f content m s) →
+    (pair : Pair) → IsSettled f content may m x → (seen : WasSeen f content m s) →
     (now : NumbersNow f content m s seen) →
     let late_left = drop s.left.entries now.left in
     let late_right = drop s.right.entries now.right in
@@ -129,7 +129,7 @@ InstallBesideKeeps content may = (f : Format) (m : ManifestData) (x y : Parts) (
 abbrev pub PlacesBeside : Type 0
 PlacesBeside = (f : Format) (content : Image) (m : ManifestData) (x : Parts) (s : SeenData)
     (pair : Pair) (seen : WasSeen f content m s) (now : NumbersNow f content m s seen)
-    (at : PlaceMap) → IsSmall f → IsManifest m → HaveLive f content m.pairs x.lives →
+    (at : PlaceMap) → IsManifest m → HaveLive f content m.pairs x.lives →
     IsDistinct nat_eq (map file_of (merged_manifest m (pairs_now seen pair)).pairs) →
     ArePlaces m.pairs x.lives at →
     ArePlaces (merged_manifest m (pairs_now seen pair)).pairs

@@ -69,11 +69,6 @@ CountsStay f old new ps = (p : Pair) → Contains ps p →
 
 -- ---- what is written
 
--- what a version allows fits the fields of the files
-pub record IsSmall (f : Format) : Type 0 where
-  pub table : f.max_table < 256
-  pub size : f.max_data_len < 2 ^ 16
-
 -- the manifest that is installed now may have one pair, of these records and with so many numbers,
 -- in the place of the two
 pub record MayMergeNow (m : ManifestData) (s : SeenData) (pair : Pair) (es : List EntryData)

@@ -1,5 +1,5 @@
 -- The laws of opening.
-use Rattle.std.specs.Prelude.{◌≡◌, ◌↔◌, ℕ, ◌<◌, ◌^◌, List, Some, Ok, slice_index}
+use Rattle.std.specs.Prelude.{◌≡◌, ◌↔◌, ℕ, ◌<◌, List, Some, Ok, slice_index}
 use Rattle.std.specs.FinMap.{get}
 use Rattle.std.specs.List.{Contains}
 use Rattle.mvo_types.specs.declared.row.RowKey.{RowKey}
@@ -19,13 +19,9 @@ use Rattle.mvo_places.specs.Rows.{live_rows_in, rows_of}
 abbrev pub AreBytes : List ℕ → Type 0
 AreBytes bytes = (i : ℕ) → slice_index bytes i < 256
 
--- Files hold bytes, and the numbers of the version have their words, as each value of the program
--- has it.
-pub record AreFiles (f : Format) (image : Image) : Type 0 where
-  pub version : f.version < 2 ^ 32
-  pub table : f.max_table < 256
-  pub size : f.max_data_len < 2 ^ 16
-  pub bytes : (n : ℕ) → AreBytes (image n)
+-- files hold bytes, as each value of the program has it
+abbrev pub AreFiles : Image → Type 0
+AreFiles image = (n : ℕ) → AreBytes (image n)
 
 -- What is found of a slot is said of its bytes, and nothing else is.
 abbrev pub SlotIsExact : Type 0
@@ -45,7 +41,7 @@ SegmentIsExact = (f : Format) (file mark : ℕ) (kind : Kind) (bytes : List ℕ)
 
 -- Opening has one answer.
 abbrev pub HasOneAnswer : Type 0
-HasOneAnswer = (f : Format) (image : Image) → AreFiles f image →
+HasOneAnswer = (f : Format) (image : Image) → AreFiles image →
     (out : OpeningOutcome) × IsOnly (OpensAs f image) out
 
 -- It is rows and a mark exactly where the image is well formed and gives them.
