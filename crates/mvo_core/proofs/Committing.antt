@@ -74,7 +74,7 @@ apart_by a b h q = false≢true (sym h ∙ eq-eqb a b q)
 -- it is refused before it is looked whether it is validated
 pub settle_refused : (rs : Readers) (opening : Map) (steps : List Step) (s : State) (c : CoreData) → StandsAmong rs opening steps s c → (t : ℕ) → stage_of t rs.unfinished ≡ None → (r : Refusal) (new : CoreData) → why_not_preparing c.table t ≡ Some r → IsGivenUp c t r new
     → LeadsAmong rs opening steps s (Settle t) (Refused r) new
-settle_refused rs opening steps s c h t other r new why left = settle_given_up rs opening steps s c new h t r left
+settle_refused rs opening steps s c h t other r new why left = settle_given_up rs opening steps s c new h t other r left
     (sym (not_settled_is rs opening steps s c h t other) ∙ or_first (why_not_preparing c.table t) (when (not (was_valid (preparing_of t s.stamped))) NotValidated) r why)
 
 module _ (rs : Readers) (opening : Map) (steps : List Step) (s : State) (c : CoreData) (h : StandsAmong rs opening steps s c) (t : TxId) (none : why_not_preparing c.table t.0 ≡ None) (other : stage_of t.0 rs.unfinished ≡ None) where

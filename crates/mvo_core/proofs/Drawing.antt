@@ -85,7 +85,7 @@ clock_written old new t change w = ap (λ x. x.clock) w.is ∙ go (kept_of old t
 -- it is refused before the clock is looked at
 pub precommit_refused : (rs : Readers) (opening : Map) (steps : List Step) (s : State) (c : CoreData) → StandsAmong rs opening steps s c → (t : ℕ) → stage_of t rs.unfinished ≡ None → (r : Refusal) (new : CoreData) → why_not_active c.table t ≡ Some r → IsGivenUp c t r new
     → LeadsAmong rs opening steps s (Precommit t) (Refused r) new
-precommit_refused rs opening steps s c h t other r new why left = precommit_given_up rs opening steps s c new h t r left
+precommit_refused rs opening steps s c h t other r new why left = precommit_given_up rs opening steps s c new h t other r left
     (sym (not_precommitted_is rs opening steps s c h t other) ∙ or_first (why_not_active c.table t) (when (nat_le MAX_STAMP c.table.clock) ClockSpent) r why)
 
 module _ (rs : Readers) (opening : Map) (steps : List Step) (s : State) (c : CoreData) (h : StandsAmong rs opening steps s c) where

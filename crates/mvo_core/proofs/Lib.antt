@@ -27,6 +27,8 @@ pub mod Reporting
 pub mod Rest
 pub mod ReaderTales
 pub mod ReaderStages
+pub mod ReaderOwn
+pub mod ReaderAborted
 pub mod OthersLead
 pub mod ReadersMoved
 pub mod ReaderBegins

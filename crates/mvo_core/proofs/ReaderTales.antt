@@ -26,7 +26,7 @@ use Rattle.mvo_core.specs.Receipts.{Receipt}
 use Rattle.mvo_core.specs.Trimming.{stored_above, and_above}
 
 -- ---- fewer ends
-each_emptied : (P : ℕ → Type 0) (xs : List TalePlace) (p : ℕ) → AllByRecursion P (ends xs) → AllByRecursion P (ends (slice_set xs p Empty))
+pub each_emptied : (P : ℕ → Type 0) (xs : List TalePlace) (p : ℕ) → AllByRecursion P (ends xs) → AllByRecursion P (ends (slice_set xs p Empty))
 each_emptied P [] p h = h
 each_emptied P (Open e ∷ xs) zero h = h.1
 each_emptied P (Reading b ∷ xs) zero h = h.1

@@ -44,7 +44,7 @@ open_without [] q d h = absurd (none_end d h)
 open_without (x ∷ xs) zero d h = kept_first x (without_empty_back xs) d h
 open_without (x ∷ xs) (suc q) d h = kept_later x (without_empty_back xs) q d (open_without xs q d h)
 
-open_closed : (slots : List TalePlace) (q d : ℕ) → open_end_at slots q ≡ Some d → open_end_at (closed_up slots) q ≡ Some d
+pub open_closed : (slots : List TalePlace) (q d : ℕ) → open_end_at slots q ≡ Some d → open_end_at (closed_up slots) q ≡ Some d
 open_closed slots q d h = go (without_empty_back slots) (open_without slots q d h)
   where
     go : (ws : List TalePlace) → open_end_at ws q ≡ Some d → open_end_at (or_all slots ws) q ≡ Some d

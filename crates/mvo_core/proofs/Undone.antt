@@ -10,7 +10,6 @@ use Rattle.mvo_model.specs.Trace.{Step}
 use Rattle.mvo_model.specs.Trace.Phase.{Active as ActivePhase, Preparing as PreparingPhase}
 use Rattle.mvo_model.specs.Trace.Step.{Aborts}
 use Rattle.mvo_theory.specs.State.{State, StampedTx, preparing_of}
-use Rattle.mvo_theory.specs.Marks.{IsClosedAt}
 use Rattle.mvo_theory.specs.Changes.{active_with_flag, with_flag, not_at}
 use Rattle.mvo_theory.specs.Steps.{after_abort_of, after_abort}
 use Rattle.mvo_theory.specs.Calls.{MayCome}
@@ -36,18 +35,20 @@ use Rattle.mvo_representation.specs.Order.{MayAbort, is_put_by, with_fronts}
 use Rattle.mvo_representation.specs.WordLists.{HasWordLists}
 use Rattle.mvo_representation.proofs.Facts.{found_holds}
 use Rattle.mvo_versions.specs.Data.{VersionsData}
-use Rattle.mvo_core.specs.Readers.{Readers, no_readers, HaveStages, reader_in}
+use Rattle.mvo_core.specs.Readers.{Readers, HaveStages, reader_in}
 use Rattle.mvo_core.specs.declared.kept_transaction.KeptTransaction.{KeptTransaction}
 use Rattle.mvo_core.specs.Data.{CoreData, own_of}
 use Rattle.mvo_core.specs.Own.{own_place}
-use Rattle.mvo_core.specs.Standing.{StandsFor, Stands, IsKeptActive, IsKeptPreparing, HasWorks, words_in, StandsAmong}
-use Rattle.mvo_core.specs.Causes.{why_not_undo}
+use Rattle.mvo_core.specs.Standing.{IsKeptActive, IsKeptPreparing, HasWorks, words_in, StandsAmong}
+use Rattle.mvo_core.specs.declared.kept_transaction.TransactionKind.TheVariants.{Other}
+use Rattle.mvo_core.specs.Causes.{why_not_undo, kind_kept}
 use Rattle.mvo_core.specs.Aborting.{HasOpenPlace, tale_left}
 use Rattle.mvo_core.specs.Fronts.{numbers_in, AreInFront}
 use Rattle.mvo_core.proofs.SamePlaces.{stands_by_places}
-use Rattle.mvo_core.proofs.Begun.{still_closed}
 use Rattle.mvo_core.proofs.Carried.{works_carried}
 use Rattle.mvo_core.proofs.CausesTold.{not_undone_is}
+use Rattle.mvo_readonly.specs.Whole.{stage_of}
+use Rattle.mvo_core.proofs.ReaderOwn.{reading_place}
 use Rattle.mvo_core.proofs.ReaderStages.{KeepsReading, stages_same, stages_told}
 use Rattle.mvo_core.proofs.ReaderTales.{places_left}
 use Rattle.mvo_core.proofs.Reporting.{own_same, says_same, words_same, stands_now, others_stand}
@@ -107,15 +108,15 @@ module _ (rs : Readers) (opening : Map) (steps : List Step) (s : State) (c : Cor
   pub place_open : (t : ℕ) (x : StampedTx) → preparing_of t s.stamped ≡ Some x → open_end_at c.tale (own_place (own_of c.table t)) ≡ Some x.end
   place_open t x f = let k = kept_of_preparing t x f in ap (λ o. open_end_at c.tale (own_place o)) k.kept ∙ ap (λ own. open_end_at c.tale own.place) (sym k.own_is) ∙ k.same.place
 
-  pub has_open_place : (t : ℕ) → HasOpenPlace (state_of c.table t) c.tale (own_place (own_of c.table t))
+  pub has_open_place : (t : ℕ) → HasOpenPlace (state_of c.table t) (kind_kept (own_of c.table t)) c.tale (own_place (own_of c.table t))
   has_open_place t = go (state_of c.table t) refl
     where
-      go : (o : Option TxState) → state_of c.table t ≡ o → HasOpenPlace o c.tale (own_place (own_of c.table t))
-      go None was = tt
-      go (Some Active) was = tt
-      go (Some (Preparing e)) was = let x = preparing_there rs opening steps s c h t e was in ap is_some (open_pending c.tale (own_place (own_of c.table t)) x.0.end (place_open t x.0 x.1))
-      go (Some (Committed e)) was = tt
-      go (Some Aborted) was = tt
+      go : (o : Option TxState) → state_of c.table t ≡ o → HasOpenPlace o (kind_kept (own_of c.table t)) c.tale (own_place (own_of c.table t))
+      go None was e = absurd (false≢true e)
+      go (Some Active) was e = reading_place c.tale t (own_of c.table t) (stage_of t rs.unfinished) (h.stages t) e
+      go (Some (Preparing d)) was e = let x = preparing_there rs opening steps s c h t d was in ap is_some (open_pending c.tale (own_place (own_of c.table t)) x.0.end (place_open t x.0 x.1))
+      go (Some (Committed d)) was e = absurd (false≢true e)
+      go (Some Aborted) was e = absurd (false≢true e)
 
   -- ---- what the state has beside versions and dependencies
   module _ (t : ℕ) (table : Txns (Node KeptTransaction)) (w : HasWorks s table c.tale) (g : HaveStages rs.unfinished table c.tale) where
@@ -136,7 +137,7 @@ module _ (rs : Readers) (opening : Map) (steps : List Step) (s : State) (c : Cor
       start = h.start;
     }
 
-    rest_of_preparing : (e : Stamp) (x : StampedTx) → preparing_of t s.stamped ≡ Some x → HasRest rs (after_abort_of s t (Some x)) table (tale_left (Some (Preparing e)) c.tale place) c
+    rest_of_preparing : (e : Stamp) (x : StampedTx) → preparing_of t s.stamped ≡ Some x → HasRest rs (after_abort_of s t (Some x)) table (tale_left (Some (Preparing e)) Other c.tale place) c
     rest_of_preparing e x f = record {
       works = record {
         active = each_map (active_with_flag t x.end) (IsKeptActive table) (IsKeptActive table) (λ r p. record { own = p.own; kept = p.kept; history = p.history }) s.active w.active;
@@ -162,7 +163,7 @@ module _ (rs : Readers) (opening : Map) (steps : List Step) (s : State) (c : Cor
       start = h.start;
     } where
       left : List TalePlace
-      left = tale_left (Some (Preparing e)) c.tale place
+      left = tale_left (Some (Preparing e)) Other c.tale place
 
       at : open_end_at c.tale place ≡ Some x.end
       at = place_open t x f
@@ -171,18 +172,18 @@ module _ (rs : Readers) (opening : Map) (steps : List Step) (s : State) (c : Cor
       keeps : KeepsReading c.tale left
       keeps q b k = reading_closed (slice_set c.tale place Empty) q b (reading_elsewhere c.tale place q b Empty (λ is. reading_not_open c.tale q place b x.end k at (sym is)) k)
 
-    pub rest_aborted : (o : Option TxState) → state_of c.table t ≡ o → IsUnended o → HasRest rs (after_abort s t) table (tale_left o c.tale place) c
+    pub rest_aborted : (o : Option TxState) → state_of c.table t ≡ o → IsUnended o → HasRest rs (after_abort s t) table (tale_left o Other c.tale place) c
     rest_aborted None was un = absurd un
     rest_aborted (Some Active) was un = subst (λ o. HasRest rs (after_abort_of s t o) table c.tale c) (sym (not_preparing_too rs opening steps s c h t was)) rest_of_active
     rest_aborted (Some (Preparing e)) was un =
         let x = preparing_there rs opening steps s c h t e was in
-        subst (λ o. HasRest rs (after_abort_of s t o) table (tale_left (Some (Preparing e)) c.tale place) c) (sym x.1) (rest_of_preparing e x.0 x.1)
+        subst (λ o. HasRest rs (after_abort_of s t o) table (tale_left (Some (Preparing e)) Other c.tale place) c) (sym x.1) (rest_of_preparing e x.0 x.1)
     rest_aborted (Some (Committed e)) was un = absurd un
     rest_aborted (Some Aborted) was un = absurd un
 
   -- ---- the core
   module _ (t : TxId) (unended : IsUnended (state_of c.table t.0)) (untold table : Txns (Node KeptTransaction)) (is : untold ≡ txns.table_after_change c.table t.0 Aborted) (told : IsReported (deps.after_dependency_abort t) untold table t) (graph : KeepsGraphAtAbort untold table t) where
-    may : MayCome s (Rollback t.0) Accepted
+    pub may : MayCome s (Rollback t.0) Accepted
     may = (sym (not_undone_is rs opening steps s c h t.0) ∙ may_undo (state_of c.table t.0) unended, tt)
 
     open' : MayAbort (phases_of (state_of c.table)) t.0
@@ -203,9 +204,9 @@ module _ (rs : Readers) (opening : Map) (steps : List Step) (s : State) (c : Cor
     undone : StandsAmong rs opening (steps ++ Aborts t.0 ∷ []) (after_abort s t.0) (record c {
       versions = record c.versions { lists = with_fronts (is_put_by t.0) c.versions.slots c.versions.lists numbers };
       table = table;
-      tale = tale_left (state_of c.table t.0) c.tale (own_place (own_of c.table t.0));
+      tale = tale_left (state_of c.table t.0) Other c.tale (own_place (own_of c.table t.0));
     })
-    undone = stands_then rs opening steps s c h (Rollback t.0) Accepted table (with_fronts (is_put_by t.0) c.versions.slots c.versions.lists numbers) (tale_left (state_of c.table t.0) c.tale (own_place (own_of c.table t.0))) may refl
+    undone = stands_then rs opening steps s c h (Rollback t.0) Accepted table (with_fronts (is_put_by t.0) c.versions.slots c.versions.lists numbers) (tale_left (state_of c.table t.0) Other c.tale (own_place (own_of c.table t.0))) may refl
         (fronts_in_numbers (is_put_by t.0) c.versions.slots c.versions.lists numbers h.versions.numbers)
         (abort_in_table opening steps s c.table untold table t h.versions.kept h.dependencies unended is told graph)
         (abort_in_order opening steps s (state_of c.table) (state_of table) c.versions.slots c.versions.lists c.versions.places t.0 numbers h.versions open'
@@ -217,21 +218,9 @@ module _ (rs : Readers) (opening : Map) (steps : List Step) (s : State) (c : Cor
         (abort_in_lists opening steps s (state_of c.table) c.versions.slots c.versions.lists c.versions.places (words_in c.table) t.0 h.versions open' h.words))
         (rest_aborted t.0 table works (stages_same rs.unfinished c.table table c.tale (λ u. ap reader_in (own_same (deps.after_dependency_abort t) c.table untold table t Aborted is told u)) h.stages) (state_of c.table t.0) refl unended)
 
-    pub stands_undone : (versions : VersionsData) (tale : List TalePlace) → AreInFront (is_put_by t.0) c.versions versions (words_in table t.0) → tale ≡ tale_left (state_of c.table t.0) c.tale (own_place (own_of c.table t.0))
+    pub stands_undone : (versions : VersionsData) (tale : List TalePlace) → AreInFront (is_put_by t.0) c.versions versions (words_in table t.0) → tale ≡ tale_left (state_of c.table t.0) Other c.tale (own_place (own_of c.table t.0))
         → StandsAmong rs opening (steps ++ Aborts t.0 ∷ []) (after_abort s t.0) (record c { versions = versions; table = table; tale = tale })
     stands_undone versions tale front left =
         subst (λ (p : VersionsData × List TalePlace). StandsAmong rs opening (steps ++ Aborts t.0 ∷ []) (after_abort s t.0) (record c { versions = p.0; table = table; tale = p.1 }))
         (λ i. (record { slots = sym front.slots i; lists = sym front.lists i; places = versions.places }, sym left i))
         (stands_by_places rs opening _ _ _ versions.places front.places undone)
-
--- ---- a core stands for the state that the abort leaves
-pub stands_aborted : (opening : Map) (steps : List Step) (s : State) (c : CoreData) (h : StandsFor opening steps s c) (t : TxId) (unended : IsUnended (state_of c.table t.0)) (untold table : Txns (Node KeptTransaction))
-    (is : untold ≡ txns.table_after_change c.table t.0 Aborted) (told : IsReported (deps.after_dependency_abort t) untold table t) (graph : KeepsGraphAtAbort untold table t) → IsClosedAt s.marks.closed s → (versions : VersionsData) (tale : List TalePlace) → AreInFront (is_put_by t.0) c.versions versions (words_in table t.0)
-    → tale ≡ tale_left (state_of c.table t.0) c.tale (own_place (own_of c.table t.0)) → Stands (record c { versions = versions; table = table; tale = tale })
-stands_aborted opening steps s c h t unended untold table is told graph closed versions tale front left = record {
-  opening = opening;
-  steps = steps ++ Aborts t.0 ∷ [];
-  state = after_abort s t.0;
-  stands = stands_undone no_readers opening steps s c h t unended untold table is told graph versions tale front left;
-  closed = still_closed opening steps s (Rollback t.0) Accepted (may no_readers opening steps s c h t unended untold table is told graph) h.versions.kept closed;
-}

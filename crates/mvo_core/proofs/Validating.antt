@@ -57,7 +57,7 @@ failed_by (Some stamp) = refl
 -- it is refused before it is looked whether the entry differs
 pub validate_refused : (rs : Readers) (opening : Map) (steps : List Step) (s : State) (c : CoreData) → StandsAmong rs opening steps s c → (t : ℕ) → stage_of t rs.unfinished ≡ None → (r : Refusal) (new : CoreData) → why_not_preparing c.table t ≡ Some r → IsGivenUp c t r new
     → LeadsAmong rs opening steps s (Validate t) (Refused r) new
-validate_refused rs opening steps s c h t other r new why left = validate_given_up rs opening steps s c new h t r left
+validate_refused rs opening steps s c h t other r new why left = validate_given_up rs opening steps s c new h t other r left
     (sym (not_validated_is rs opening steps s c h t other) ∙ or_first (why_not_preparing c.table t) (next_differs s.stamped (preparing_of t s.stamped)) r why)
 
 module _ (rs : Readers) (opening : Map) (steps : List Step) (s : State) (c : CoreData) (h : StandsAmong rs opening steps s c) where
@@ -156,7 +156,7 @@ module _ (rs : Readers) (opening : Map) (steps : List Step) (s : State) (c : Cor
       -- the entry differs
       pub differs_leads : (stamp : Stamp) (new : CoreData) → Some stamp.0 ≡ change_for (state_of c.table t) (state_of c.table) c.versions t (own_entry (own_of c.table t)) → IsGivenUp c t (ValidationFailed stamp) new
           → LeadsAmong rs opening steps s (Validate t) (Refused (ValidationFailed stamp)) new
-      differs_leads stamp new is left = validate_given_up rs opening steps s c new h t (ValidationFailed stamp) left (why (Some (ValidationFailed stamp)) (named (Some stamp) is))
+      differs_leads stamp new is left = validate_given_up rs opening steps s c new h t other (ValidationFailed stamp) left (why (Some (ValidationFailed stamp)) (named (Some stamp) is))
 
       -- it is as it was
       abbrev last : Bool

@@ -1,5 +1,5 @@
 -- What is written of one transaction.
-use Rattle.std.specs.Prelude.{ℕ, ◌≡◌, ◌+◌, ◌++◌, List, [], ◌∷◌, false, drop, if◌then◌else◌, Option, None, Some}
+use Rattle.std.specs.Prelude.{ℕ, ◌≡◌, ◌+◌, ◌++◌, List, [], ◌∷◌, Bool, true, false, drop, if◌then◌else◌, Option, None, Some}
 use Rattle.mvo_types.specs.declared.ids.TxId.{TxId}
 use Rattle.mvo_types.specs.declared.op.Op.{Op}
 use Rattle.mvo_types.specs.AnswerData.{AnswerData}
@@ -9,6 +9,7 @@ use Rattle.mvo_deps.specs.Nodes.{after_register_all}
 use Rattle.mvo_work.specs.declared.word_place.WordPlace.{WordPlace}
 use Rattle.mvo_work.specs.Work.{HasRoom}
 use Rattle.mvo_core.specs.declared.kept_transaction.KeptTransaction.{KeptTransaction}
+use Rattle.mvo_core.specs.declared.kept_transaction.TransactionKind.{TransactionKind}
 use Rattle.mvo_core.specs.Data.{own_of}
 use Rattle.mvo_core.specs.Own.{is_last_check}
 
@@ -106,6 +107,20 @@ pub record IsCounted (old new : KeptTransaction) : Type 0 where
       new.checked ≡ (if is_last_check old then old.checked else old.checked + 1)
   pub valid : new.valid ≡ is_last_check old
   pub kind : new.kind ≡ old.kind
+
+-- it is read-only, and has ended so
+pub record HasEndedAs (end : TransactionKind) (old new : KeptTransaction) : Type 0 where
+  pub work : new.work ≡ old.work
+  pub place : new.place ≡ old.place
+  pub checked : new.checked ≡ old.checked
+  pub valid : new.valid ≡ old.valid
+  pub kind : new.kind ≡ end
+
+-- so it has if it is read-only
+abbrev pub HasEndedIf : Bool → TransactionKind → Txns (Node KeptTransaction)
+    → Txns (Node KeptTransaction) → ℕ → Type 0
+HasEndedIf true end old new t = IsWritten old new t (HasEndedAs end)
+HasEndedIf false end old new t = new ≡ old
 
 -- with room made for it, it depends on these, and has done one operation more
 pub record IsRecorded (old new : Txns (Node KeptTransaction)) (t : TxId) (ids : List TxId) (op : Op)

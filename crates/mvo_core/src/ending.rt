@@ -1,5 +1,5 @@
 //! How a transaction ends.
-ghost use Rattle.std.specs.Prelude.{◌≡◌, ◌≤◌, [], false, Some, IsSome, IfOk, IfErr, OnOk, OnErr, is_none, length};
+ghost use Rattle.std.specs.Prelude.{◌≡◌, ◌≤◌, [], true, false, Some, IsSome, IfOk, IfErr, OnOk, OnErr, is_none, length};
 ghost use Rattle.mvo_theory.specs.Entries.{written_keys};
 ghost use Rattle.mvo_theory.specs.Told.{history_told};
 ghost use Rattle.mvo_theory.specs.Limits.{AreLimited};
@@ -9,6 +9,7 @@ ghost use Rattle.mvo_deps.specs.Data.{after_dependency_commit};
 ghost use Rattle.mvo_deps.specs.Nodes.{data_of, IsReported};
 ghost use Rattle.mvo_deps.specs.Graph.{KeepsGraphAtCommit};
 ghost use Rattle.mvo_chain.specs.Slots.{version_at};
+ghost use Rattle.mvo_tale.specs.Slots.{ends, AreRising};
 ghost use Rattle.mvo_representation.specs.Words.{ends_of, stamp_in};
 ghost use Rattle.mvo_representation.specs.Table.{phases_of};
 ghost use Rattle.mvo_representation.specs.Order.{is_put_by};
@@ -18,22 +19,24 @@ ghost use Rattle.mvo_core.specs.Standing.{words_in};
 ghost use Rattle.mvo_core.specs.Own.{own_place, own_history};
 ghost use Rattle.mvo_core.specs.Own.{own_check};
 ghost use Rattle.mvo_core.specs.Keeping.{IsWritten, IsWrittenThen, IsPlacedInTale, IsCounted, HasHandedOver};
-ghost use Rattle.mvo_core.specs.Aborting.{HasOpenPlace, tale_left};
+ghost use Rattle.mvo_core.specs.Keeping.{HasEndedIf, HasEndedAs};
+ghost use Rattle.mvo_core.specs.Aborting.{HasOpenPlace, tale_left, has_place, has_reading_place};
+ghost use Rattle.mvo_core.specs.Causes.{kind_kept, is_read_only as is_reader};
 ghost use Rattle.mvo_core.specs.Collecting.{WaitBehind};
 ghost use Rattle.mvo_core.specs.Fronts.{version_passes, comes_at_draw, IsInFrontIf, AreInFront};
 
 use crate::answers::{Settlement, Validation};
 use crate::collecting::await_end;
 use crate::event_core::Core;
-use crate::kept_transaction::{KeptTransaction, Table};
+use crate::kept_transaction::{KeptTransaction, Table, TransactionKind};
 use crate::next_check::{NextCheck, check_next};
 use crate::readiness::{Readiness, readiness_of};
-use crate::refusing::{active, is_failure, not_undone};
+use crate::refusing::{active, is_failure, is_read_only, not_undone};
 use mvo_chain::VersionNo;
 use mvo_collect::Waiting;
-use mvo_deps::{report_abort, report_commit};
+use mvo_deps::{Node, report_abort, report_commit};
 use mvo_tale::{Tale, TaleEntry};
-use mvo_txn::{Located, TxState};
+use mvo_txn::{Located, TableSeat, TxState};
 use mvo_types::{MAX_STAMP, Refusal, Stamp, TxId};
 use mvo_versions::Versions;
 use mvo_visible::{Seen, names, seen_by_others};
@@ -46,6 +49,7 @@ impl Core {
     ghost use Rattle.mvo_txn.specs.Txns.{state_of, IsUnended};
     ghost use Rattle.mvo_core.specs.Steps.{IsStep, IsValidation, IsSettlement};
     ghost use Rattle.mvo_core.specs.Aborting.{MayGiveUp, IsGivenUp, IsAborted};
+    ghost use Rattle.mvo_core.specs.Aborting.{IsReaderGivenUp, IsReaderAborted};
 
     /// Makes an Active transaction Preparing, with the next timestamp as its end, and takes all
     /// memory that its end needs. Refused: NoSuchTransaction, Ended, NotActive, DependencyAborted,
@@ -142,6 +146,7 @@ impl Core {
         requires { MayGiveUp self.old tx.id.0 refusal }
         ensures same { result ≡ refusal }
         ensures left { IsGivenUp self.old tx.id.0 refusal self.new }
+        ensures reader { IsReaderGivenUp self.old tx.id.0 refusal self.new }
     {
         if is_failure(refusal) {
             self.abort(tx);
@@ -153,27 +158,79 @@ impl Core {
     /// are flagged, and what it put comes to the front.
     fn abort(&mut self, tx: Located)
         requires { IsUnended (state_of self.old.table tx.id.0) }
-        ensures { IsAborted self.old tx.id.0 self.new }
+        ensures others { IsAborted self.old tx.id.0 self.new }
+        ensures readers { IsReaderAborted self.old tx.id.0 self.new }
     {
-        leave_tale(&mut self.tale, &self.table, tx);
+        let reads = leave_tale(&mut self.tale, &self.table, tx);
         self.table.abort(tx);
         report_abort(&mut self.table, tx);
         bring_puts(&mut self.versions, &self.table, tx);
+        end_reading(&mut self.table, tx, reads);
     }
 }
 
-/// Empties the place of a Preparing transaction in the tale.
-fn leave_tale(tale: &mut Tale, table: &Table, tx: Located)
-    requires { HasOpenPlace (state_of table.now tx.id.0) tale.old
+/// Empties the place in the tale of a Preparing transaction, or of a read-only one that hasn't
+/// ended, and says whether it is read-only.
+fn leave_tale(tale: &mut Tale, table: &Table, tx: Located) -> bool
+    requires { HasOpenPlace (state_of table.now tx.id.0) (kind_kept (own_of table.now tx.id.0))
+        tale.old (own_place (own_of table.now tx.id.0)) }
+    ensures left { tale.new ≡
+        tale_left (state_of table.now tx.id.0) (kind_kept (own_of table.now tx.id.0)) tale.old
         (own_place (own_of table.now tx.id.0)) }
-    ensures { tale.new ≡
-        tale_left (state_of table.now tx.id.0) tale.old (own_place (own_of table.now tx.id.0)) }
+    ensures reads { result ≡ is_reader (own_of table.now tx.id.0) }
+    ensures rising { AreRising (ends tale.old) }
 {
+    let _ = tale.len();
     let Some(seat) = table.get(tx) else {
-        return;
+        return false;
     };
-    if let TxState::Preparing(_) = seat.state {
+    if has_place(seat) {
         tale.leave(seat.kept.own.place);
+    }
+    is_read_only(seat.kept.own.kind)
+}
+
+/// Whether one has a place in the tale at which no commit is stored.
+fn has_place(seat: &TableSeat<Node<KeptTransaction>>) -> bool
+    ensures { result ≡ has_place (Some seat.now.state) seat.now.kept.own.kind }
+{
+    match seat.state {
+        TxState::Active => has_reading_place(seat.kept.own.kind),
+        TxState::Preparing(_) => true,
+        TxState::Committed(_) => false,
+        TxState::Aborted => false,
+    }
+}
+
+/// Whether one of this kind is read-only and hasn't ended.
+fn has_reading_place(kind: TransactionKind) -> bool
+    ensures { result ≡ has_reading_place kind }
+{
+    match kind {
+        TransactionKind::Reading => true,
+        TransactionKind::Preparing => true,
+        _ => false,
+    }
+}
+
+/// One that is read-only is Aborted.
+fn end_reading(table: &mut Table, tx: Located, reads: bool)
+    requires { reads ≡ true → IsSome (own_of table.old tx.id.0) }
+    ensures { HasEndedIf reads TransactionKind.Aborted table.old table.new tx.id.0 }
+{
+    if reads {
+        end_as(table, tx, TransactionKind::Aborted);
+    }
+}
+
+/// Writes how one that is read-only has ended.
+fn end_as(table: &mut Table, tx: Located, kind: TransactionKind)
+    requires { IsSome (own_of table.old tx.id.0) }
+    ensures { IsWritten table.old table.new tx.id.0 (HasEndedAs kind) }
+{
+    match table.get_mut(tx) {
+        Some(node) => node.own.end_as(kind),
+        None => unreachable!(),
     }
 }
 

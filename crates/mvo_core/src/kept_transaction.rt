@@ -50,7 +50,7 @@ impl KeptTransaction {
     ghost use Rattle.mvo_work.specs.Work.{HasRoom};
     ghost use Rattle.mvo_core.specs.Own.{is_last_check, checked_as};
     ghost use Rattle.mvo_core.specs.Keeping.{IsPlacedInTale, IsCounted, IsTold};
-    ghost use Rattle.mvo_core.specs.Keeping.{HasDoneAsMuch, HasDoneMore};
+    ghost use Rattle.mvo_core.specs.Keeping.{HasDoneAsMuch, HasDoneMore, HasEndedAs};
 
     /// It has this place in the tale, and none of its entries is checked yet.
     pub fn keep_place(&mut self, place: usize)
@@ -59,6 +59,13 @@ impl KeptTransaction {
         self.place = place;
         self.checked = 0;
         self.valid = false;
+    }
+
+    /// It is read-only, and has ended so.
+    pub fn end_as(&mut self, kind: TransactionKind)
+        ensures { HasEndedAs kind self.old self.new }
+    {
+        self.kind = kind;
     }
 
     /// It is told the answer to its operation, or there is no more of it than before.

@@ -34,7 +34,7 @@ returns-in-Some-clause-step c = λ opening steps s h.
     subst (λ r. LeadsOn opening steps s (Do c.args.tx.0 (Delete c.args.key)) (Refused r) c.give_up.new.self) (sym c.give_up.ensures.same)
     (delete_refused no_readers opening steps s c.args.self.now h c.args.tx c.args.key refl c.in-Some.refusal
     (ap (λ (x : CoreData). why_not_remove x.table c.args.tx.0 c.args.key) (sym c.self.view_is) ∙ sym c.not_removed.ensures ∙ c.in-Some.is) c.give_up.new.self
-    (c.give_up.ensures.left no_readers opening steps s h))
+    (c.give_up.ensures.left no_readers opening steps s refl h))
 
 pub give_up-requires-in-Some-in_the_way : goal.give_up-requires-in-Some-in_the_way
 give_up-requires-in-Some-in_the_way c = λ _.
@@ -47,7 +47,7 @@ returns-in-Some-in_the_way-clause-step c = λ opening steps s h.
     let old : CoreData = core_data f in
     subst (λ r. LeadsOn opening steps s (Do c.args.tx.0 (Delete c.args.key)) (Refused r) c.give_up-in-Some-in_the_way.new.self) (sym c.give_up-in-Some-in_the_way.ensures.same)
     (delete_conflicts no_readers opening steps s old (subst (StandsFor opening steps s) (sym c.self.view_is) h) c.args.tx c.args.key refl (sym c.not_removed.ensures ∙ c.in_default.is) c.shown-found.result c.shown-found.ensures c.in-Some-in_the_way.cause (sym c.in_the_way.ensures ∙ c.in-Some-in_the_way.is)
-    c.give_up-in-Some-in_the_way.new.self (c.give_up-in-Some-in_the_way.ensures.left no_readers opening steps s h))
+    c.give_up-in-Some-in_the_way.new.self (c.give_up-in-Some-in_the_way.ensures.left no_readers opening steps s refl h))
 
 pub record_answer-requires-clause-there : goal.record_answer-requires-clause-there
 record_answer-requires-clause-there c =

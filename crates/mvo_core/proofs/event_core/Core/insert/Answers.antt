@@ -26,7 +26,7 @@ returns-in-Some-clause-step c = λ opening steps s h.
     subst (λ r. LeadsOn opening steps s (Do c.args.tx.0 (Insert c.args.row)) (Refused r) c.give_up.new.self) (sym c.give_up.ensures.same)
     (insert_refused no_readers opening steps s c.args.self.now h c.args.tx c.args.row refl c.in-Some.refusal
     (ap (λ (x : CoreData). why_not_put x.table c.args.tx.0 c.args.row) (sym c.self.view_is) ∙ sym c.not_put.ensures ∙ c.in-Some.is) c.give_up.new.self
-    (c.give_up.ensures.left no_readers opening steps s h))
+    (c.give_up.ensures.left no_readers opening steps s refl h))
 
 pub invariant_of-self : goal.invariant_of-self
 invariant_of-self c =

@@ -1,4 +1,4 @@
-use Rattle.std.proofs.Common.{sym, ap, ◌∙◌, subst}
+use Rattle.std.proofs.Common.{sym, ap, ◌∙◌, subst, refl}
 use Rattle.mvo_types.specs.declared.op.Op.TheVariants.{Read}
 use Rattle.mvo_types.specs.declared.refusal.Refusal.TheVariants.{OutOfMemory}
 use Rattle.mvo_theory.specs.Calls.Call.{Do}
@@ -22,7 +22,7 @@ returns-in-Some-clause-step c = λ opening steps s h.
     subst (λ r. LeadsOn opening steps s (Do c.args.tx.0 (Read c.args.key)) (Refused r) c.give_up.new.self) (sym c.give_up.ensures.same)
     (read_refused no_readers opening steps s c.args.self.now h c.args.tx c.args.key tt c.in-Some.refusal
     (ap (λ (x : CoreData). why_not_look x.table c.args.tx.0 c.args.key.table (Key c.args.key)) (sym c.self.view_is) ∙ sym c.not_looked.ensures ∙ c.in-Some.is) c.give_up.new.self
-    (c.give_up.ensures.left no_readers opening steps s h))
+    (c.give_up.ensures.left no_readers opening steps s refl h))
 
 pub returns-in_err-row-clause-step : goal.returns-in_err-row-clause-step
 returns-in_err-row-clause-step c = λ opening steps s h.

@@ -1,4 +1,4 @@
-use Rattle.std.proofs.Common.{sym, ap, ◌∙◌}
+use Rattle.std.proofs.Common.{sym, ap, ◌∙◌, refl}
 use Rattle.mvo_txn.specs.Txns.{state_of}
 use Rattle.mvo_core.specs.Readers.{no_readers}
 use Rattle.mvo_core.specs.Data.{CoreData}
@@ -10,5 +10,5 @@ pub returns : goal.returns
 returns c = record {
   step = λ opening steps s h.
       let none = ap (λ (v : CoreData). why_not_undo (state_of v.table c.args.tx.0)) (sym c.self.view_is) ∙ sym c.not_undone.ensures ∙ c.in_default.is in
-      rolled_back no_readers opening steps s c.args.self.now c.abort.new.self h c.args.tx.0 none c.abort.ensures;
+      rolled_back no_readers opening steps s c.args.self.now c.abort.new.self h c.args.tx.0 refl none c.abort.ensures.others;
 }

@@ -1,4 +1,4 @@
-use Rattle.std.proofs.Common.{sym, ap, ◌∙◌, subst}
+use Rattle.std.proofs.Common.{sym, ap, ◌∙◌, subst, refl}
 use Rattle.mvo_types.specs.declared.op.Op.TheVariants.{Scan}
 use Rattle.mvo_types.specs.declared.refusal.Refusal.TheVariants.{OutOfMemory}
 use Rattle.mvo_theory.specs.Calls.Call.{Do}
@@ -23,7 +23,7 @@ returns-in-Some-clause-step c = λ opening steps s h.
     subst (λ r. LeadsOn opening steps s (Do c.args.tx.0 (Scan c.args.table c.args.lo c.args.hi)) (Refused r) c.give_up.new.self) (sym c.give_up.ensures.same)
     (scan_refused no_readers opening steps s c.args.self.now h c.args.tx c.args.table c.args.lo c.args.hi tt c.in-Some.refusal
     (ap (λ (x : CoreData). why_not_look x.table c.args.tx.0 c.args.table (Range c.args.table c.args.lo c.args.hi)) (sym c.self.view_is) ∙ sym c.not_looked.ensures ∙ c.in-Some.is) c.give_up.new.self
-    (c.give_up.ensures.left no_readers opening steps s h))
+    (c.give_up.ensures.left no_readers opening steps s refl h))
 
 pub returns-in_err-scanned-clause-step : goal.returns-in_err-scanned-clause-step
 returns-in_err-scanned-clause-step c = λ opening steps s h.

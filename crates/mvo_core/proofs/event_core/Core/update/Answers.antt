@@ -35,7 +35,7 @@ returns-in-Some-clause-step c = λ opening steps s h.
     subst (λ r. LeadsOn opening steps s (Do c.args.tx.0 (Update c.args.row)) (Refused r) c.give_up.new.self) (sym c.give_up.ensures.same)
     (update_refused no_readers opening steps s c.args.self.now h c.args.tx c.args.row refl c.in-Some.refusal
     (ap (λ (x : CoreData). why_not_put x.table c.args.tx.0 c.args.row) (sym c.self.view_is) ∙ sym c.not_put.ensures ∙ c.in-Some.is) c.give_up.new.self
-    (c.give_up.ensures.left no_readers opening steps s h))
+    (c.give_up.ensures.left no_readers opening steps s refl h))
 
 pub give_up-requires-in-Some-in_the_way : goal.give_up-requires-in-Some-in_the_way
 give_up-requires-in-Some-in_the_way c = λ _.
@@ -49,7 +49,7 @@ returns-in-Some-in_the_way-clause-step c = λ opening steps s h.
     let is = subst (λ k. AreVersionsInOrder (state_of f.table) c.args.tx.0 c.args.tx.0 (versions_at f.versions.slots f.versions.lists k) → c.shown-found.result ≡ shown_in old c.args.tx.0 k) c.row_key-key.ensures c.shown-found.ensures in
     subst (λ r. LeadsOn opening steps s (Do c.args.tx.0 (Update c.args.row)) (Refused r) c.give_up-in-Some-in_the_way.new.self) (sym c.give_up-in-Some-in_the_way.ensures.same)
     (update_conflicts no_readers opening steps s old (subst (StandsFor opening steps s) (sym c.self.view_is) h) c.args.tx c.args.row refl (sym c.not_put.ensures ∙ c.in_default.is) c.shown-found.result is c.in-Some-in_the_way.cause (sym c.in_the_way.ensures ∙ c.in-Some-in_the_way.is)
-    c.give_up-in-Some-in_the_way.new.self (c.give_up-in-Some-in_the_way.ensures.left no_readers opening steps s h))
+    c.give_up-in-Some-in_the_way.new.self (c.give_up-in-Some-in_the_way.ensures.left no_readers opening steps s refl h))
 
 pub record_answer-requires-clause-there : goal.record_answer-requires-clause-there
 record_answer-requires-clause-there c =
