@@ -23,5 +23,7 @@ pub mod ReaderCauses
 pub mod Trims
 pub mod Examples
 pub mod rests
+pub mod Gone
 pub mod WholeCounts
 pub mod WholeJustified
+pub mod ReaderJustified

@@ -8,16 +8,15 @@ use Rattle.mvo_types.specs.declared.refusal.Refusal.{Refusal}
 use Rattle.mvo_types.specs.declared.refusal.Refusal.TheVariants.{NoSuchTransaction, Ended, NotActive, NotPreparing, NotEnded}
 use Rattle.mvo_types.specs.Causes.{first_cause, when}
 use Rattle.mvo_types.specs.Keys.{Map}
-use Rattle.mvo_model.specs.Trace.{Step, Phase, owner_of, phase_after, phase_from, phase_of, history_of}
+use Rattle.mvo_model.specs.Trace.{Step, Phase, owner_of, phase_of, history_of}
 use Rattle.mvo_model.specs.Trace.Step.{Begins, Answers, Prepares, Checks, Commits, Aborts, Terminates}
-use Rattle.mvo_model.specs.Trace.Phase.{Absent, Active as IsActive, Aborted as IsAborted}
+use Rattle.mvo_model.specs.Trace.Phase.{Active as IsActive}
 use Rattle.mvo_theory.specs.Entries.{entries}
 use Rattle.mvo_theory.specs.State.{State, StampedTx, history_of_active}
 use Rattle.mvo_theory.specs.Phases.{phase_in, is_absent, is_active, is_preparing}
 use Rattle.mvo_theory.specs.Causes.{is_failure, why_not_finish}
 use Rattle.mvo_theory.specs.Snapshots.{is_aborted}
 use Rattle.mvo_theory.specs.Sound.{how_many}
-use Rattle.mvo_theory.specs.Traced.{is_abort_of}
 use Rattle.mvo_theory.specs.Words.{is_done}
 use Rattle.mvo_theory.specs.Steps.{steps_of_refusal}
 use Rattle.mvo_theory.specs.Calls.{Call, Result, Run, MayRun, after_call, after_run, answer_in, steps_of, trace_of, IsKept}
@@ -26,7 +25,6 @@ use Rattle.mvo_theory.specs.Calls.Result.{Accepted, Refused}
 use Rattle.mvo_theory.specs.Counts.{is_draw, is_begin, is_finish, is_check_of, checks_in, is_validated}
 use Rattle.mvo_theory.specs.Counted.{HasCounts}
 use Rattle.mvo_theory.proofs.Each.{each_weaker, each_append}
-use Rattle.mvo_theory.proofs.Footprints.{or_left, or_right}
 use Rattle.mvo_theory.proofs.Counting.{counted_opened, counted_after_call}
 use Rattle.mvo_theory.proofs.Conflicting.{told_so}
 use Rattle.mvo_theory.proofs.Runs.{kept_after_call}
@@ -43,6 +41,7 @@ use Rattle.mvo_readonly.proofs.Stages.{staged, core_stands, found_active, not_it
 use Rattle.mvo_readonly.proofs.ReaderCalls.{in_core, unstaged_without}
 use Rattle.mvo_readonly.proofs.WholeRuns.{unstaged_front}
 use Rattle.mvo_readonly.proofs.CoreRuns.{may_core}
+use Rattle.mvo_readonly.proofs.Gone.{is_gone}
 
 -- ---- a count over steps behind steps
 count_both : (p : Step → Bool) (xs ys : List Step) → how_many p (xs ++ ys) ≡ how_many p xs + how_many p ys
@@ -113,39 +112,6 @@ call_counts p w (CoreCall c) r n = go (stage_named w.readers (id_named c)) refl
     go : (q : Option ReaderStage) → stage_named w.readers (id_named c) ≡ q → how_many p (steps_at_stage w.core c r q) ≡ how_many p (trace_of w.core (core_at_stage w.core c r q))
     go None e = other_counts p w.core c r
     go (Some q) e = reader_counts p w.core c r (λ t i. n t q (subst (λ (o : Option ℕ). stage_named w.readers o ≡ Some q) i e))
-
--- ---- one that was aborted
-pub aborted_in : (u : ℕ) (p : Phase) (xs : List Step) → phase_from p u xs ≡ IsAborted → (p ≡ IsAborted) ⊎ (is_aborted u xs ≡ true)
-aborted_in u p [] e = inl e
-aborted_in u p (x ∷ xs) e = go (aborted_in u (cond (owner_of x == u) (phase_after x p) p) xs e)
-  where
-    owned : (y : Step) → (owner_of y == u) ≡ true → phase_after y p ≡ IsAborted → (p ≡ IsAborted) ⊎ (is_abort_of u y ≡ true)
-    owned (Begins v) f q = absurd cc
-    owned (Answers v op s) f q = inl q
-    owned (Prepares v n) f q = absurd cc
-    owned (Checks v) f q = inl q
-    owned (Commits v n) f q = absurd cc
-    owned (Aborts v) f q = inr f
-    owned (Terminates v) f q = absurd cc
-
-    now : (b : Bool) → (owner_of x == u) ≡ b → cond b (phase_after x p) p ≡ IsAborted → (p ≡ IsAborted) ⊎ (is_abort_of u x ≡ true)
-    now true f q = owned x f q
-    now false f q = inl q
-
-    put : (p ≡ IsAborted) ⊎ (is_abort_of u x ≡ true) → (p ≡ IsAborted) ⊎ (is_aborted u (x ∷ xs) ≡ true)
-    put (inl q) = inl q
-    put (inr q) = inr (or_left (is_abort_of u x) (is_aborted u xs) q)
-
-    go : (cond (owner_of x == u) (phase_after x p) p ≡ IsAborted) ⊎ (is_aborted u xs ≡ true) → (p ≡ IsAborted) ⊎ (is_aborted u (x ∷ xs) ≡ true)
-    go (inl q) = put (now (owner_of x == u) refl q)
-    go (inr q) = inr (or_right (is_abort_of u x) (is_aborted u xs) q)
-
-pub is_gone : (u : ℕ) (xs : List Step) → phase_of u xs ≡ IsAborted → is_aborted u xs ≡ true
-is_gone u xs e = go (aborted_in u Absent xs e)
-  where
-    go : (Absent ≡ IsAborted) ⊎ (is_aborted u xs ≡ true) → is_aborted u xs ≡ true
-    go (inl q) = absurd cc
-    go (inr q) = q
 
 -- ---- a read-only transaction leaves the unfinished ones by its finishing alone
 left_failed : (u t : ℕ) (q : Refusal) (rs : List UnfinishedReader) → stage_of u (readers_failed t q rs) ≡ None → stage_of u rs ≡ None

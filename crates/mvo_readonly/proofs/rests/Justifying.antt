@@ -22,7 +22,8 @@ use Rattle.mvo_readonly.specs.rests.Laws.{IsJustifiedAtStage, IsWholeJustified, 
 use Rattle.mvo_readonly.proofs.Snapshots.{snapshots_whole, prints_whole}
 use Rattle.mvo_readonly.proofs.Flags.{are_traced}
 use Rattle.mvo_readonly.proofs.Claims.{are_claimed}
-use Rattle.mvo_readonly.proofs.WholeJustified.{other_justified, begin_justified, reader_justified}
+use Rattle.mvo_readonly.proofs.WholeJustified.{other_justified, begin_justified}
+use Rattle.mvo_readonly.proofs.ReaderJustified.{reader_justified}
 use Rattle.mvo_readonly.proofs.rests.Telling.{other_tells, other_settles, reader_tells, reader_settles}
 
 module _ (a o : Course) (w : WholeState) (f : IsFollowed a o w) where

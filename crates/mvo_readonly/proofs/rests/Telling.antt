@@ -36,7 +36,7 @@ use Rattle.mvo_readonly.specs.rests.Followed.{IsFollowed}
 use Rattle.mvo_readonly.proofs.Others.{may_come}
 use Rattle.mvo_readonly.proofs.Stages.{found_active, may_settle}
 use Rattle.mvo_readonly.proofs.ReaderCalls.{in_core}
-use Rattle.mvo_readonly.proofs.WholeJustified.{at_when, at_flag, at_end, by_memory, by_cause, reads_alone}
+use Rattle.mvo_readonly.proofs.ReaderJustified.{at_when, at_flag, at_end, by_memory, by_cause, reads_alone}
 use Rattle.mvo_readonly.proofs.rests.Joint.{rests_own, rests_whole}
 use Rattle.mvo_readonly.proofs.rests.Waiting.{rested_prepared, first_awaited_whole, awaits_none_whole, none_aborted_whole}
 
