@@ -29,6 +29,7 @@ pub mod ReaderTales
 pub mod ReaderStages
 pub mod ReaderOwn
 pub mod ReaderAborted
+pub mod WholeCalled
 pub mod OthersLead
 pub mod ReadersMoved
 pub mod ReaderBegins
