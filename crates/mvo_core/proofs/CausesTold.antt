@@ -42,7 +42,7 @@ pub or_next_deep : (a b c : Option Refusal) → or_next (or_next a b) c ≡ or_n
 or_next_deep None b c = refl
 or_next_deep (Some r) b c = refl
 
-first_append : (xs ys : List (Option Refusal)) → first_cause (xs ++ ys) ≡ or_next (first_cause xs) (first_cause ys)
+pub first_append : (xs ys : List (Option Refusal)) → first_cause (xs ++ ys) ≡ or_next (first_cause xs) (first_cause ys)
 first_append [] ys = refl
 first_append (x ∷ xs) ys = ap (or_next x) (first_append xs ys) ∙ sym (or_next_deep x (first_cause xs) (first_cause ys))
 
@@ -59,7 +59,7 @@ pub some_none : (r : Refusal) → ◌≡◌ {A = Option Refusal} (Some r) None �
 some_none r q = cc
 
 -- ---- who may not be called so
-flag_same : (flag : Option TxId) → flag_refusal flag ≡ or_next (flagged (option_map (λ by. by.0) flag)) None
+pub flag_same : (flag : Option TxId) → flag_refusal flag ≡ or_next (flagged (option_map (λ by. by.0) flag)) None
 flag_same None = refl
 flag_same (Some id) = refl
 

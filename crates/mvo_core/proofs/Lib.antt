@@ -29,7 +29,9 @@ pub mod ReaderTales
 pub mod ReaderStages
 pub mod ReaderOwn
 pub mod ReaderAborted
+pub mod ReaderCalled
 pub mod WholeCalled
+pub mod WholePrecommits
 pub mod OthersLead
 pub mod ReadersMoved
 pub mod ReaderBegins

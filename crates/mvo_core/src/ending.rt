@@ -19,7 +19,7 @@ ghost use Rattle.mvo_core.specs.Standing.{words_in};
 ghost use Rattle.mvo_core.specs.Own.{own_place, own_history};
 ghost use Rattle.mvo_core.specs.Own.{own_check};
 ghost use Rattle.mvo_core.specs.Keeping.{IsWritten, IsWrittenThen, IsPlacedInTale, IsCounted, HasHandedOver};
-ghost use Rattle.mvo_core.specs.Keeping.{HasEndedIf, HasEndedAs};
+ghost use Rattle.mvo_core.specs.Keeping.{HasEndedIf, HasEndedAs, HasStartedChecks};
 ghost use Rattle.mvo_core.specs.Aborting.{HasOpenPlace, tale_left, has_place, has_reading_place};
 ghost use Rattle.mvo_core.specs.Causes.{kind_kept, is_read_only as is_reader};
 ghost use Rattle.mvo_core.specs.Collecting.{WaitBehind};
@@ -48,6 +48,7 @@ impl Core {
     ghost use Rattle.mvo_theory.specs.Calls.Call.{Precommit, Validate, Settle, Rollback};
     ghost use Rattle.mvo_txn.specs.Txns.{state_of, IsUnended};
     ghost use Rattle.mvo_core.specs.Steps.{IsStep, IsValidation, IsSettlement};
+    ghost use Rattle.mvo_core.specs.WholeStanding.{IsWholeStep};
     ghost use Rattle.mvo_core.specs.Aborting.{MayGiveUp, IsGivenUp, IsAborted};
     ghost use Rattle.mvo_core.specs.Aborting.{IsReaderGivenUp, IsReaderAborted};
 
@@ -57,12 +58,16 @@ impl Core {
     pub fn precommit(&mut self, tx: TxId) -> Result<Stamp, Refusal>
         ensures step { IsStep self.old (Precommit tx.0) result self.new }
         ensures end { IfOk result (λ e. e.0 ≡ self.old.table.clock + 1) }
+        ensures whole { IsWholeStep self.old (Precommit tx.0) result self.new }
     {
         let seat = self.table.seat_of(tx);
         let tx = Located { id: tx, seat };
-        let (refusal, count) = active(&self.table, tx);
+        let (refusal, count, reads) = active(&self.table, tx);
         if let Some(refusal) = refusal {
             return Err(self.give_up(tx, refusal));
+        }
+        if reads {
+            return Ok(start_checks(&mut self.table, &self.tale, tx));
         }
         let clock = self.table.clock().0;
         if clock >= MAX_STAMP {
@@ -247,6 +252,29 @@ fn prepare(table: &mut Table, tx: Located, place: usize, end: Stamp) -> Result<S
     let node = table.prepare(tx)?;
     node.own.keep_place(place);
     Ok(end)
+}
+
+/// Makes a read-only transaction Preparing, and answers its begin, which is its end.
+fn start_checks(table: &mut Table, tale: &Tale, tx: Located) -> Stamp
+    requires { IsSome (own_of table.old tx.id.0) }
+    ensures end { result.0 ≡ tx.id.0 }
+    ensures started { IsWritten table.old table.new tx.id.0 HasStartedChecks }
+    ensures rising { AreRising (ends tale.now) }
+{
+    let _ = tale.len();
+    begin_checks(table, tx);
+    Stamp(tx.id.0)
+}
+
+/// Does so by one look. None of its entries is checked yet.
+fn begin_checks(table: &mut Table, tx: Located)
+    requires { IsSome (own_of table.old tx.id.0) }
+    ensures { IsWritten table.old table.new tx.id.0 HasStartedChecks }
+{
+    match table.get_mut(tx) {
+        Some(node) => node.own.start_checks(),
+        None => unreachable!(),
+    }
 }
 
 /// Counts a check, and says whether an entry is left.

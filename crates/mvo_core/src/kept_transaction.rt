@@ -50,13 +50,22 @@ impl KeptTransaction {
     ghost use Rattle.mvo_work.specs.Work.{HasRoom};
     ghost use Rattle.mvo_core.specs.Own.{is_last_check, checked_as};
     ghost use Rattle.mvo_core.specs.Keeping.{IsPlacedInTale, IsCounted, IsTold};
-    ghost use Rattle.mvo_core.specs.Keeping.{HasDoneAsMuch, HasDoneMore, HasEndedAs};
+    ghost use Rattle.mvo_core.specs.Keeping.{HasDoneAsMuch, HasDoneMore, HasEndedAs, HasStartedChecks};
 
     /// It has this place in the tale, and none of its entries is checked yet.
     pub fn keep_place(&mut self, place: usize)
         ensures { IsPlacedInTale place self.old self.new }
     {
         self.place = place;
+        self.checked = 0;
+        self.valid = false;
+    }
+
+    /// It is read-only, and its checks begin: none of its entries is checked yet.
+    pub fn start_checks(&mut self)
+        ensures { HasStartedChecks self.old self.new }
+    {
+        self.kind = TransactionKind::Preparing;
         self.checked = 0;
         self.valid = false;
     }
