@@ -32,6 +32,8 @@ pub mod ReaderAborted
 pub mod ReaderCalled
 pub mod WholeCalled
 pub mod WholePrecommits
+pub mod ReaderChecks
+pub mod WholeChecks
 pub mod OthersLead
 pub mod ReadersMoved
 pub mod ReaderBegins

@@ -8,13 +8,14 @@ use Rattle.mvo_types.specs.declared.refusal.Refusal.{Refusal}
 use Rattle.mvo_types.specs.declared.refusal.Refusal.TheVariants.{Ended, NotActive, NotPreparing, NotValidated}
 use Rattle.mvo_types.specs.Causes.{first_cause, or_next, when}
 use Rattle.mvo_types.specs.Keys.{Map}
-use Rattle.mvo_model.specs.Trace.{Step, Phase}
+use Rattle.mvo_model.specs.Trace.{Step, Phase, phase_of}
 use Rattle.mvo_model.specs.Trace.Step.{Aborts}
 use Rattle.mvo_model.specs.Trace.Phase.{Active as ActivePhase, Aborted as AbortedPhase}
 use Rattle.mvo_theory.specs.State.{State}
 use Rattle.mvo_theory.specs.Causes.{flagged, is_failure}
 use Rattle.mvo_theory.specs.Phases.{is_active, is_preparing, is_ended}
 use Rattle.mvo_theory.specs.Steps.{after_abort}
+use Rattle.mvo_theory.proofs.Each.{each_weaker}
 use Rattle.mvo_theory.specs.Calls.{Call, Run, IsRefusal, trace_of, after_run}
 use Rattle.mvo_theory.specs.Calls.Call.{Precommit, Validate, Settle}
 use Rattle.mvo_theory.specs.Calls.Result.{Accepted, Refused}
@@ -23,17 +24,17 @@ use Rattle.mvo_readonly.specs.Whole.ReaderStage.{Reading as IsReading, Preparing
 use Rattle.mvo_readonly.specs.WholeCauses.{MayComeWhole, MayComeAtStage, flag_of_reader, unless_reading, unless_prepared, why_not_reader, is_valid_stage}
 use Rattle.mvo_readonly.specs.WholeCauses.WholeCall.{CoreCall}
 use Rattle.mvo_readonly.specs.WholeCalls.{rolled_back, core_failed, core_refused, core_at_stage, core_calls, with_stage, readers_failed, readers_refused, readers_at_stage, readers_after, committed_at_stage, committed_after, after_whole_call}
-use Rattle.mvo_readonly.specs.WholeKept.{core_phase}
+use Rattle.mvo_readonly.specs.WholeKept.{core_phase, IsUnfinishedReader}
 use Rattle.mvo_readonly.proofs.ReaderCalls.{in_core}
-use Rattle.mvo_readonly.proofs.Stages.{may_prepare, may_fail_precommit, may_fail_validate, may_fail_settle}
+use Rattle.mvo_readonly.proofs.Stages.{core_stands, may_prepare, may_fail_precommit, may_fail_validate, may_fail_settle}
 use Rattle.mvo_readonly.proofs.WholeRuns.{whole_after_call}
 use Rattle.mvo_txn.specs.declared.state.TxState.{TxState}
 use Rattle.mvo_txn.specs.declared.state.TxState.TheVariants.{Active, Preparing, Committed, Aborted}
 use Rattle.mvo_txn.specs.Txns.{Txns, state_of}
 use Rattle.mvo_deps.specs.declared.node.Node.{Node}
-use Rattle.mvo_tale.specs.Slots.{ends, AreRising, reading_begin_at}
+use Rattle.mvo_tale.specs.Slots.{reading_begin_at}
 use Rattle.mvo_tale.specs.WholePlaces.{has_ended, HasReaders}
-use Rattle.mvo_tale.proofs.ReaderPlaces.{reader_calls_keep}
+use Rattle.mvo_tale.proofs.WholePlaces.{whole_staged}
 use Rattle.mvo_representation.specs.Table.{phase_as}
 use Rattle.mvo_core.specs.declared.kept_transaction.KeptTransaction.{KeptTransaction}
 use Rattle.mvo_core.specs.Aborting.{IsReaderGivenUp}
@@ -108,7 +109,7 @@ module _ (opening : Map) (steps own : List Step) (w : WholeState) (c : CoreData)
   phase_is : phase_as (state_of c.table t) ≡ core_phase p
   phase_is = h.core.dependencies.stands.phases t ∙ in_core opening steps own w t p is h.kept
 
-  state_is : state_of c.table t ≡ Some (core_state p)
+  pub state_is : state_of c.table t ≡ Some (core_state p)
   state_is = stands_at p (state_of c.table t) phase_is
 
   pub kept_is : IsOwnOfReader c.tale t (own_of c.table t) p
@@ -125,6 +126,15 @@ module _ (opening : Map) (steps own : List Step) (w : WholeState) (c : CoreData)
 
   pub not_preparing : why_not_preparing c.table t ≡ first_cause (unless_prepared w.core t p)
   not_preparing = (λ i. unless_preparing_as (state_is i) (kind_is i) (flag_of c.table t)) ∙ prepared_causes t p (flag_of c.table t) (flag_of_reader w.core t) flag_is
+
+  -- none that has its id has ended
+  going : core_phase p ≡ ActivePhase → AllByRecursion (λ r. r.id ≡ t → has_ended r.stage ≡ false) w.readers
+  going e = each_weaker (IsUnfinishedReader steps own w.core) (λ r. r.id ≡ t → has_ended r.stage ≡ false)
+      (λ r q i. going_on r.stage (sym q.stands ∙ ap (λ (n : ℕ). phase_of n own) i ∙ (core_stands steps own w.core t w.readers p is h.kept.readers).0 ∙ e)) w.readers h.kept.readers
+
+  -- its place stays as its checks begin, and as its entries are counted
+  pub staged : core_phase p ≡ ActivePhase → (n : ℕ) (v : Bool) → HasReaders w.core.start (with_stage t (IsPreparing n v) w.readers) w.committed_readers c.tale
+  staged e n v = (whole_staged w t n v c.tale (going e) (record { others = h.core.tale; readers = h.core.places.readers })).readers
 
   -- ---- it is refused
   given_up_stands : (r : Refusal) (new : CoreData) → IsReaderGivenUp c t r new → (is_failure r ≡ true → core_phase p ≡ ActivePhase)
@@ -170,7 +180,7 @@ module _ (opening : Map) (steps own : List Step) (w : WholeState) (c : CoreData)
       given_up (Settle t) r new is refl refl m (may_fail_settle w t p r m) left
 
   -- ---- it prepares
-  module _ (table : Txns (Node KeptTransaction)) (written : IsWritten c.table table t HasStartedChecks) (none : why_not_active c.table t ≡ None) (rising : AreRising (ends c.tale)) where
+  module _ (table : Txns (Node KeptTransaction)) (written : IsWritten c.table table t HasStartedChecks) (none : why_not_active c.table t ≡ None) where
     change : IsOwnChanged c.table table t HasStartedChecks
     change = own_changed c.table table t HasStartedChecks written
 
@@ -186,9 +196,6 @@ module _ (opening : Map) (steps own : List Step) (w : WholeState) (c : CoreData)
     free : why_not_reader w.core p (Precommit t) ≡ None
     free = sym not_active ∙ none
 
-    at_place : has_ended p ≡ false → reading_begin_at c.tale (own_place (own_of c.table t)) ≡ Some t
-    at_place e = ap (λ o. reading_begin_at c.tale (own_place o)) kept_is.kept ∙ kept_is.place e
-
     may : MayComeAtStage w (Precommit t) (Some p) Accepted
     may = (free, tt)
 
@@ -196,9 +203,8 @@ module _ (opening : Map) (steps own : List Step) (w : WholeState) (c : CoreData)
     nothing = ap (core_at_stage w.core (Precommit t) Accepted) is
 
     readers : HasReaders w.core.start (readers_after w (CoreCall (Precommit t)) Accepted) (committed_after w (CoreCall (Precommit t)) Accepted) c.tale
-    readers =
-        subst (λ (xs : Run). HasReaders (after_run w.core xs).start (readers_after w (CoreCall (Precommit t)) Accepted) (committed_after w (CoreCall (Precommit t)) Accepted) c.tale) nothing
-        (reader_calls_keep opening steps own w (Precommit t) Accepted p (own_place (own_of c.table t)) c.tale h.kept is may rising at_place (record { others = h.core.tale; readers = h.core.places.readers })).readers
+    readers = subst (λ (o : Option ReaderStage). HasReaders w.core.start (readers_at_stage w.core (Precommit t) Accepted o w.readers) (committed_at_stage w.core (Precommit t) Accepted o w.committed_readers) c.tale) (sym is)
+        (staged (may_prepare w.core t p free) 0 false)
 
     own_is : change.before ≡ kept_is.own
     own_is = some_own change.before kept_is.own (sym change.was ∙ kept_is.kept)

@@ -9,6 +9,7 @@ pub mod Standing
 pub mod View
 pub mod Steps
 pub mod WholeStanding
+pub mod WholeAnswers
 pub mod Own
 pub mod Keeping
 pub mod Closing

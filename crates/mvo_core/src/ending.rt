@@ -49,6 +49,7 @@ impl Core {
     ghost use Rattle.mvo_txn.specs.Txns.{state_of, IsUnended};
     ghost use Rattle.mvo_core.specs.Steps.{IsStep, IsValidation, IsSettlement};
     ghost use Rattle.mvo_core.specs.WholeStanding.{IsWholeStep};
+    ghost use Rattle.mvo_core.specs.WholeAnswers.{IsWholeEnd, IsWholeValidation};
     ghost use Rattle.mvo_core.specs.Aborting.{MayGiveUp, IsGivenUp, IsAborted};
     ghost use Rattle.mvo_core.specs.Aborting.{IsReaderGivenUp, IsReaderAborted};
 
@@ -59,6 +60,7 @@ impl Core {
         ensures step { IsStep self.old (Precommit tx.0) result self.new }
         ensures end { IfOk result (λ e. e.0 ≡ self.old.table.clock + 1) }
         ensures whole { IsWholeStep self.old (Precommit tx.0) result self.new }
+        ensures whole_end { IfOk result (IsWholeEnd self.old tx.0) }
     {
         let seat = self.table.seat_of(tx);
         let tx = Located { id: tx, seat };
@@ -67,7 +69,7 @@ impl Core {
             return Err(self.give_up(tx, refusal));
         }
         if reads {
-            return Ok(start_checks(&mut self.table, &self.tale, tx));
+            return Ok(start_checks(&mut self.table, tx));
         }
         let clock = self.table.clock().0;
         if clock >= MAX_STAMP {
@@ -93,6 +95,8 @@ impl Core {
     pub fn validate_one(&mut self, tx: TxId) -> Result<Validation, Refusal>
         ensures step { IsStep self.old (Validate tx.0) result self.new }
         ensures answer { IfOk result (IsValidation self.old tx.0) }
+        ensures whole { IsWholeStep self.old (Validate tx.0) result self.new }
+        ensures whole_answer { IfOk result (IsWholeValidation self.old tx.0) }
     {
         let seat = self.table.seat_of(tx);
         let tx = Located { id: tx, seat };
@@ -255,13 +259,11 @@ fn prepare(table: &mut Table, tx: Located, place: usize, end: Stamp) -> Result<S
 }
 
 /// Makes a read-only transaction Preparing, and answers its begin, which is its end.
-fn start_checks(table: &mut Table, tale: &Tale, tx: Located) -> Stamp
+fn start_checks(table: &mut Table, tx: Located) -> Stamp
     requires { IsSome (own_of table.old tx.id.0) }
     ensures end { result.0 ≡ tx.id.0 }
     ensures started { IsWritten table.old table.new tx.id.0 HasStartedChecks }
-    ensures rising { AreRising (ends tale.now) }
 {
-    let _ = tale.len();
     begin_checks(table, tx);
     Stamp(tx.id.0)
 }

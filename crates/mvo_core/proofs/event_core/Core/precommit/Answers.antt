@@ -199,4 +199,4 @@ returns-then-reads-clause-whole c = λ opening steps own w h.
     let f = c.self.inside in
     let old : CoreData = core_data f in
     let g : StandsWhole opening steps own w old = subst (StandsWhole opening steps own w) (sym c.self.view_is) h in
-    reads_precommits opening steps own w old g c.args.tx.0 c.start_checks.new.table c.start_checks.ensures.started (sym c.active-refusal.ensures.refusal ∙ c.in_default.is) (sym c.active-refusal.ensures.reads ∙ c.if-reads.true) c.start_checks.ensures.rising
+    reads_precommits opening steps own w old g c.args.tx.0 c.start_checks.new.table c.start_checks.ensures.started (sym c.active-refusal.ensures.refusal ∙ c.in_default.is) (sym c.active-refusal.ensures.reads ∙ c.if-reads.true)
