@@ -34,6 +34,9 @@ pub mod WholeCalled
 pub mod WholePrecommits
 pub mod ReaderChecks
 pub mod WholeChecks
+pub mod ReaderWaits
+pub mod ReaderSettles
+pub mod WholeSettles
 pub mod OthersLead
 pub mod ReadersMoved
 pub mod ReaderBegins

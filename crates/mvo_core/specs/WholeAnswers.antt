@@ -5,10 +5,13 @@ use Rattle.mvo_types.specs.declared.ids.Stamp.{Stamp}
 use Rattle.mvo_types.specs.Keys.{Map}
 use Rattle.mvo_model.specs.Trace.{Step}
 use Rattle.mvo_theory.specs.State.{State, StampedTx}
+use Rattle.mvo_theory.specs.Calls.Call.{Settle}
+use Rattle.mvo_theory.specs.Calls.Result.{Accepted}
 use Rattle.mvo_theory.specs.Causes.{awaited}
 use Rattle.mvo_theory.specs.Steps.{is_valid_now}
 use Rattle.mvo_readonly.specs.Whole.{ReaderStage, WholeState, stage_of}
 use Rattle.mvo_readonly.specs.WholeCauses.{is_valid_stage, awaited_by_reader}
+use Rattle.mvo_readonly.specs.WholeCauses.WholeCall.{CoreCall}
 use Rattle.mvo_readonly.specs.WholeCalls.{checked_more}
 use Rattle.mvo_core.specs.declared.answers.Settlement.{Settlement}
 use Rattle.mvo_core.specs.declared.answers.Settlement.TheVariants.{Committed, Waiting}
@@ -16,7 +19,7 @@ use Rattle.mvo_core.specs.declared.answers.Validation.{Validation}
 use Rattle.mvo_core.specs.declared.answers.Validation.TheVariants as validation
 use Rattle.mvo_core.specs.Data.{CoreData}
 use Rattle.mvo_core.specs.Steps.{settled_as}
-use Rattle.mvo_core.specs.WholeStanding.{StandsWhole}
+use Rattle.mvo_core.specs.WholeStanding.{StandsWhole, LeadsWhole}
 
 abbrev pub InEachWhole : CoreData → (WholeState → Type 0) → Type 0
 InEachWhole c P = (opening : Map) (steps own : List Step) (w : WholeState)
@@ -55,3 +58,9 @@ settled_by_stage s t (Some p) = reader_settled_as t (awaited_by_reader s t)
 abbrev pub IsWholeSettlement : CoreData → ℕ → Settlement → Type 0
 IsWholeSettlement c t a =
     InEachWhole c (λ w. a ≡ settled_by_stage w.core t (stage_of t w.readers))
+
+-- so a read-only one is settled, from each whole state that the core stands for
+abbrev pub IsReaderSettled : CoreData → ℕ → CoreData → Type 0
+IsReaderSettled old t new = (opening : Map) (steps own : List Step) (w : WholeState)
+    → StandsWhole opening steps own w old
+    → LeadsWhole opening steps own w (CoreCall (Settle t)) Accepted new

@@ -19,7 +19,7 @@ ghost use Rattle.mvo_core.specs.Standing.{words_in};
 ghost use Rattle.mvo_core.specs.Own.{own_place, own_history};
 ghost use Rattle.mvo_core.specs.Own.{own_check};
 ghost use Rattle.mvo_core.specs.Keeping.{IsWritten, IsWrittenThen, IsPlacedInTale, IsCounted, HasHandedOver};
-ghost use Rattle.mvo_core.specs.Keeping.{HasEndedIf, HasEndedAs, HasStartedChecks};
+ghost use Rattle.mvo_core.specs.Keeping.{HasEndedIf, HasEndedAs, HasStartedChecks, HasHandedOverRead};
 ghost use Rattle.mvo_core.specs.Aborting.{HasOpenPlace, tale_left, has_place, has_reading_place};
 ghost use Rattle.mvo_core.specs.Causes.{kind_kept, is_read_only as is_reader};
 ghost use Rattle.mvo_core.specs.Collecting.{WaitBehind};
@@ -44,12 +44,14 @@ use mvo_word::Word;
 use mvo_work::{Operations, WordPlace, Work};
 
 impl Core {
-    ghost use Rattle.std.specs.Prelude.{◌≡◌, ◌+◌, IfOk};
+    ghost use Rattle.std.specs.Prelude.{◌≡◌, ◌+◌, None, IfOk};
     ghost use Rattle.mvo_theory.specs.Calls.Call.{Precommit, Validate, Settle, Rollback};
     ghost use Rattle.mvo_txn.specs.Txns.{state_of, IsUnended};
     ghost use Rattle.mvo_core.specs.Steps.{IsStep, IsValidation, IsSettlement};
     ghost use Rattle.mvo_core.specs.WholeStanding.{IsWholeStep};
-    ghost use Rattle.mvo_core.specs.WholeAnswers.{IsWholeEnd, IsWholeValidation};
+    ghost use Rattle.mvo_core.specs.Settling.{IsReadyReader};
+    ghost use Rattle.mvo_core.specs.WholeAnswers.{IsWholeEnd, IsWholeValidation, IsWholeSettlement};
+    ghost use Rattle.mvo_core.specs.WholeAnswers.{IsReaderSettled, reader_settled_as};
     ghost use Rattle.mvo_core.specs.Aborting.{MayGiveUp, IsGivenUp, IsAborted};
     ghost use Rattle.mvo_core.specs.Aborting.{IsReaderGivenUp, IsReaderAborted};
 
@@ -113,6 +115,8 @@ impl Core {
     pub fn settle(&mut self, tx: TxId) -> Result<Settlement, Refusal>
         ensures step { IsStep self.old (Settle tx.0) result self.new }
         ensures answer { IfOk result (IsSettlement self.old tx.0) }
+        ensures whole { IsWholeStep self.old (Settle tx.0) result self.new }
+        ensures whole_answer { IfOk result (IsWholeSettlement self.old tx.0) }
     {
         let seat = self.table.seat_of(tx);
         let tx = Located { id: tx, seat };
@@ -120,6 +124,7 @@ impl Core {
             Readiness::Refused(refusal) => return Err(self.give_up(tx, refusal)),
             Readiness::NotValidated => return Err(Refusal::NotValidated),
             Readiness::WaitsFor(other) => return Ok(Settlement::Waiting(other)),
+            Readiness::ReadyReader => return Ok(self.settle_reader(tx)),
             Readiness::Ready(has_dependents) => has_dependents,
         };
         let (end, place, operations) = commit(&mut self.table, tx);
@@ -134,6 +139,31 @@ impl Core {
         };
         self.tale.settle(place, entry);
         Ok(Settlement::Committed(end))
+    }
+
+    /// Makes a read-only transaction that waits for none Committed at its begin, and stores its
+    /// commit at the place that it has in the tale. For the others it is aborted.
+    fn settle_reader(&mut self, tx: Located) -> Settlement
+        requires { IsReadyReader self.old.table tx.id }
+        ensures answer { result ≡ reader_settled_as tx.id.0 None }
+        ensures settled { IsReaderSettled self.old tx.id.0 self.new }
+    {
+        let _ = self.tale.len();
+        self.table.abort(tx);
+        report_abort(&mut self.table, tx);
+        bring_puts(&mut self.versions, &self.table, tx);
+        let (place, operations) = hand_over(&mut self.table, tx);
+        let Operations { told, written } = operations;
+        let end = Stamp(tx.id.0);
+        let entry = TaleEntry {
+            id: tx.id,
+            begin: end,
+            end,
+            operations: told,
+            written,
+        };
+        self.tale.settle(place, entry);
+        Settlement::Committed(end)
     }
 
     /// Makes an Active or Preparing transaction Aborted, also one that depends on an aborted one.
@@ -318,6 +348,23 @@ fn commit(table: &mut Table, tx: Located) -> (Stamp, usize, Operations)
 {
     let (end, node) = table.commit(tx);
     (end, node.own.place, node.own.work.take_operations())
+}
+
+/// Makes a read-only transaction Committed by one look: answers its place in the tale, with its
+/// operations, which are taken out.
+fn hand_over(table: &mut Table, tx: Located) -> (usize, Operations)
+    requires { IsSome (own_of table.old tx.id.0) }
+    ensures place { result.0 ≡ own_place (own_of table.old tx.id.0) }
+    ensures told { history_told result.1.told.items ≡ own_history (own_of table.old tx.id.0) }
+    ensures written { result.1.written.items ≡
+        written_keys (own_history (own_of table.old tx.id.0)) }
+    ensures limits { AreLimited (own_history (own_of table.old tx.id.0)) }
+    ensures left { IsWritten table.old table.new tx.id.0 HasHandedOverRead }
+{
+    match table.get_mut(tx) {
+        Some(node) => node.own.hand_over(),
+        None => unreachable!(),
+    }
 }
 
 /// What the words of the transaction come to as it draws this end, in the order of writing. What it
