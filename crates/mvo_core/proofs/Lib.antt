@@ -64,3 +64,5 @@ pub mod Awaiting
 pub mod Waits
 pub mod WaitsOn
 pub mod ToldJust
+pub mod WholeTrims
+pub mod WholeClosed

@@ -27,4 +27,6 @@ pub mod Scanning
 pub mod Spare
 pub mod Holding
 pub mod Receipts
+pub mod WholeAnswers
+pub mod WholeClosing
 pub mod Operations
