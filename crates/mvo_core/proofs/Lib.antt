@@ -66,3 +66,5 @@ pub mod WaitsOn
 pub mod ToldJust
 pub mod WholeTrims
 pub mod WholeClosed
+pub mod WholeLeads
+pub mod WholeUndone

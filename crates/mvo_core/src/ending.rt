@@ -48,6 +48,7 @@ impl Core {
     ghost use Rattle.mvo_theory.specs.Calls.Call.{Precommit, Validate, Settle, Rollback};
     ghost use Rattle.mvo_txn.specs.Txns.{state_of, IsUnended};
     ghost use Rattle.mvo_core.specs.Steps.{IsStep, IsValidation, IsSettlement};
+    ghost use Rattle.mvo_core.specs.WholeStanding.{IsWholeStep};
     ghost use Rattle.mvo_core.specs.Aborting.{MayGiveUp, IsGivenUp, IsAborted};
     ghost use Rattle.mvo_core.specs.Aborting.{IsReaderGivenUp, IsReaderAborted};
 
@@ -131,6 +132,7 @@ impl Core {
     /// Refused: NoSuchTransaction, Ended.
     pub fn rollback_tx(&mut self, tx: TxId) -> Result<(), Refusal>
         ensures step { IsStep self.old (Rollback tx.0) result self.new }
+        ensures whole { IsWholeStep self.old (Rollback tx.0) result self.new }
     {
         let seat = self.table.seat_of(tx);
         let tx = Located { id: tx, seat };
