@@ -68,3 +68,5 @@ pub mod WholeTrims
 pub mod WholeClosed
 pub mod WholeLeads
 pub mod WholeUndone
+pub mod ReaderLeaves
+pub mod WholeFinished
