@@ -6,6 +6,7 @@ pub mod TakenBack
 pub mod Written
 pub mod Alone
 pub mod FinishLaws
+pub mod ReaderLeaves
 pub mod BesideWords
 pub mod Passed
 pub mod Finished
@@ -36,6 +37,12 @@ pub mod ReaderBegins
 pub mod TaleMoves
 pub mod KeptTale
 pub mod Trimmed
+pub mod WholeTrims
+pub mod WholeClosed
+pub mod WholeLeads
+pub mod WholeUndone
+pub mod WholeFinished
+pub mod WholeReads
 pub mod Undone
 pub mod EndCauses
 pub mod Reading
@@ -64,9 +71,3 @@ pub mod Awaiting
 pub mod Waits
 pub mod WaitsOn
 pub mod ToldJust
-pub mod WholeTrims
-pub mod WholeClosed
-pub mod WholeLeads
-pub mod WholeUndone
-pub mod ReaderLeaves
-pub mod WholeFinished
