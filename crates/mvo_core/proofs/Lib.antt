@@ -43,6 +43,7 @@ pub mod WholeLeads
 pub mod WholeUndone
 pub mod WholeFinished
 pub mod WholeReads
+pub mod WholeTales
 pub mod Undone
 pub mod EndCauses
 pub mod Reading

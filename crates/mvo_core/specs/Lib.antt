@@ -29,4 +29,5 @@ pub mod Holding
 pub mod Receipts
 pub mod WholeAnswers
 pub mod WholeClosing
+pub mod WholeTales
 pub mod Operations
