@@ -66,7 +66,7 @@ use Rattle.mvo_core.specs.Keeping.{IsWritten, HasHandedOverRead}
 use Rattle.mvo_core.specs.Own.{is_own_valid, own_place}
 use Rattle.mvo_core.specs.Readers.{Readers, HaveStages, HasTalePlaces}
 use Rattle.mvo_core.specs.Standing.{StandsAmong, HasWorks, IsKeptActive, IsKeptPreparing, words_in}
-use Rattle.mvo_core.specs.WholeAnswers.{reader_settled_as}
+use Rattle.mvo_core.specs.WholeEnds.{reader_settled_as}
 use Rattle.mvo_core.specs.WholeStanding.{readers_of, StandsWhole, LeadsWhole}
 use Rattle.mvo_core.proofs.CausesTold.{first_append}
 use Rattle.mvo_core.proofs.OwnChanged.{IsOwnChanged, own_changed, words_stay}

@@ -20,7 +20,7 @@ use Rattle.mvo_core.specs.Checking.{IsNextChange, change_for}
 use Rattle.mvo_core.specs.Data.{CoreData, own_of}
 use Rattle.mvo_core.specs.Keeping.{IsWritten, IsCounted}
 use Rattle.mvo_core.specs.Own.{is_own_valid, own_check, own_entry}
-use Rattle.mvo_core.specs.WholeAnswers.{valid_by_stage}
+use Rattle.mvo_core.specs.WholeEnds.{valid_by_stage}
 use Rattle.mvo_core.specs.WholeStanding.{readers_of, StandsWhole, LeadsWhole}
 use Rattle.mvo_core.proofs.OthersLead.{others_lead}
 use Rattle.mvo_core.proofs.ReaderCalled.{state_is, not_preparing, reader_validate_refused}

@@ -16,7 +16,7 @@ use Rattle.mvo_core.specs.Aborting.{IsGivenUp, IsReaderGivenUp}
 use Rattle.mvo_core.specs.Causes.{why_not_active, is_read_only}
 use Rattle.mvo_core.specs.Data.{CoreData, own_of}
 use Rattle.mvo_core.specs.Keeping.{IsWritten, HasStartedChecks}
-use Rattle.mvo_core.specs.WholeAnswers.{end_by_stage}
+use Rattle.mvo_core.specs.WholeEnds.{end_by_stage}
 use Rattle.mvo_core.specs.WholeStanding.{readers_of, StandsWhole, LeadsWhole}
 use Rattle.mvo_core.proofs.CausesTold.{may_write}
 use Rattle.mvo_core.proofs.Drawing.{precommit_refused}

@@ -40,7 +40,7 @@ use Rattle.mvo_core.specs.Keeping.{IsWritten, HasHandedOverRead}
 use Rattle.mvo_core.specs.Own.{is_own_valid, own_place, own_history}
 use Rattle.mvo_core.specs.Settling.{IsReadyReader}
 use Rattle.mvo_core.specs.Standing.{words_in}
-use Rattle.mvo_core.specs.WholeAnswers.{settled_by_stage, reader_settled_as}
+use Rattle.mvo_core.specs.WholeEnds.{settled_by_stage, reader_settled_as}
 use Rattle.mvo_core.specs.WholeStanding.{readers_of, StandsWhole, LeadsWhole}
 use Rattle.mvo_core.proofs.CausesTold.{may_write, own_of_active}
 use Rattle.mvo_core.proofs.Committing.{settle_refused, unvalidated_leads, waits_leads, waits_for, commits_as}

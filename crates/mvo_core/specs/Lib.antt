@@ -9,7 +9,6 @@ pub mod Standing
 pub mod View
 pub mod Steps
 pub mod WholeStanding
-pub mod WholeAnswers
 pub mod Own
 pub mod Keeping
 pub mod Closing
@@ -28,4 +27,8 @@ pub mod Scanning
 pub mod Spare
 pub mod Holding
 pub mod Receipts
+pub mod WholeAnswers
+pub mod WholeEnds
+pub mod WholeClosing
+pub mod WholeTales
 pub mod Operations

@@ -1,66 +1,55 @@
--- What is answered in each whole state that a core stands for: of a read-only transaction by its
--- stage.
-use Rattle.std.specs.Prelude.{ℕ, ◌≡◌, ◌+◌, Bool, if◌then◌else◌, List, Option, None, Some}
-use Rattle.mvo_types.specs.declared.ids.Stamp.{Stamp}
+-- What is answered in each whole state that a core stands for, and what collecting leaves of it.
+use Rattle.std.specs.Prelude.{ℕ, ◌≡◌, if◌then◌else◌, List}
+use Rattle.mvo_types.specs.declared.answer.Answer.{Answer}
+use Rattle.mvo_types.specs.declared.op.Op.{Op}
+use Rattle.mvo_types.specs.declared.row.RowKey.{RowKey}
+use Rattle.mvo_types.specs.AnswerData.{answer_data}
 use Rattle.mvo_types.specs.Keys.{Map}
 use Rattle.mvo_model.specs.Trace.{Step}
-use Rattle.mvo_theory.specs.State.{State, StampedTx}
-use Rattle.mvo_theory.specs.Calls.Call.{Settle}
-use Rattle.mvo_theory.specs.Calls.Result.{Accepted}
-use Rattle.mvo_theory.specs.Causes.{awaited}
-use Rattle.mvo_theory.specs.Steps.{is_valid_now}
-use Rattle.mvo_readonly.specs.Whole.{ReaderStage, WholeState, stage_of}
-use Rattle.mvo_readonly.specs.WholeCauses.{is_valid_stage, awaited_by_reader}
-use Rattle.mvo_readonly.specs.WholeCauses.WholeCall.{CoreCall}
-use Rattle.mvo_readonly.specs.WholeCalls.{checked_more}
-use Rattle.mvo_core.specs.declared.answers.Settlement.{Settlement}
-use Rattle.mvo_core.specs.declared.answers.Settlement.TheVariants.{Committed, Waiting}
-use Rattle.mvo_core.specs.declared.answers.Validation.{Validation}
-use Rattle.mvo_core.specs.declared.answers.Validation.TheVariants as validation
+use Rattle.mvo_theory.specs.Words.{is_done}
+use Rattle.mvo_theory.specs.Calls.{answer_in}
+use Rattle.mvo_readonly.specs.Whole.{WholeState}
+use Rattle.mvo_txn.specs.Txns.{state_of}
+use Rattle.mvo_representation.specs.Indexes.{all_versions}
+use Rattle.mvo_representation.specs.Table.{phases_of}
+use Rattle.mvo_representation.specs.Words.{ends_of, change_below, standing}
+use Rattle.mvo_collect.specs.declared.collection.Collection.{Collection}
+use Rattle.mvo_collect.specs.Garbage.{horizon}
+use Rattle.mvo_collect.specs.Laws.{IsCountedSo, IsFreeBegin}
+use Rattle.mvo_core.specs.declared.answers.Finishing.{Finishing}
+use Rattle.mvo_core.specs.declared.answers.Finishing.TheVariants as finishing
 use Rattle.mvo_core.specs.Data.{CoreData}
-use Rattle.mvo_core.specs.Steps.{settled_as}
-use Rattle.mvo_core.specs.WholeStanding.{StandsWhole, LeadsWhole}
+use Rattle.mvo_core.specs.WholeStanding.{StandsWhole}
 
 abbrev pub InEachWhole : CoreData → (WholeState → Type 0) → Type 0
 InEachWhole c P = (opening : Map) (steps own : List Step) (w : WholeState)
     → StandsWhole opening steps own w c → P w
 
--- ---- a precommit
--- the next timestamp is the end; of a read-only one its begin is, and it draws none
-abbrev pub end_by_stage : State → ℕ → Option ReaderStage → ℕ
-end_by_stage s t None = s.clock + 1
-end_by_stage s t (Some p) = t
+-- what the serial step answers on the transaction's snapshot, of a read-only one too
+abbrev pub IsAnsweredWhole : CoreData → ℕ → Op → Answer → Type 0
+IsAnsweredWhole c t op a = InEachWhole c (λ w. answer_data a ≡ answer_in w.core t op)
 
-abbrev pub IsWholeEnd : CoreData → ℕ → Stamp → Type 0
-IsWholeEnd c t e = InEachWhole c (λ w. e.0 ≡ end_by_stage w.core t (stage_of t w.readers))
+abbrev pub IsFinishingWhole : CoreData → ℕ → Finishing → Type 0
+IsFinishingWhole c t a = InEachWhole c (λ w.
+    a ≡ (if is_done w.core t then finishing.Done else finishing.More))
 
--- ---- a check
--- whether it is valid then: a read-only one as soon as all of its entries are counted
-abbrev pub valid_by_stage : State → ℕ → Option ReaderStage → Bool
-valid_by_stage s t None = is_valid_now s t
-valid_by_stage s t (Some p) = is_valid_stage (checked_more s t p)
+-- ---- collecting
+-- it stands for each whole state that it stood for
+abbrev pub StandsWholeAsBefore : CoreData → CoreData → Type 0
+StandsWholeAsBefore old new = (opening : Map) (steps own : List Step) (w : WholeState)
+    → StandsWhole opening steps own w old → StandsWhole opening steps own w new
 
-abbrev pub IsWholeValidation : CoreData → ℕ → Validation → Type 0
-IsWholeValidation c t v = InEachWhole c (λ w.
-    v ≡ (if valid_by_stage w.core t (stage_of t w.readers) then validation.Valid
-    else validation.More))
+-- one garbage version is fewer, or there was none
+abbrev pub AreFewerWhole : CoreData → Collection → CoreData → Type 0
+AreFewerWhole old c new = InEachWhole old (λ w.
+    IsCountedSo (horizon w.core) old.versions.slots new.versions.slots c)
 
--- ---- a settlement
--- a read-only one waits for whom it depends on, or is committed at its begin
-abbrev pub reader_settled_as : ℕ → Option StampedTx → Settlement
-reader_settled_as t None = Committed (record { 0 = t })
-reader_settled_as t (Some x) = Waiting (record { 0 = x.id })
-
-abbrev pub settled_by_stage : State → ℕ → Option ReaderStage → Settlement
-settled_by_stage s t None = settled_as s t (awaited s t)
-settled_by_stage s t (Some p) = reader_settled_as t (awaited_by_reader s t)
-
-abbrev pub IsWholeSettlement : CoreData → ℕ → Settlement → Type 0
-IsWholeSettlement c t a =
-    InEachWhole c (λ w. a ≡ settled_by_stage w.core t (stage_of t w.readers))
-
--- so a read-only one is settled, from each whole state that the core stands for
-abbrev pub IsReaderSettled : CoreData → ℕ → CoreData → Type 0
-IsReaderSettled old t new = (opening : Map) (steps own : List Step) (w : WholeState)
-    → StandsWhole opening steps own w old
-    → LeadsWhole opening steps own w (CoreCall (Settle t)) Accepted new
+-- A begin above the start, or at it where no change has that stamp, is shown the same put with the
+-- same stamp at each key.
+abbrev pub ShowsSameWhole : CoreData → CoreData → Type 0
+ShowsSameWhole old new = InEachWhole old (λ w. (b : ℕ) (k : RowKey)
+    → IsFreeBegin w.core (state_of old.table) old.versions.slots b
+    → standing (change_below (ends_of (phases_of (state_of old.table))) b k
+    (all_versions new.versions.slots))
+    ≡ standing (change_below (ends_of (phases_of (state_of old.table))) b k
+    (all_versions old.versions.slots)))

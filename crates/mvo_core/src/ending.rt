@@ -20,7 +20,7 @@ ghost use Rattle.mvo_core.specs.Own.{own_place, own_history};
 ghost use Rattle.mvo_core.specs.Own.{own_check};
 ghost use Rattle.mvo_core.specs.Keeping.{IsWritten, IsWrittenThen, IsPlacedInTale, IsCounted, HasHandedOver};
 ghost use Rattle.mvo_core.specs.Keeping.{HasEndedIf, HasEndedAs, HasStartedChecks, HasHandedOverRead};
-ghost use Rattle.mvo_core.specs.Aborting.{HasOpenPlace, tale_left, has_place, has_reading_place};
+ghost use Rattle.mvo_core.specs.Aborting.{HasOpenPlace, tale_left, has_pending_place, has_reading_place};
 ghost use Rattle.mvo_core.specs.Causes.{kind_kept, is_read_only as is_reader};
 ghost use Rattle.mvo_core.specs.Collecting.{WaitBehind};
 ghost use Rattle.mvo_core.specs.Fronts.{version_passes, comes_at_draw, IsInFrontIf, AreInFront};
@@ -50,8 +50,8 @@ impl Core {
     ghost use Rattle.mvo_core.specs.Steps.{IsStep, IsValidation, IsSettlement};
     ghost use Rattle.mvo_core.specs.WholeStanding.{IsWholeStep};
     ghost use Rattle.mvo_core.specs.Settling.{IsReadyReader};
-    ghost use Rattle.mvo_core.specs.WholeAnswers.{IsWholeEnd, IsWholeValidation, IsWholeSettlement};
-    ghost use Rattle.mvo_core.specs.WholeAnswers.{IsReaderSettled, reader_settled_as};
+    ghost use Rattle.mvo_core.specs.WholeEnds.{IsEndWhole, IsValidationWhole, IsSettlementWhole};
+    ghost use Rattle.mvo_core.specs.WholeEnds.{IsReaderSettled, reader_settled_as};
     ghost use Rattle.mvo_core.specs.Aborting.{MayGiveUp, IsGivenUp, IsAborted};
     ghost use Rattle.mvo_core.specs.Aborting.{IsReaderGivenUp, IsReaderAborted};
 
@@ -62,7 +62,7 @@ impl Core {
         ensures step { IsStep self.old (Precommit tx.0) result self.new }
         ensures end { IfOk result (λ e. e.0 ≡ self.old.table.clock + 1) }
         ensures whole { IsWholeStep self.old (Precommit tx.0) result self.new }
-        ensures whole_end { IfOk result (IsWholeEnd self.old tx.0) }
+        ensures whole_end { IfOk result (IsEndWhole self.old tx.0) }
     {
         let seat = self.table.seat_of(tx);
         let tx = Located { id: tx, seat };
@@ -98,7 +98,7 @@ impl Core {
         ensures step { IsStep self.old (Validate tx.0) result self.new }
         ensures answer { IfOk result (IsValidation self.old tx.0) }
         ensures whole { IsWholeStep self.old (Validate tx.0) result self.new }
-        ensures whole_answer { IfOk result (IsWholeValidation self.old tx.0) }
+        ensures whole_answer { IfOk result (IsValidationWhole self.old tx.0) }
     {
         let seat = self.table.seat_of(tx);
         let tx = Located { id: tx, seat };
@@ -116,7 +116,7 @@ impl Core {
         ensures step { IsStep self.old (Settle tx.0) result self.new }
         ensures answer { IfOk result (IsSettlement self.old tx.0) }
         ensures whole { IsWholeStep self.old (Settle tx.0) result self.new }
-        ensures whole_answer { IfOk result (IsWholeSettlement self.old tx.0) }
+        ensures whole_answer { IfOk result (IsSettlementWhole self.old tx.0) }
     {
         let seat = self.table.seat_of(tx);
         let tx = Located { id: tx, seat };
@@ -143,20 +143,21 @@ impl Core {
 
     /// Makes a read-only transaction that waits for none Committed at its begin, and stores its
     /// commit at the place that it has in the tale. For the others it is aborted.
-    fn settle_reader(&mut self, tx: Located) -> Settlement
-        requires { IsReadyReader self.old.table tx.id }
-        ensures answer { result ≡ reader_settled_as tx.id.0 None }
-        ensures settled { IsReaderSettled self.old tx.id.0 self.new }
+    fn settle_reader(&mut self, reader: Located) -> Settlement
+        requires { IsReadyReader self.old.table reader.id }
+        ensures answer { result ≡ reader_settled_as reader.id.0 None }
+        ensures settled { IsReaderSettled self.old reader.id.0 self.new }
     {
+        // A look at the places: from it the proof knows that their ends rise.
         let _ = self.tale.len();
-        self.table.abort(tx);
-        report_abort(&mut self.table, tx);
-        bring_puts(&mut self.versions, &self.table, tx);
-        let (place, operations) = hand_over(&mut self.table, tx);
+        self.table.abort(reader);
+        report_abort(&mut self.table, reader);
+        bring_puts(&mut self.versions, &self.table, reader);
+        let (place, operations) = hand_over(&mut self.table, reader);
         let Operations { told, written } = operations;
-        let end = Stamp(tx.id.0);
+        let end = Stamp(reader.id.0);
         let entry = TaleEntry {
-            id: tx.id,
+            id: reader.id,
             begin: end,
             end,
             operations: told,
@@ -170,6 +171,7 @@ impl Core {
     /// Refused: NoSuchTransaction, Ended.
     pub fn rollback_tx(&mut self, tx: TxId) -> Result<(), Refusal>
         ensures step { IsStep self.old (Rollback tx.0) result self.new }
+        ensures whole { IsWholeStep self.old (Rollback tx.0) result self.new }
     {
         let seat = self.table.seat_of(tx);
         let tx = Located { id: tx, seat };
@@ -223,15 +225,15 @@ fn leave_tale(tale: &mut Tale, table: &Table, tx: Located) -> bool
     let Some(seat) = table.get(tx) else {
         return false;
     };
-    if has_place(seat) {
+    if has_pending_place(seat) {
         tale.leave(seat.kept.own.place);
     }
     is_read_only(seat.kept.own.kind)
 }
 
 /// Whether one has a place in the tale at which no commit is stored.
-fn has_place(seat: &TableSeat<Node<KeptTransaction>>) -> bool
-    ensures { result ≡ has_place (Some seat.now.state) seat.now.kept.own.kind }
+fn has_pending_place(seat: &TableSeat<Node<KeptTransaction>>) -> bool
+    ensures { result ≡ has_pending_place (Some seat.now.state) seat.now.kept.own.kind }
 {
     match seat.state {
         TxState::Active => has_reading_place(seat.kept.own.kind),
