@@ -19,14 +19,12 @@ use Rattle.mvo_theory.proofs.Runs.{kept_after_call}
 use Rattle.mvo_txn.specs.declared.state.TxState.{TxState}
 use Rattle.mvo_txn.specs.declared.state.TxState.TheVariants.{Active, Preparing, Committed, Aborted}
 use Rattle.mvo_txn.specs.Txns.{Txns, state_of, kept_of, table_after_write, after_terminate, IsEnded}
-use Rattle.mvo_txn.proofs.Stamps.{get_removed, get_left}
 use Rattle.mvo_deps.specs.declared.node.Node.{Node}
 use Rattle.mvo_chain.specs.declared.version.Version.{Version}
 use Rattle.mvo_chain.specs.Slots.{version_at, with_change}
 use Rattle.mvo_word.specs.declared.held.Held.{Held}
 use Rattle.mvo_work.specs.declared.word_place.WordPlace.{WordPlace}
 use Rattle.mvo_work.specs.declared.word_place.WordPlace.TheVariants.{Begin, End}
-use Rattle.mvo_readonly.specs.Whole.{stage_of}
 use Rattle.mvo_tale.specs.declared.tale_place.TalePlace.{TalePlace}
 use Rattle.mvo_tale.specs.Kept.{HasTale}
 use Rattle.mvo_tale.specs.Next.{AreGroupedTo}
@@ -48,14 +46,15 @@ use Rattle.mvo_representation.proofs.WordPlaces.{names_here}
 use Rattle.mvo_representation.proofs.WordsSaid.{ended_not_active, ended_not_preparing}
 use Rattle.mvo_collect.proofs.Over.{each_call_keeps_over}
 use Rattle.mvo_collect.specs.Begun.{AreOver}
+use Rattle.mvo_core.proofs.ReaderLeaves.{Leaves, own_left}
 use Rattle.mvo_core.specs.declared.kept_transaction.KeptTransaction.{KeptTransaction}
 use Rattle.mvo_core.specs.Data.{CoreData, own_of}
 use Rattle.mvo_core.specs.Standing.{HasWorks, IsKeptActive, IsKeptPreparing, own_words_of, words_in, StandsAmong}
 use Rattle.mvo_core.specs.Keeping.{IsWritten, with_own_at}
-use Rattle.mvo_core.specs.Readers.{Readers, reader_in, HasStage, HaveStages, HasTalePlaces}
+use Rattle.mvo_core.specs.Readers.{Readers, reader_in, HaveStages, HasTalePlaces}
 use Rattle.mvo_core.proofs.Carried.{own_here, own_beside}
 use Rattle.mvo_core.proofs.Laws.{write_in_table, call_keeps}
-use Rattle.mvo_core.proofs.ReaderStages.{AreSameReaders, stages_same, none_of_stage, readers_but}
+use Rattle.mvo_core.proofs.ReaderStages.{stages_same, readers_but}
 use Rattle.mvo_core.proofs.FinishLaws.{word_in_table, leave_in_table, finished_stands_for, finish_in_order, leaving_in_order, changed_now}
 
 -- ---- what a core stands for beside the lists
@@ -247,17 +246,17 @@ module _ (rs : Readers) (opening : Map) (steps : List Step) (s : State) (c : Cor
   }
 
   -- in the state with other ended ones, where the table has these works
-  beside_after : (table : Txns (Node KeptTransaction))
+  beside_after : (after : Readers) → HasTalePlaces after s.start s.clock c.tale → (table : Txns (Node KeptTransaction))
       → representation.VersionsStandFor opening (steps ++ steps_of s (Finish u.id) Accepted) (changes.after_finish s u.id) (state_of table) c.versions.slots c.versions.lists c.versions.places
-      → HasDependencies (changes.after_finish s u.id) table → AllStandInOrder s.start (state_of table) c.versions.slots c.versions.lists → HasWorks s table c.tale → HaveStages rs.unfinished table c.tale → AreOver (changes.after_finish s u.id)
-      → StandsBeside rs opening (steps ++ steps_of s (Finish u.id) Accepted) (changes.after_finish s u.id) (record c { table = table })
-  beside_after table versions deps order works stages over = record {
+      → HasDependencies (changes.after_finish s u.id) table → AllStandInOrder s.start (state_of table) c.versions.slots c.versions.lists → HasWorks s table c.tale → HaveStages after.unfinished table c.tale → AreOver (changes.after_finish s u.id)
+      → StandsBeside after opening (steps ++ steps_of s (Finish u.id) Accepted) (changes.after_finish s u.id) (record c { table = table })
+  beside_after after places table versions deps order works stages over = record {
     versions = versions;
     dependencies = deps;
     order = subst (λ (x : State). AllStandInOrder x.start (state_of table) c.versions.slots c.versions.lists) (sym (finish_is s u.id)) order;
     works = subst (λ (x : State). HasWorks x table c.tale) (sym (finish_is s u.id)) (record { active = works.active; preparing = works.preparing });
     tale = subst (λ (x : State). HasTale x (others_places c.tale)) (sym (finish_is s u.id)) h.tale;
-    places = subst (λ (x : State). HasTalePlaces rs x.start x.clock c.tale) (sym (finish_is s u.id)) h.places;
+    places = subst (λ (x : State). HasTalePlaces after x.start x.clock c.tale) (sym (finish_is s u.id)) places;
     stages = stages;
     marks = ap (λ (x : State). x.marks) (finish_is s u.id) ∙ h.marks;
     grouped = h.grouped;
@@ -275,27 +274,19 @@ module _ (rs : Readers) (opening : Map) (steps : List Step) (s : State) (c : Cor
   pub beside_word : MayCome s (Finish u.id) Accepted → is_done s u.id ≡ false → StandsBeside rs opening (steps ++ steps_of s (Finish u.id) Accepted) (changes.after_finish s u.id) c
   beside_word may more =
       let deps = word_in_table s c.table u.id h.dependencies more in
-      beside_after c.table (versions_after may c.table deps (none_done more)) deps h.order h.works h.stages (over_finished may)
+      beside_after rs h.places c.table (versions_after may c.table deps (none_done more)) deps h.order h.works h.stages (over_finished may)
 
   -- none is left: it leaves
   left_own : (v : ℕ) → v ≢ u.id → own_of (after_terminate c.table u.id) v ≡ own_of c.table v
-  left_own v ne = ap (λ o. option_map (λ n. n.own) (option_map (λ x. x.kept) o)) (get_left c.table.seats u.id v ne)
+  left_own v ne = own_left c.table u.id v ne
 
-  own_gone : own_of (after_terminate c.table u.id) u.id ≡ None
-  own_gone = ap (λ o. option_map (λ n. n.own) (option_map (λ x. x.kept) o)) (get_removed c.table.seats u.id)
-
-  -- it is none of the read-only ones
-  none_left : stage_of u.id rs.unfinished ≡ None → AreSameReaders c.table (after_terminate c.table u.id)
-  none_left other = readers_but c.table (after_terminate c.table u.id) u.id left_own
-      (ap reader_in own_gone ∙ sym (none_of_stage c.tale u.id (reader_in (own_of c.table u.id)) (subst (HasStage c.tale u.id (reader_in (own_of c.table u.id))) other (h.stages u.id))))
-
-  pub beside_left : stage_of u.id rs.unfinished ≡ None → MayCome s (Finish u.id) Accepted → IsEnded (state_of c.table u.id) → is_done s u.id ≡ true → IsUnnamed u.id (all_versions c.versions.slots)
-      → StandsBeside rs opening (steps ++ steps_of s (Finish u.id) Accepted) (changes.after_finish s u.id) (record c { table = after_terminate c.table u.id })
-  beside_left other may ended last unnamed =
+  pub beside_left : (after : Readers) → Leaves rs after s c.tale u.id → MayCome s (Finish u.id) Accepted → IsEnded (state_of c.table u.id) → is_done s u.id ≡ true → IsUnnamed u.id (all_versions c.versions.slots)
+      → StandsBeside after opening (steps ++ steps_of s (Finish u.id) Accepted) (changes.after_finish s u.id) (record c { table = after_terminate c.table u.id })
+  beside_left after leaves may ended last unnamed =
       let table = after_terminate c.table u.id in
       let deps = leave_in_table opening steps s c.table u.id h.versions.kept h.dependencies ended last in
-      beside_after table (versions_after may table deps (λ y. unnamed)) deps
+      beside_after after leaves.places table (versions_after may table deps (λ y. unnamed)) deps
       (leaving_in_order s.start (state_of c.table) (state_of table) c.versions.slots c.versions.lists u.id (λ v ne. left_others c.table u.id v ne) (left_state c.table u.id) unnamed h.order)
       (works_of_others s c.table table c.tale u.id u h.versions.kept.single e left_own h.works)
-      (stages_same rs.unfinished c.table table c.tale (none_left other) h.stages)
+      (leaves.stages c.table h.stages)
       (over_finished may)

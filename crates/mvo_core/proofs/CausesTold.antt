@@ -42,12 +42,12 @@ pub or_next_deep : (a b c : Option Refusal) → or_next (or_next a b) c ≡ or_n
 or_next_deep None b c = refl
 or_next_deep (Some r) b c = refl
 
-first_append : (xs ys : List (Option Refusal)) → first_cause (xs ++ ys) ≡ or_next (first_cause xs) (first_cause ys)
+pub first_append : (xs ys : List (Option Refusal)) → first_cause (xs ++ ys) ≡ or_next (first_cause xs) (first_cause ys)
 first_append [] ys = refl
 first_append (x ∷ xs) ys = ap (or_next x) (first_append xs ys) ∙ sym (or_next_deep x (first_cause xs) (first_cause ys))
 
 -- what comes behind a cause matters where it doesn't stand
-or_next_same : (a b c : Option Refusal) → (a ≡ None → b ≡ c) → or_next a b ≡ or_next a c
+pub or_next_same : (a b c : Option Refusal) → (a ≡ None → b ≡ c) → or_next a b ≡ or_next a c
 or_next_same None b c h = h refl
 or_next_same (Some r) b c h = refl
 
@@ -59,7 +59,7 @@ pub some_none : (r : Refusal) → ◌≡◌ {A = Option Refusal} (Some r) None �
 some_none r q = cc
 
 -- ---- who may not be called so
-flag_same : (flag : Option TxId) → flag_refusal flag ≡ or_next (flagged (option_map (λ by. by.0) flag)) None
+pub flag_same : (flag : Option TxId) → flag_refusal flag ≡ or_next (flagged (option_map (λ by. by.0) flag)) None
 flag_same None = refl
 flag_same (Some id) = refl
 
@@ -176,7 +176,7 @@ module _ (rs : Readers) (opening : Map) (steps : List Step) (s : State) (c : Cor
   own_if_none : why_not_active c.table t ≡ None → IsOwnOfActive s c t
   own_if_none none = own_of_active (stands_active c.table t none)
 
-  entry_over_is : (e : Entry) → why_not_active c.table t ≡ None → over_entries (own_of c.table t) e ≡ is_entry_too_many (history_of_active t s.active) e
+  pub entry_over_is : (e : Entry) → why_not_active c.table t ≡ None → over_entries (own_of c.table t) e ≡ is_entry_too_many (history_of_active t s.active) e
   entry_over_is e none = let w = own_if_none none in ap (λ o. over_entries o e) w.kept ∙ ap (λ ts. is_entry_too_many ts e) w.history
 
   write_over_is : (k : RowKey) → why_not_active c.table t ≡ None → over_writes (own_of c.table t) k ≡ is_write_too_many (history_of_active t s.active) k

@@ -38,6 +38,7 @@ use Rattle.mvo_representation.proofs.WordPlaces.{IsNamedAt, names_there}
 use Rattle.mvo_readonly.specs.Whole.{stage_of}
 use Rattle.mvo_chain.specs.Slots.{Slots}
 use Rattle.mvo_core.proofs.ReaderStages.{same_reader}
+use Rattle.mvo_core.proofs.ReaderLeaves.{Leaves, other_leaves}
 use Rattle.mvo_core.specs.Readers.{Readers, reader_in}
 use Rattle.mvo_core.specs.declared.kept_transaction.KeptTransaction.{KeptTransaction}
 use Rattle.mvo_core.specs.declared.answers.Finishing.{Finishing}
@@ -117,7 +118,7 @@ dropped_same x y k = same_reader x y k.kind k.place k.checked k.valid
 answered : (b : Bool) (s : State) (t : ℕ) → is_done s t ≡ b → cond b Done More ≡ (if is_done s t then Done else More)
 answered b s t e = ap (λ (x : Bool). cond x Done More) (sym e)
 
-module _ (rs : Readers) (opening : Map) (steps : List Step) (s : State) (c : CoreData) (h : StandsAmong rs opening steps s c) (u : EndedTx) (e : ended_of u.id s.ended ≡ Some u) (w : Held) (final : IsFinalWord (state_of c.table u.id) w) (between : Txns (Node KeptTransaction)) (passed : IsWritten c.table between u.id (HasPassed c.versions.slots u.id)) (other : stage_of u.id rs.unfinished ≡ None) where
+module _ (rs : Readers) (opening : Map) (steps : List Step) (s : State) (c : CoreData) (h : StandsAmong rs opening steps s c) (u : EndedTx) (e : ended_of u.id s.ended ≡ Some u) (w : Held) (final : IsFinalWord (state_of c.table u.id) w) (between : Txns (Node KeptTransaction)) (passed : IsWritten c.table between u.id (HasPassed c.versions.slots u.id)) (after : Readers) (leaves : Leaves rs after s c.tale u.id) where
   may : MayCome s (Finish u.id) Accepted
   may = (sym (why_finished s c rs opening steps h u.id) ∙ final_none (state_of c.table u.id) w final, tt)
 
@@ -147,17 +148,17 @@ module _ (rs : Readers) (opening : Map) (steps : List Step) (s : State) (c : Cor
     is_over : is_done s u.id ≡ true
     is_over = done_none s c.versions.slots (words_in between) u e first_lists none_there
 
-    pub none_finished : HasFinished rs opening steps s u.id Done (record c { table = after_terminate table u.id })
+    pub none_finished : HasFinished after opening steps s u.id Done (record c { table = after_terminate table u.id })
     none_finished =
         let beside_again = beside_written rs opening steps s (record c { table = between }) first_beside u e table (HasPassed c.versions.slots u.id) (passed_same c.versions.slots u.id) again in
         let ended = subst (λ states. IsEnded (states u.id)) (same_states between table u.id (HasPassed c.versions.slots u.id) again) ended_between in
         let unnamed = none_unnamed s c.versions.slots (words_in between) u.id none_there first_lists in
-        let left = beside_left rs opening steps s (record c { table = table }) beside_again u e other may ended is_over unnamed in
+        let left = beside_left rs opening steps s (record c { table = table }) beside_again u e after leaves may ended is_over unnamed in
         let now = left_list u.id (words_in between) table (list_written between table u.id (HasPassed c.versions.slots u.id) again).others in
         record {
           leads = record {
             may = may;
-            stands = with_lists rs opening (steps ++ steps_of s (Finish u.id) Accepted) (changes.after_finish s u.id) (record c { table = after_terminate table u.id }) left
+            stands = with_lists after opening (steps ++ steps_of s (Finish u.id) Accepted) (changes.after_finish s u.id) (record c { table = after_terminate table u.id }) left
                 (leaving_in_lists opening steps s (state_of between) c.versions.slots c.versions.lists c.versions.places (words_in between) (words_in (after_terminate table u.id)) u first_beside.versions e none_there now first_lists);
           };
           answer = answered true s u.id is_over;
@@ -216,7 +217,7 @@ module _ (rs : Readers) (opening : Map) (steps : List Step) (s : State) (c : Cor
         }
 
     -- it was the last one
-    pub last_finished : words_in table u.id ≡ [] → HasFinished rs opening steps s u.id Done (record c { versions = versions; table = after_terminate table u.id })
+    pub last_finished : words_in table u.id ≡ [] → HasFinished after opening steps s u.id Done (record c { versions = versions; table = after_terminate table u.id })
     last_finished f =
         let last = done_now s c.versions.slots versions.slots (words_in between) u e first_lists p ps is name (ends_of (phases_of (state_of between))) there.version there.at now (sym list_again ∙ f) in
         let steps' = steps ++ steps_of s (Finish u.id) Accepted in
@@ -224,12 +225,12 @@ module _ (rs : Readers) (opening : Map) (steps : List Step) (s : State) (c : Cor
         let fourth = beside_written rs opening steps s (record c { versions = versions; table = dropped_table }) third_beside u e table (HasPassed versions.slots u.id) (passed_same versions.slots u.id) again in
         let ended = subst (λ states. IsEnded (states u.id)) (same_states between dropped_table u.id HasDropped dropped ∙ same_states dropped_table table u.id (HasPassed versions.slots u.id) again) ended_between in
         let unnamed = last_unnamed s (state_of between) c.versions.slots versions.slots (words_in between) u p ps there.version e is there.at name last now first_lists in
-        let left = beside_left rs opening steps s (record c { versions = versions; table = table }) fourth u e other may ended last unnamed in
+        let left = beside_left rs opening steps s (record c { versions = versions; table = table }) fourth u e after leaves may ended last unnamed in
         let list = left_list u.id (words_in between) table (λ v ne. (list_written dropped_table table u.id (HasPassed versions.slots u.id) again).others v ne ∙ (list_written between dropped_table u.id HasDropped dropped).others v ne) in
         let lists = last_in_lists opening steps s (state_of between) c.versions.slots versions.slots c.versions.lists c.versions.places (words_in between) (words_in (after_terminate table u.id)) u p ps there.version
         first_beside.versions e is there.at name last now list first_lists in
         record {
-          leads = record { may = may; stands = with_lists rs opening steps' s' (record c { versions = versions; table = after_terminate table u.id }) left lists };
+          leads = record { may = may; stands = with_lists after opening steps' s' (record c { versions = versions; table = after_terminate table u.id }) left lists };
           answer = answered true s u.id last;
         }
 
@@ -243,47 +244,53 @@ abbrev pub table_as : Option WordPlace → Txns (Node KeptTransaction) → ℕ �
 table_as None table t = after_terminate table t
 table_as (Some q) table t = table
 
-module _ (rs : Readers) (opening : Map) (steps : List Step) (s : State) (c : CoreData) (h : StandsAmong rs opening steps s c) where
-  by_first : (u : EndedTx) → ended_of u.id s.ended ≡ Some u → stage_of u.id rs.unfinished ≡ None → (w : Held) → IsFinalWord (state_of c.table u.id) w → (versions : VersionsData) (between table table' : Txns (Node KeptTransaction))
+-- and the read-only ones
+abbrev pub readers_as : Option WordPlace → Readers → Readers → Readers
+readers_as None rs after = after
+readers_as (Some q) rs after = rs
+
+module _ (rs : Readers) (opening : Map) (steps : List Step) (s : State) (c : CoreData) (h : StandsAmong rs opening steps s c) (after : Readers) where
+  by_first : (u : EndedTx) → ended_of u.id s.ended ≡ Some u → Leaves rs after s c.tale u.id → (w : Held) → IsFinalWord (state_of c.table u.id) w → (versions : VersionsData) (between table table' : Txns (Node KeptTransaction))
       → IsWritten c.table between u.id (HasPassed c.versions.slots u.id) → (first : Option WordPlace) → slice_get (words_in between u.id) 0 ≡ first → IsFirstReplaced c.versions versions between table u.id w first
       → IsWritten table table' u.id (HasPassed versions.slots u.id) → (o : Option WordPlace) → slice_get (words_in table' u.id) 0 ≡ o
-      → HasFinished rs opening steps s u.id (answer_as o) (record c { versions = versions; table = table_as o table' u.id })
-  by_first u e other w final versions between table table' passed None none r again o left =
-      subst (λ (x : VersionsData). HasFinished rs opening steps s u.id (answer_as o) (record c { versions = x; table = table_as o table' u.id })) (sym r.0) (go o left)
+      → HasFinished (readers_as o rs after) opening steps s u.id (answer_as o) (record c { versions = versions; table = table_as o table' u.id })
+  by_first u e leaves w final versions between table table' passed None none r again o left =
+      subst (λ (x : VersionsData). HasFinished (readers_as o rs after) opening steps s u.id (answer_as o) (record c { versions = x; table = table_as o table' u.id })) (sym r.0) (go o left)
     where
       again' : IsWritten between table' u.id (HasPassed c.versions.slots u.id)
       again' = subst (λ x. IsWritten x table' u.id (HasPassed c.versions.slots u.id)) r.1 (subst (λ (x : VersionsData). IsWritten table table' u.id (HasPassed x.slots u.id)) r.0 again)
 
       nothing : words_in table' u.id ≡ []
-      nothing = none_again rs opening steps s c h u e w final between passed other (first_of (words_in between u.id) none) table' again'
+      nothing = none_again rs opening steps s c h u e w final between passed after leaves (first_of (words_in between u.id) none) table' again'
 
       no_place : (q : WordPlace) → ◌≡◌ {A = Option WordPlace} None (Some q) → ⊥
       no_place q f = cc
 
-      go : (o : Option WordPlace) → slice_get (words_in table' u.id) 0 ≡ o → HasFinished rs opening steps s u.id (answer_as o) (record c { table = table_as o table' u.id })
-      go None f = none_finished rs opening steps s c h u e w final between passed other (first_of (words_in between u.id) none) table' again'
+      go : (o : Option WordPlace) → slice_get (words_in table' u.id) 0 ≡ o → HasFinished (readers_as o rs after) opening steps s u.id (answer_as o) (record c { table = table_as o table' u.id })
+      go None f = none_finished rs opening steps s c h u e w final between passed after leaves (first_of (words_in between u.id) none) table' again'
       go (Some q) f = absurd (no_place q (ap (λ qs. slice_get qs 0) (sym nothing) ∙ f))
-  by_first u e other w final versions between table table' passed (Some p) some r again o left = go o left
+  by_first u e leaves w final versions between table table' passed (Some p) some r again o left = go o left
     where
       here : IsFirst (words_in between u.id) p
       here = first_is (words_in between u.id) p some
 
-      go : (o : Option WordPlace) → slice_get (words_in table' u.id) 0 ≡ o → HasFinished rs opening steps s u.id (answer_as o) (record c { versions = versions; table = table_as o table' u.id })
-      go None f = last_finished rs opening steps s c h u e w final between passed other p here.rest here.is versions r.0 table r.1 table' again (first_of (words_in table' u.id) f)
-      go (Some q) f = let next = first_is (words_in table' u.id) q f in more_finished rs opening steps s c h u e w final between passed other p here.rest here.is versions r.0 table r.1 table' again q next.rest next.is
+      go : (o : Option WordPlace) → slice_get (words_in table' u.id) 0 ≡ o → HasFinished (readers_as o rs after) opening steps s u.id (answer_as o) (record c { versions = versions; table = table_as o table' u.id })
+      go None f = last_finished rs opening steps s c h u e w final between passed after leaves p here.rest here.is versions r.0 table r.1 table' again (first_of (words_in table' u.id) f)
+      go (Some q) f = let next = first_is (words_in table' u.id) q f in more_finished rs opening steps s c h u e w final between passed after leaves p here.rest here.is versions r.0 table r.1 table' again q next.rest next.is
 
-  pub finish_leads : (t : ℕ) → stage_of t rs.unfinished ≡ None → (w : Held) → IsFinalWord (state_of c.table t) w → (versions : VersionsData) (table table' : Txns (Node KeptTransaction)) → IsNextReplaced c.versions versions c.table table t w
+  pub finish_leads : (t : ℕ) → Leaves rs after s c.tale t → (w : Held) → IsFinalWord (state_of c.table t) w → (versions : VersionsData) (table table' : Txns (Node KeptTransaction)) → IsNextReplaced c.versions versions c.table table t w
       → IsWritten table table' t (HasPassed versions.slots t) → (o : Option WordPlace) → o ≡ slice_get (words_in table' t) 0
-      → HasFinished rs opening steps s t (answer_as o) (record c { versions = versions; table = table_as o table' t })
-  finish_leads t other w final versions table table' r again o left =
+      → HasFinished (readers_as o rs after) opening steps s t (answer_as o) (record c { versions = versions; table = table_as o table' t })
+  finish_leads t leaves w final versions table table' r again o left =
       let found = ended_is s t (state_of c.table t) (final_ended (state_of c.table t) w final) (sym (h.dependencies.stands.phases t)) in
       let u = found.0 in
       let id : u.id ≡ t = eqb-true u.id t (find_holds (λ x. ⊤) (is_ended_as t) s.ended u found.1 (each_always (λ x. ⊤) (λ x. tt) s.ended)).1 in
-      subst (λ (x : ℕ). ended_of x s.ended ≡ Some u → stage_of x rs.unfinished ≡ None → IsFinalWord (state_of c.table x) w → IsNextReplaced c.versions versions c.table table x w → IsWritten table table' x (HasPassed versions.slots x)
-      → slice_get (words_in table' x) 0 ≡ o → HasFinished rs opening steps s x (answer_as o) (record c { versions = versions; table = table_as o table' x })) id
+      subst (λ (x : ℕ). ended_of x s.ended ≡ Some u → Leaves rs after s c.tale x → IsFinalWord (state_of c.table x) w → IsNextReplaced c.versions versions c.table table x w → IsWritten table table' x (HasPassed versions.slots x)
+      → slice_get (words_in table' x) 0 ≡ o → HasFinished (readers_as o rs after) opening steps s x (answer_as o) (record c { versions = versions; table = table_as o table' x })) id
       (λ e d f n a l. by_first u e d w f versions n.between table table' n.passed (slice_get (words_in n.between u.id) 0) refl n.first a o l)
-      found.1 other final r again (sym left)
+      found.1 leaves final r again (sym left)
 
+module _ (rs : Readers) (opening : Map) (steps : List Step) (s : State) (c : CoreData) (h : StandsAmong rs opening steps s c) where
   -- ---- it is refused
   pub finish_refused : (t : ℕ) (why : Refusal) → why_not_finished (state_of c.table t) ≡ Some why → LeadsAmong rs opening steps s (Finish t) (Refused why) c
   finish_refused t why e = record {
@@ -292,18 +299,29 @@ module _ (rs : Readers) (opening : Map) (steps : List Step) (s : State) (c : Cor
   }
 
   -- ---- by what the code found
+  pub finish_more_of : (after : Readers) (t : ℕ) → Leaves rs after s c.tale t → (w : Held) → IsFinalWord (state_of c.table t) w → (versions : VersionsData) (table table' : Txns (Node KeptTransaction)) → IsNextReplaced c.versions versions c.table table t w
+      → IsWritten table table' t (HasPassed versions.slots t) → (o : Option WordPlace) → o ≡ slice_get (words_in table' t) 0 → true ≡ is_some o
+      → HasFinished rs opening steps s t More (record c { versions = versions; table = table' })
+  finish_more_of after t leaves w final versions table table' r again None left is = absurd (true≢false is)
+  finish_more_of after t leaves w final versions table table' r again (Some q) left is = finish_leads rs opening steps s c h after t leaves w final versions table table' r again (Some q) left
+
+  pub finish_done_of : (after : Readers) (t : ℕ) → Leaves rs after s c.tale t → (w : Held) → IsFinalWord (state_of c.table t) w → (versions : VersionsData) (table table' end : Txns (Node KeptTransaction)) → IsNextReplaced c.versions versions c.table table t w
+      → IsWritten table table' t (HasPassed versions.slots t) → (o : Option WordPlace) → o ≡ slice_get (words_in table' t) 0 → false ≡ is_some o → end ≡ after_terminate table' t
+      → HasFinished after opening steps s t Done (record c { versions = versions; table = end })
+  finish_done_of after t leaves w final versions table table' end r again None left is gone =
+      subst (λ x. HasFinished after opening steps s t Done (record c { versions = versions; table = x })) (sym gone) (finish_leads rs opening steps s c h after t leaves w final versions table table' r again None left)
+  finish_done_of after t leaves w final versions table table' end r again (Some q) left is gone = absurd (false≢true is)
+
+  -- of one that is none of the read-only ones
   pub finish_more : (t : ℕ) → stage_of t rs.unfinished ≡ None → (w : Held) → IsFinalWord (state_of c.table t) w → (versions : VersionsData) (table table' : Txns (Node KeptTransaction)) → IsNextReplaced c.versions versions c.table table t w
       → IsWritten table table' t (HasPassed versions.slots t) → (o : Option WordPlace) → o ≡ slice_get (words_in table' t) 0 → true ≡ is_some o
       → HasFinished rs opening steps s t More (record c { versions = versions; table = table' })
-  finish_more t other w final versions table table' r again None left is = absurd (true≢false is)
-  finish_more t other w final versions table table' r again (Some q) left is = finish_leads t other w final versions table table' r again (Some q) left
+  finish_more t other w final versions table table' r again o left is = finish_more_of rs t (other_leaves rs s c.tale t h.places other) w final versions table table' r again o left is
 
   pub finish_done : (t : ℕ) → stage_of t rs.unfinished ≡ None → (w : Held) → IsFinalWord (state_of c.table t) w → (versions : VersionsData) (table table' end : Txns (Node KeptTransaction)) → IsNextReplaced c.versions versions c.table table t w
       → IsWritten table table' t (HasPassed versions.slots t) → (o : Option WordPlace) → o ≡ slice_get (words_in table' t) 0 → false ≡ is_some o → end ≡ after_terminate table' t
       → HasFinished rs opening steps s t Done (record c { versions = versions; table = end })
-  finish_done t other w final versions table table' end r again None left is gone =
-      subst (λ x. HasFinished rs opening steps s t Done (record c { versions = versions; table = x })) (sym gone) (finish_leads t other w final versions table table' r again None left)
-  finish_done t other w final versions table table' end r again (Some q) left is gone = absurd (false≢true is)
+  finish_done t other w final versions table table' end r again o left is gone = finish_done_of rs t (other_leaves rs s c.tale t h.places other) w final versions table table' end r again o left is gone
 
   -- the end of one that committed was drawn
   pub drawn_end : (t : ℕ) → HasDrawnEnd c.table.clock (state_of c.table t)

@@ -80,7 +80,7 @@ readers_moved before after opening steps s c t table tale h apart written opens 
 }
 
 -- ---- a call that is none of the core's
-nothing_called : (rs : Readers) (opening : Map) (own : List Step) (s : State) (cs : Run) (new : CoreData) → cs ≡ [] → StandsAmong rs opening own s new → StandsAmong rs opening (own ++ trace_of s cs) (after_run s cs) new
+pub nothing_called : (rs : Readers) (opening : Map) (own : List Step) (s : State) (cs : Run) (new : CoreData) → cs ≡ [] → StandsAmong rs opening own s new → StandsAmong rs opening (own ++ trace_of s cs) (after_run s cs) new
 nothing_called rs opening own s cs new e h =
     subst (λ (xs : Run). StandsAmong rs opening (own ++ trace_of s xs) (after_run s xs) new) (sym e)
     (subst (λ (ys : List Step). StandsAmong rs opening ys s new) (sym (append-nil own)) h)

@@ -114,7 +114,7 @@ tale_is opening steps s c h = record {
 module _ (rs : Readers) (opening : Map) (steps : List Step) (s : State) (c : CoreData) (h : StandsAmong rs opening steps s c) where
   module _ (m oldest low : ℕ) (begin : IsOldestBegin c.table oldest) (water : IsLowWater c.table low) where
     -- ---- the three tests
-    test_is : is_trim s m ≡ may_trim_to m c.start oldest low
+    pub test_is : is_trim s m ≡ may_trim_to m c.start oldest low
     test_is =
         let o = oldest_told opening steps s c.table oldest h.versions.kept h.dependencies.stands begin in
         let l = low_water_told opening steps s c.table low h.versions.kept h.dependencies.stands water in

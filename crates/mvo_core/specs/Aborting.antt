@@ -70,16 +70,16 @@ has_reading_place Prepared = true
 has_reading_place kind = false
 
 -- a Preparing one has a place at which no commit is stored, and a read-only one that hasn't ended
-abbrev pub has_place : Option TxState → TransactionKind → Bool
-has_place (Some Active) kind = has_reading_place kind
-has_place (Some (Preparing e)) kind = true
-has_place state kind = false
+abbrev pub has_pending_place : Option TxState → TransactionKind → Bool
+has_pending_place (Some Active) kind = has_reading_place kind
+has_pending_place (Some (Preparing e)) kind = true
+has_pending_place state kind = false
 
 abbrev pub HasOpenPlace : Option TxState → TransactionKind → List TalePlace → ℕ → Type 0
 HasOpenPlace state kind slots place =
-    has_place state kind ≡ true → IsSome (pending_end_at slots place)
+    has_pending_place state kind ≡ true → IsSome (pending_end_at slots place)
 
 -- the tale that it leaves
 abbrev pub tale_left : Option TxState → TransactionKind → List TalePlace → ℕ → List TalePlace
 tale_left state kind slots place =
-    if has_place state kind then closed_up (slice_set slots place Empty) else slots
+    if has_pending_place state kind then closed_up (slice_set slots place Empty) else slots

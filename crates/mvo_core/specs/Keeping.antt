@@ -10,6 +10,7 @@ use Rattle.mvo_work.specs.declared.word_place.WordPlace.{WordPlace}
 use Rattle.mvo_work.specs.Work.{HasRoom}
 use Rattle.mvo_core.specs.declared.kept_transaction.KeptTransaction.{KeptTransaction}
 use Rattle.mvo_core.specs.declared.kept_transaction.TransactionKind.{TransactionKind}
+use Rattle.mvo_core.specs.declared.kept_transaction.TransactionKind.TheVariants.{Preparing, Committed}
 use Rattle.mvo_core.specs.Data.{own_of}
 use Rattle.mvo_core.specs.Own.{is_last_check}
 
@@ -99,6 +100,14 @@ pub record IsPlacedInTale (place : ℕ) (old new : KeptTransaction) : Type 0 whe
   pub valid : new.valid ≡ false
   pub kind : new.kind ≡ old.kind
 
+-- it is read-only, and its checks begin: none of its entries is checked
+pub record HasStartedChecks (old new : KeptTransaction) : Type 0 where
+  pub work : new.work ≡ old.work
+  pub place : new.place ≡ old.place
+  pub checked : new.checked ≡ 0
+  pub valid : new.valid ≡ false
+  pub kind : new.kind ≡ Preparing
+
 -- one more of its entries is checked. The last one isn't counted: it is valid then
 pub record IsCounted (old new : KeptTransaction) : Type 0 where
   pub work : new.work ≡ old.work
@@ -115,6 +124,15 @@ pub record HasEndedAs (end : TransactionKind) (old new : KeptTransaction) : Type
   pub checked : new.checked ≡ old.checked
   pub valid : new.valid ≡ old.valid
   pub kind : new.kind ≡ end
+
+-- it is read-only and Committed, and its operations are taken out. The words stay
+pub record HasHandedOverRead (old new : KeptTransaction) : Type 0 where
+  pub history : new.work.history ≡ []
+  pub words : new.work.words ≡ old.work.words
+  pub place : new.place ≡ old.place
+  pub checked : new.checked ≡ old.checked
+  pub valid : new.valid ≡ old.valid
+  pub kind : new.kind ≡ Committed
 
 -- so it has if it is read-only
 abbrev pub HasEndedIf : Bool → TransactionKind → Txns (Node KeptTransaction)

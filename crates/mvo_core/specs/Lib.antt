@@ -27,4 +27,8 @@ pub mod Scanning
 pub mod Spare
 pub mod Holding
 pub mod Receipts
+pub mod WholeAnswers
+pub mod WholeEnds
+pub mod WholeClosing
+pub mod WholeTales
 pub mod Operations

@@ -1,6 +1,8 @@
 -- What a core stands for with its read-only transactions: a whole state.
 use Rattle.std.specs.Prelude.{ℕ, ◌≡◌, ◌≢◌, ◌+◌, ◌++◌, false, List, [], ◌∷◌, length, None, Some, ⊤}
+use Rattle.std.specs.Prelude.{Result as Answered}
 use Rattle.std.specs.List.{AllByRecursion}
+use Rattle.mvo_types.specs.declared.refusal.Refusal.{Refusal}
 use Rattle.mvo_types.specs.Keys.{Map}
 use Rattle.mvo_model.specs.Trace.{Step}
 use Rattle.mvo_theory.specs.State.{State}
@@ -28,7 +30,7 @@ use Rattle.mvo_core.specs.Data.{CoreData}
 use Rattle.mvo_core.specs.Keeping.{IsWritten}
 use Rattle.mvo_core.specs.Readers.{Readers, HaveStages, HasTalePlaces}
 use Rattle.mvo_core.specs.Standing.{StandsAmong}
-use Rattle.mvo_core.specs.Steps.{LeadsAmong}
+use Rattle.mvo_core.specs.Steps.{LeadsAmong, came}
 
 abbrev pub readers_of : WholeState → Readers
 readers_of w = record { unfinished = w.readers; committed = w.committed_readers }
@@ -47,6 +49,12 @@ pub record LeadsWhole (opening : Map) (steps own : List Step) (w : WholeState) (
   pub stands :
       StandsWhole opening (steps ++ steps_of_whole_call w a r)
       (own ++ trace_of w.core (core_calls w a r)) (after_whole_call w a r) new
+
+-- so it does from each whole state that the core stands for
+abbrev pub IsWholeStep : {A : Type 0} → CoreData → Call → Answered A Refusal → CoreData → Type 0
+IsWholeStep old call result new = (opening : Map) (steps own : List Step) (w : WholeState)
+    → StandsWhole opening steps own w old
+    → LeadsWhole opening steps own w (CoreCall call) (came result) new
 
 -- ---- laws
 -- its operations and its words stay, whatever else is kept of it

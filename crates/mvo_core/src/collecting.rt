@@ -17,6 +17,8 @@ use mvo_work::WordPlace;
 impl Core {
     ghost use Rattle.std.specs.Prelude.{◌≡◌};
     ghost use Rattle.mvo_core.specs.Collecting.{StandsAsBefore, IsTaken, AreFewer, ShowsSame};
+    ghost use Rattle.mvo_core.specs.WholeAnswers.{StandsWholeAsBefore};
+    ghost use Rattle.mvo_core.specs.WholeAnswers.{AreFewerWhole, ShowsSameWhole};
 
     /// Takes one garbage version out of both indexes and its key's chain, if there is one: a
     /// version that nobody has put any more and nobody has ended, or one that was ended up to the
@@ -28,6 +30,9 @@ impl Core {
         ensures stands { StandsAsBefore self.old self.new }
         ensures counts { AreFewer self.old result self.new }
         ensures shows { ShowsSame self.old self.new }
+        ensures whole { StandsWholeAsBefore self.old self.new }
+        ensures whole_counts { AreFewerWhole self.old result self.new }
+        ensures whole_shows { ShowsSameWhole self.old self.new }
     {
         collect_one(&mut self.versions, &mut self.waiting, self.start)
     }

@@ -19,8 +19,8 @@ ghost use Rattle.mvo_core.specs.Standing.{words_in};
 ghost use Rattle.mvo_core.specs.Own.{own_place, own_history};
 ghost use Rattle.mvo_core.specs.Own.{own_check};
 ghost use Rattle.mvo_core.specs.Keeping.{IsWritten, IsWrittenThen, IsPlacedInTale, IsCounted, HasHandedOver};
-ghost use Rattle.mvo_core.specs.Keeping.{HasEndedIf, HasEndedAs};
-ghost use Rattle.mvo_core.specs.Aborting.{HasOpenPlace, tale_left, has_place, has_reading_place};
+ghost use Rattle.mvo_core.specs.Keeping.{HasEndedIf, HasEndedAs, HasStartedChecks, HasHandedOverRead};
+ghost use Rattle.mvo_core.specs.Aborting.{HasOpenPlace, tale_left, has_pending_place, has_reading_place};
 ghost use Rattle.mvo_core.specs.Causes.{kind_kept, is_read_only as is_reader};
 ghost use Rattle.mvo_core.specs.Collecting.{WaitBehind};
 ghost use Rattle.mvo_core.specs.Fronts.{version_passes, comes_at_draw, IsInFrontIf, AreInFront};
@@ -44,10 +44,14 @@ use mvo_word::Word;
 use mvo_work::{Operations, WordPlace, Work};
 
 impl Core {
-    ghost use Rattle.std.specs.Prelude.{◌≡◌, ◌+◌, IfOk};
+    ghost use Rattle.std.specs.Prelude.{◌≡◌, ◌+◌, None, IfOk};
     ghost use Rattle.mvo_theory.specs.Calls.Call.{Precommit, Validate, Settle, Rollback};
     ghost use Rattle.mvo_txn.specs.Txns.{state_of, IsUnended};
     ghost use Rattle.mvo_core.specs.Steps.{IsStep, IsValidation, IsSettlement};
+    ghost use Rattle.mvo_core.specs.WholeStanding.{IsWholeStep};
+    ghost use Rattle.mvo_core.specs.Settling.{IsReadyReader};
+    ghost use Rattle.mvo_core.specs.WholeEnds.{IsEndWhole, IsValidationWhole, IsSettlementWhole};
+    ghost use Rattle.mvo_core.specs.WholeEnds.{IsReaderSettled, reader_settled_as};
     ghost use Rattle.mvo_core.specs.Aborting.{MayGiveUp, IsGivenUp, IsAborted};
     ghost use Rattle.mvo_core.specs.Aborting.{IsReaderGivenUp, IsReaderAborted};
 
@@ -57,12 +61,17 @@ impl Core {
     pub fn precommit(&mut self, tx: TxId) -> Result<Stamp, Refusal>
         ensures step { IsStep self.old (Precommit tx.0) result self.new }
         ensures end { IfOk result (λ e. e.0 ≡ self.old.table.clock + 1) }
+        ensures whole { IsWholeStep self.old (Precommit tx.0) result self.new }
+        ensures whole_end { IfOk result (IsEndWhole self.old tx.0) }
     {
         let seat = self.table.seat_of(tx);
         let tx = Located { id: tx, seat };
-        let (refusal, count) = active(&self.table, tx);
+        let (refusal, count, reads) = active(&self.table, tx);
         if let Some(refusal) = refusal {
             return Err(self.give_up(tx, refusal));
+        }
+        if reads {
+            return Ok(start_checks(&mut self.table, tx));
         }
         let clock = self.table.clock().0;
         if clock >= MAX_STAMP {
@@ -88,6 +97,8 @@ impl Core {
     pub fn validate_one(&mut self, tx: TxId) -> Result<Validation, Refusal>
         ensures step { IsStep self.old (Validate tx.0) result self.new }
         ensures answer { IfOk result (IsValidation self.old tx.0) }
+        ensures whole { IsWholeStep self.old (Validate tx.0) result self.new }
+        ensures whole_answer { IfOk result (IsValidationWhole self.old tx.0) }
     {
         let seat = self.table.seat_of(tx);
         let tx = Located { id: tx, seat };
@@ -104,6 +115,8 @@ impl Core {
     pub fn settle(&mut self, tx: TxId) -> Result<Settlement, Refusal>
         ensures step { IsStep self.old (Settle tx.0) result self.new }
         ensures answer { IfOk result (IsSettlement self.old tx.0) }
+        ensures whole { IsWholeStep self.old (Settle tx.0) result self.new }
+        ensures whole_answer { IfOk result (IsSettlementWhole self.old tx.0) }
     {
         let seat = self.table.seat_of(tx);
         let tx = Located { id: tx, seat };
@@ -111,6 +124,7 @@ impl Core {
             Readiness::Refused(refusal) => return Err(self.give_up(tx, refusal)),
             Readiness::NotValidated => return Err(Refusal::NotValidated),
             Readiness::WaitsFor(other) => return Ok(Settlement::Waiting(other)),
+            Readiness::ReadyReader => return Ok(self.settle_reader(tx)),
             Readiness::Ready(has_dependents) => has_dependents,
         };
         let (end, place, operations) = commit(&mut self.table, tx);
@@ -127,10 +141,37 @@ impl Core {
         Ok(Settlement::Committed(end))
     }
 
+    /// Makes a read-only transaction that waits for none Committed at its begin, and stores its
+    /// commit at the place that it has in the tale. For the others it is aborted.
+    fn settle_reader(&mut self, reader: Located) -> Settlement
+        requires { IsReadyReader self.old.table reader.id }
+        ensures answer { result ≡ reader_settled_as reader.id.0 None }
+        ensures settled { IsReaderSettled self.old reader.id.0 self.new }
+    {
+        // A look at the places: from it the proof knows that their ends rise.
+        let _ = self.tale.len();
+        self.table.abort(reader);
+        report_abort(&mut self.table, reader);
+        bring_puts(&mut self.versions, &self.table, reader);
+        let (place, operations) = hand_over(&mut self.table, reader);
+        let Operations { told, written } = operations;
+        let end = Stamp(reader.id.0);
+        let entry = TaleEntry {
+            id: reader.id,
+            begin: end,
+            end,
+            operations: told,
+            written,
+        };
+        self.tale.settle(place, entry);
+        Settlement::Committed(end)
+    }
+
     /// Makes an Active or Preparing transaction Aborted, also one that depends on an aborted one.
     /// Refused: NoSuchTransaction, Ended.
     pub fn rollback_tx(&mut self, tx: TxId) -> Result<(), Refusal>
         ensures step { IsStep self.old (Rollback tx.0) result self.new }
+        ensures whole { IsWholeStep self.old (Rollback tx.0) result self.new }
     {
         let seat = self.table.seat_of(tx);
         let tx = Located { id: tx, seat };
@@ -184,15 +225,15 @@ fn leave_tale(tale: &mut Tale, table: &Table, tx: Located) -> bool
     let Some(seat) = table.get(tx) else {
         return false;
     };
-    if has_place(seat) {
+    if has_pending_place(seat) {
         tale.leave(seat.kept.own.place);
     }
     is_read_only(seat.kept.own.kind)
 }
 
 /// Whether one has a place in the tale at which no commit is stored.
-fn has_place(seat: &TableSeat<Node<KeptTransaction>>) -> bool
-    ensures { result ≡ has_place (Some seat.now.state) seat.now.kept.own.kind }
+fn has_pending_place(seat: &TableSeat<Node<KeptTransaction>>) -> bool
+    ensures { result ≡ has_pending_place (Some seat.now.state) seat.now.kept.own.kind }
 {
     match seat.state {
         TxState::Active => has_reading_place(seat.kept.own.kind),
@@ -249,6 +290,27 @@ fn prepare(table: &mut Table, tx: Located, place: usize, end: Stamp) -> Result<S
     Ok(end)
 }
 
+/// Makes a read-only transaction Preparing, and answers its begin, which is its end.
+fn start_checks(table: &mut Table, tx: Located) -> Stamp
+    requires { IsSome (own_of table.old tx.id.0) }
+    ensures end { result.0 ≡ tx.id.0 }
+    ensures started { IsWritten table.old table.new tx.id.0 HasStartedChecks }
+{
+    begin_checks(table, tx);
+    Stamp(tx.id.0)
+}
+
+/// Does so by one look. None of its entries is checked yet.
+fn begin_checks(table: &mut Table, tx: Located)
+    requires { IsSome (own_of table.old tx.id.0) }
+    ensures { IsWritten table.old table.new tx.id.0 HasStartedChecks }
+{
+    match table.get_mut(tx) {
+        Some(node) => node.own.start_checks(),
+        None => unreachable!(),
+    }
+}
+
 /// Counts a check, and says whether an entry is left.
 fn count_check(table: &mut Table, tx: Located) -> Validation
     requires { IsSome (own_of table.old tx.id.0) }
@@ -288,6 +350,23 @@ fn commit(table: &mut Table, tx: Located) -> (Stamp, usize, Operations)
 {
     let (end, node) = table.commit(tx);
     (end, node.own.place, node.own.work.take_operations())
+}
+
+/// Makes a read-only transaction Committed by one look: answers its place in the tale, with its
+/// operations, which are taken out.
+fn hand_over(table: &mut Table, tx: Located) -> (usize, Operations)
+    requires { IsSome (own_of table.old tx.id.0) }
+    ensures place { result.0 ≡ own_place (own_of table.old tx.id.0) }
+    ensures told { history_told result.1.told.items ≡ own_history (own_of table.old tx.id.0) }
+    ensures written { result.1.written.items ≡
+        written_keys (own_history (own_of table.old tx.id.0)) }
+    ensures limits { AreLimited (own_history (own_of table.old tx.id.0)) }
+    ensures left { IsWritten table.old table.new tx.id.0 HasHandedOverRead }
+{
+    match table.get_mut(tx) {
+        Some(node) => node.own.hand_over(),
+        None => unreachable!(),
+    }
 }
 
 /// What the words of the transaction come to as it draws this end, in the order of writing. What it

@@ -73,6 +73,7 @@ impl Core {
     ghost use Rattle.mvo_theory.specs.Calls.Call.{Begin};
     ghost use Rattle.mvo_core.specs.Standing.{HasOpenedOver};
     ghost use Rattle.mvo_core.specs.Steps.{IsStep};
+    ghost use Rattle.mvo_core.specs.WholeStanding.{IsWholeStep};
 
     /// A core over these rows, with the clock at their mark. The two indexes of 8,192 rows or more
     /// are made in two threads. Who chooses the keys of rows must not know the seed, which decides
@@ -117,6 +118,7 @@ impl Core {
     pub fn begin_tx(&mut self) -> Result<TxId, Refusal>
         ensures step { IsStep self.old Begin result self.new }
         ensures id { IfOk result (λ t. t.0 ≡ self.old.table.clock + 1) }
+        ensures whole { IsWholeStep self.old Begin result self.new }
     {
         if let Some(refusal) = self.table.why_not_begun() {
             return Err(refusal);

@@ -5,7 +5,7 @@ use crate::answers::Validation;
 use mvo_deps::{Dependencies, Node};
 use mvo_txn::TxnTable;
 use mvo_types::{Answer, Op};
-use mvo_work::{WordPlace, Work};
+use mvo_work::{Operations, WordPlace, Work};
 use std::alloc::{AllocError, Global};
 
 /// The unfinished transactions.
@@ -50,7 +50,11 @@ impl KeptTransaction {
     ghost use Rattle.mvo_work.specs.Work.{HasRoom};
     ghost use Rattle.mvo_core.specs.Own.{is_last_check, checked_as};
     ghost use Rattle.mvo_core.specs.Keeping.{IsPlacedInTale, IsCounted, IsTold};
-    ghost use Rattle.mvo_core.specs.Keeping.{HasDoneAsMuch, HasDoneMore, HasEndedAs};
+    ghost use Rattle.mvo_core.specs.Keeping.{HasDoneAsMuch, HasDoneMore};
+    ghost use Rattle.mvo_core.specs.Keeping.{HasEndedAs, HasStartedChecks, HasHandedOverRead};
+    ghost use Rattle.mvo_theory.specs.Entries.{written_keys};
+    ghost use Rattle.mvo_theory.specs.Limits.{AreLimited};
+    ghost use Rattle.mvo_theory.specs.Told.{history_told};
 
     /// It has this place in the tale, and none of its entries is checked yet.
     pub fn keep_place(&mut self, place: usize)
@@ -59,6 +63,27 @@ impl KeptTransaction {
         self.place = place;
         self.checked = 0;
         self.valid = false;
+    }
+
+    /// It is read-only, and its checks begin: none of its entries is checked yet.
+    pub fn start_checks(&mut self)
+        ensures { HasStartedChecks self.old self.new }
+    {
+        self.kind = TransactionKind::Preparing;
+        self.checked = 0;
+        self.valid = false;
+    }
+
+    /// It is read-only and Committed: its operations are taken out, and answered with its place.
+    pub fn hand_over(&mut self) -> (usize, Operations)
+        ensures place { result.0 ≡ self.old.place }
+        ensures told { history_told result.1.told.items ≡ self.old.work.history }
+        ensures written { result.1.written.items ≡ written_keys self.old.work.history }
+        ensures limits { AreLimited self.old.work.history }
+        ensures left { HasHandedOverRead self.old self.new }
+    {
+        self.kind = TransactionKind::Committed;
+        (self.place, self.work.take_operations())
     }
 
     /// It is read-only, and has ended so.

@@ -2,7 +2,7 @@
 ghost use Rattle.mvo_core.specs.Settling.{IsReadiness};
 
 use crate::kept_transaction::Table;
-use crate::refusing::not_preparing_in;
+use crate::refusing::{is_read_only, not_preparing_in};
 use mvo_deps::waiting_for;
 use mvo_txn::Located;
 use mvo_types::{Refusal, TxId};
@@ -16,6 +16,8 @@ pub enum Readiness {
     NotValidated,
     /// It depends on this transaction, which isn't settled: the one with the least end timestamp.
     WaitsFor(TxId),
+    /// It is read-only, and may be settled.
+    ReadyReader,
     /// It may be settled, and whether somebody depends on it.
     Ready(bool),
 }
@@ -37,6 +39,12 @@ pub fn readiness_of(table: &Table, tx: Located) -> Readiness
     let dependencies = &seat.kept.dependencies;
     match waiting_for(table, dependencies) {
         Some(other) => Readiness::WaitsFor(other),
-        None => Readiness::Ready(dependencies.has_dependents()),
+        None => {
+            if is_read_only(seat.kept.own.kind) {
+                Readiness::ReadyReader
+            } else {
+                Readiness::Ready(dependencies.has_dependents())
+            }
+        }
     }
 }

@@ -6,6 +6,8 @@ ghost use Rattle.mvo_core.specs.Causes.{why_not_put, why_not_remove, why_not_und
 ghost use Rattle.mvo_core.specs.Causes.{why_not_write, flag_refusal};
 ghost use Rattle.mvo_core.specs.Causes.{unless_active_as, unless_preparing_as};
 ghost use Rattle.mvo_core.specs.Causes.{unless_reads, unless_checks, is_read_only_kind};
+ghost use Rattle.mvo_core.specs.Causes.{is_read_only as is_reader};
+ghost use Rattle.mvo_core.specs.Data.{own_of};
 ghost use Rattle.mvo_core.specs.Standing.{words_in};
 ghost use Rattle.mvo_txn.specs.Txns.{state_of};
 
@@ -49,14 +51,23 @@ fn not_active_in(seat: &TableSeat<Node<KeptTransaction>>) -> Option<Refusal>
     }
 }
 
-/// Why the transaction may not be called as an Active one, and how many words its list has.
-pub fn active(table: &Table, tx: Located) -> (Option<Refusal>, usize)
+/// Why the transaction may not be called as an Active one, how many words its list has, and whether
+/// it is read-only.
+pub fn active(table: &Table, tx: Located) -> (Option<Refusal>, usize, bool)
     ensures refusal { result.0 ≡ why_not_active table.now tx.id.0 }
     ensures words { result.1 ≡ length (words_in table.now tx.id.0) }
+    ensures reads { result.2 ≡ is_reader (own_of table.now tx.id.0) }
 {
     match table.get(tx) {
-        Some(seat) => (not_active_in(seat), seat.kept.own.work.word_count()),
-        None => (Some(Refusal::NoSuchTransaction), 0),
+        Some(seat) => {
+            let own = &seat.kept.own;
+            (
+                not_active_in(seat),
+                own.work.word_count(),
+                is_read_only(own.kind),
+            )
+        }
+        None => (Some(Refusal::NoSuchTransaction), 0, false),
     }
 }
 

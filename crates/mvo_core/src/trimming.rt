@@ -17,6 +17,9 @@ impl Core {
     ghost use Rattle.mvo_txn.specs.Txns.{state_of};
     ghost use Rattle.mvo_core.specs.Steps.{IsStep, InEach};
     ghost use Rattle.mvo_core.specs.Trimming.{IsTaleOf, HasForgotten};
+    ghost use Rattle.mvo_core.specs.WholeStanding.{IsWholeStep};
+    ghost use Rattle.mvo_core.specs.WholeAnswers.{InEachWhole};
+    ghost use Rattle.mvo_core.specs.WholeTales.{IsWholeTaleOf};
 
     /// The stored commits, by end timestamp: all that end above the start of the tale, and of those
     /// up to it the ones at the back that are in no closed group yet, which stay for theirs.
@@ -24,7 +27,11 @@ impl Core {
         ensures tale { result.now ≡ self.now.tale }
         ensures stored { InEach self.now (λ s.
             IsTaleOf s (state_of self.now.table) self.now.versions.slots result.now) }
+        ensures whole { InEachWhole self.now (λ w.
+            IsWholeTaleOf w (state_of self.now.table) self.now.versions.slots result.now) }
     {
+        // A look at the places: from it the proof knows that their ends rise.
+        let _ = self.tale.len();
         &self.tale
     }
 
@@ -45,6 +52,7 @@ impl Core {
         ensures step { IsStep self.old (Trim upto.0) result self.new }
         ensures forgets { IfOk result (λ _. HasForgotten upto.0 self.old.closed self.old self.new) }
         ensures err { IfErr result (λ r. r ≡ Refusal.NothingToDo) }
+        ensures whole { IsWholeStep self.old (Trim upto.0) result self.new }
     {
         let oldest = self.table.oldest_begin();
         let low_water = self.table.low_water();

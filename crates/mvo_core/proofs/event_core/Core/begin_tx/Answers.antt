@@ -11,6 +11,10 @@ use Rattle.mvo_core.specs.Steps.{came, LeadsOn}
 use Rattle.mvo_core.proofs.Begun.{begin_leads, begin_refused, stands_on}
 use Rattle.mvo_core.proofs.Refused.{came_spent}
 use Rattle.mvo_core.proofs.Waits.{begun_waits}
+use Rattle.mvo_core.specs.WholeStanding.{readers_of, StandsWhole, LeadsWhole}
+use Rattle.mvo_readonly.specs.WholeCauses.WholeCall.{CoreCall}
+use Rattle.mvo_theory.specs.Calls.Result.{Refused}
+use Rattle.mvo_core.proofs.OthersLead.{others_lead}
 use Rattle.mvo_core.proofs.event_core.Core.begin_tx.Goals as goal
 
 pub returns-in-Some-clause-step : goal.returns-in-Some-clause-step
@@ -51,3 +55,31 @@ returns-clause-step c = λ opening steps s h.
     (ap (λ w. w.history) c.begun.ensures.work ∙ c.give_list.ensures.history ∙ c.in_ok-work.ensures.history)
     (ap (λ w. w.words) c.begun.ensures.work ∙ c.give_list.ensures.words ∙ c.in_ok-work.ensures.words) c.begun.ensures.kind
     c.begin.result c.begin.new.self c.begin.ensures.ok c.begin.ensures.no_cause c.begin.ensures.refused c.begin.ensures.err
+
+-- ---- beside read-only ones
+pub returns-in-Some-clause-whole : goal.returns-in-Some-clause-whole
+returns-in-Some-clause-whole c = λ opening steps own w h.
+    others_lead opening steps own w Begin (Refused c.in-Some.refusal) c.args.self.now c.args.self.now h refl tt
+    (begin_refused (readers_of w) opening own w.core c.args.self.now h.core c.in-Some.refusal
+    (subst (λ o. IsTableRefusal o c.in-Some.refusal) (sym (ap (λ (x : CoreData). why_not_begun x.table) (sym c.self.view_is) ∙ sym c.why_not_begun.ensures ∙ c.in-Some.is)) refl))
+
+pub returns-in_err-work-clause-whole : goal.returns-in_err-work-clause-whole
+returns-in_err-work-clause-whole c = λ opening steps own w h.
+    let f = c.self.inside in
+    let old : CoreData = core_data f in
+    let g : StandsWhole opening steps own w old = subst (StandsWhole opening steps own w) (sym c.self.view_is) h in
+    subst (λ r. LeadsWhole opening steps own w (CoreCall Begin) r old) (came_spent c.from_residual.result c.from_residual.ensures.1)
+    (others_lead opening steps own w Begin (Refused OutOfMemory) old old g refl tt
+    (begin_refused (readers_of w) opening own w.core old g.core OutOfMemory (subst (λ o. IsTableRefusal o OutOfMemory) (sym (sym c.why_not_begun.ensures ∙ c.in_default.is)) refl)))
+
+pub returns-clause-whole : goal.returns-clause-whole
+returns-clause-whole c = λ opening steps own w h.
+    let f = c.self.inside in
+    let old : CoreData = record (core_data f) { tale = c.give_list.new.tale } in
+    let g : StandsWhole opening steps own w (core_data f) = subst (StandsWhole opening steps own w) (sym c.self.view_is) h in
+    let stands : StandsWhole opening steps own w old = subst (λ (t : List TalePlace). StandsWhole opening steps own w (record (core_data f) { tale = t })) (sym c.give_list.ensures.tale) g in
+    others_lead opening steps own w Begin (came c.begin.result) old (record old { table = c.begin.new.self }) stands refl tt
+    (begin_leads (readers_of w) opening own w.core old stands.core c.begun.result c.begun.ensures.dependencies
+    (ap (λ w. w.history) c.begun.ensures.work ∙ c.give_list.ensures.history ∙ c.in_ok-work.ensures.history)
+    (ap (λ w. w.words) c.begun.ensures.work ∙ c.give_list.ensures.words ∙ c.in_ok-work.ensures.words) c.begun.ensures.kind
+    c.begin.result c.begin.new.self c.begin.ensures.ok c.begin.ensures.no_cause c.begin.ensures.refused c.begin.ensures.err)

@@ -1,4 +1,4 @@
-use Rattle.std.proofs.Common.{sym, subst, refl}
+use Rattle.std.proofs.Common.{sym, subst, refl, ap, ◌∙◌}
 use Rattle.mvo_theory.specs.Calls.Call.{Finish}
 use Rattle.mvo_theory.specs.Calls.Result.{Accepted}
 use Rattle.mvo_core.specs.Readers.{no_readers}
@@ -8,6 +8,10 @@ use Rattle.mvo_txn.specs.Txns.{state_of}
 use Rattle.mvo_core.specs.Standing.{StandsFor, words_in}
 use Rattle.mvo_core.proofs.Begun.{stands_on}
 use Rattle.mvo_core.proofs.Finished.{drawn_end, finish_more, finish_done, replaced_ended}
+use Rattle.mvo_core.specs.WholeStanding.{StandsWhole, LeadsWhole}
+use Rattle.mvo_readonly.specs.WholeCauses.WholeCall.{CoreCall}
+use Rattle.mvo_core.specs.Finishing.{why_not_finished}
+use Rattle.mvo_core.proofs.WholeFinished.{came_refused, finish_refused_whole, finish_more_whole, finish_done_whole}
 use Rattle.mvo_core.proofs.Waits.{owed_for, waits_finished, waits_gone}
 use Rattle.mvo_core.proofs.event_core.Core.finish_one.Goals as goal
 
@@ -85,3 +89,42 @@ pub count_off-requires : goal.count_off-requires
 count_off-requires c =
     let f = c.self.inside in
     owed_for f.table.clock (state_of f.table) f.versions.slots f.waiting c.args.tx.0 (words_in f.table c.args.tx.0) c.replace_next-replaced.result.0 c.replace_next-replaced.ensures.first c.self.invariant.waiting
+
+-- ---- beside read-only ones
+pub returns-then-is_some-clause-whole : goal.returns-then-is_some-clause-whole
+returns-then-is_some-clause-whole c = λ opening steps own w h.
+    let f = c.self.inside in
+    let old : CoreData = core_data f in
+    let g : StandsWhole opening steps own w old = subst (StandsWhole opening steps own w) (sym c.self.view_is) h in
+    (finish_more_whole opening steps own w old g c.args.tx.0 c.in_ok-word.word c.in_ok-word.ensures.ok c.replace_next-replaced.new.versions c.replace_next-replaced.ensures.replaced.between c.replace_next-replaced.new.table
+    c.replace_next-replaced.ensures.replaced.next c.replace_next-replaced.ensures.replaced.passed c.replace_next-replaced.result.1 c.replace_next-replaced.ensures.next c.if-is_some.ensures).leads
+
+pub returns-clause-whole : goal.returns-clause-whole
+returns-clause-whole c = λ opening steps own w h.
+    let f = c.self.inside in
+    let old : CoreData = core_data f in
+    let g : StandsWhole opening steps own w old = subst (StandsWhole opening steps own w) (sym c.self.view_is) h in
+    (finish_done_whole opening steps own w old g c.args.tx.0 c.in_ok-word.word c.in_ok-word.ensures.ok c.replace_next-replaced.new.versions c.replace_next-replaced.ensures.replaced.between c.replace_next-replaced.new.table
+    c.replace_next-replaced.ensures.replaced.next c.replace_next-replaced.ensures.replaced.passed c.replace_next-replaced.result.1 c.replace_next-replaced.ensures.next c.if-is_some.ensures c.terminate-node.new.self c.terminate-node.ensures.gone).leads
+
+pub returns-then-is_some-clause-whole_answer : goal.returns-then-is_some-clause-whole_answer
+returns-then-is_some-clause-whole_answer c = λ opening steps own w h.
+    let f = c.self.inside in
+    let old : CoreData = core_data f in
+    let g : StandsWhole opening steps own w old = subst (StandsWhole opening steps own w) (sym c.self.view_is) h in
+    (finish_more_whole opening steps own w old g c.args.tx.0 c.in_ok-word.word c.in_ok-word.ensures.ok c.replace_next-replaced.new.versions c.replace_next-replaced.ensures.replaced.between c.replace_next-replaced.new.table
+    c.replace_next-replaced.ensures.replaced.next c.replace_next-replaced.ensures.replaced.passed c.replace_next-replaced.result.1 c.replace_next-replaced.ensures.next c.if-is_some.ensures).answer
+
+pub returns-clause-whole_answer : goal.returns-clause-whole_answer
+returns-clause-whole_answer c = λ opening steps own w h.
+    let f = c.self.inside in
+    let old : CoreData = core_data f in
+    let g : StandsWhole opening steps own w old = subst (StandsWhole opening steps own w) (sym c.self.view_is) h in
+    (finish_done_whole opening steps own w old g c.args.tx.0 c.in_ok-word.word c.in_ok-word.ensures.ok c.replace_next-replaced.new.versions c.replace_next-replaced.ensures.replaced.between c.replace_next-replaced.new.table
+    c.replace_next-replaced.ensures.replaced.next c.replace_next-replaced.ensures.replaced.passed c.replace_next-replaced.result.1 c.replace_next-replaced.ensures.next c.if-is_some.ensures c.terminate-node.new.self c.terminate-node.ensures.gone).answer
+
+pub returns-in_err-word-clause-whole : goal.returns-in_err-word-clause-whole
+returns-in_err-word-clause-whole c = λ opening steps own w h.
+    subst (λ r. LeadsWhole opening steps own w (CoreCall (Finish c.args.tx.0)) r c.args.self.now) (came_refused c.from_residual.result c.in_err-word.field-0.0 c.from_residual.ensures.1)
+    (finish_refused_whole opening steps own w c.args.self.now h c.args.tx.0 c.in_err-word.field-0.0
+    (ap (λ (v : CoreData). why_not_finished (state_of v.table c.args.tx.0)) (sym c.self.view_is) ∙ c.in_err-word.ensures.err))

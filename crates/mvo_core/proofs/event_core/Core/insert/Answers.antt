@@ -19,6 +19,11 @@ use Rattle.mvo_core.proofs.Refused.{came_spent}
 use Rattle.std.specs.Option.{option_to_list}
 use Rattle.mvo_core.specs.Keeping.{HasDoneAsMuch}
 use Rattle.mvo_core.proofs.Waits.{waits_roomy, waits_alike, alike_written, alike_recorded, waits_spent, waits_inserted}
+use Rattle.mvo_core.specs.WholeStanding.{readers_of, StandsWhole, LeadsWhole}
+use Rattle.mvo_readonly.specs.WholeCauses.WholeCall.{CoreCall}
+use Rattle.mvo_core.proofs.OthersLead.{others_lead}
+use Rattle.mvo_core.proofs.WholeCalled.{stage_none}
+use Rattle.mvo_core.proofs.WholeReads.{put_not_reading, put_refused_whole}
 use Rattle.mvo_core.proofs.event_core.Core.insert.Goals as goal
 
 pub returns-in-Some-clause-step : goal.returns-in-Some-clause-step
@@ -142,3 +147,86 @@ returns-in_err-make_room-clause-step c = λ opening steps s h.
     let old : CoreData = core_data f in
     subst (λ r. LeadsOn opening steps s (Do c.args.tx.0 (Insert c.args.row)) r old) (came_spent c.from_residual-in_err-make_room.result c.from_residual-in_err-make_room.ensures.1)
     (insert_starved no_readers opening steps s old (subst (StandsFor opening steps s) (sym c.self.view_is) h) c.args.tx c.args.row refl (sym c.not_put.ensures ∙ c.in_default.is))
+
+-- ---- beside read-only ones
+pub returns-in-Some-clause-whole : goal.returns-in-Some-clause-whole
+returns-in-Some-clause-whole c = λ opening steps own w h.
+    subst (λ r. LeadsWhole opening steps own w (CoreCall (Do c.args.tx.0 (Insert c.args.row))) (Refused r) c.give_up.new.self) (sym c.give_up.ensures.same)
+    (put_refused_whole opening steps own w c.args.self.now h c.args.tx.0 (Insert c.args.row) refl c.in-Some.refusal c.give_up.new.self c.give_up.ensures.reader
+    (λ other. insert_refused (readers_of w) opening own w.core c.args.self.now h.core c.args.tx c.args.row other c.in-Some.refusal
+    (ap (λ (x : CoreData). why_not_put x.table c.args.tx.0 c.args.row) (sym c.self.view_is) ∙ sym c.not_put.ensures ∙ c.in-Some.is) c.give_up.new.self
+    (c.give_up.ensures.left (readers_of w) opening own w.core other h.core))
+    c.args.row
+    (ap (λ (x : CoreData). why_not_put x.table c.args.tx.0 c.args.row) (sym c.self.view_is) ∙ sym c.not_put.ensures ∙ c.in-Some.is))
+
+pub returns-in_err-record_answer-clause-whole : goal.returns-in_err-record_answer-clause-whole
+returns-in_err-record_answer-clause-whole c = λ opening steps own w h.
+    let f = c.self.inside in
+    let old : CoreData = core_data f in
+    let g : StandsWhole opening steps own w old = subst (StandsWhole opening steps own w) (sym c.self.view_is) h in
+    let other = stage_none (readers_of w) opening own w.core old g.core c.args.tx.0 (put_not_reading f.table c.args.tx.0 c.args.row (sym c.not_put.ensures ∙ c.in_default.is)) in
+    subst (λ r. LeadsWhole opening steps own w (CoreCall (Do c.args.tx.0 (Insert c.args.row))) r (record old { table = c.record_answer.new.table })) (came_spent c.from_residual.result c.from_residual.ensures.1)
+    (others_lead opening steps own w (Do c.args.tx.0 (Insert c.args.row)) _ old _ g other tt
+    (insert_spent (readers_of w) opening own w.core old g.core c.args.tx c.args.row other (sym c.not_put.ensures ∙ c.in_default.is) c.record_answer.new.table c.in_err-record_answer.ensures.err))
+
+pub returns-then-is_some-clause-whole : goal.returns-then-is_some-clause-whole
+returns-then-is_some-clause-whole c = λ opening steps own w h.
+    let f = c.self.inside in
+    let old : CoreData = core_data f in
+    let g : StandsWhole opening steps own w old = subst (StandsWhole opening steps own w) (sym c.self.view_is) h in
+    let other = stage_none (readers_of w) opening own w.core old g.core c.args.tx.0 (put_not_reading f.table c.args.tx.0 c.args.row (sym c.not_put.ensures ∙ c.in_default.is)) in
+    let is = subst (λ k. AreVersionsInOrder (state_of f.table) c.args.tx.0 c.args.tx.0 (versions_at f.versions.slots f.versions.lists k) → c.shown-found.result ≡ shown_in old c.args.tx.0 k) c.row_key-key.ensures c.shown-found.ensures in
+    others_lead opening steps own w (Do c.args.tx.0 (Insert c.args.row)) _ old _ g other tt
+    (exists_leads (readers_of w) opening own w.core old g.core c.args.tx c.args.row other (sym c.not_put.ensures ∙ c.in_default.is) c.shown-found.result is (sym c.is_some.ensures ∙ c.if-is_some.true)
+    c.record_answer.new.table c.in_ok-record_answer.ensures.ok)
+
+pub returns-then-is_some-clause-whole_answer : goal.returns-then-is_some-clause-whole_answer
+returns-then-is_some-clause-whole_answer c = λ opening steps own w h.
+    let f = c.self.inside in
+    let old : CoreData = core_data f in
+    let g : StandsWhole opening steps own w old = subst (StandsWhole opening steps own w) (sym c.self.view_is) h in
+    let other = stage_none (readers_of w) opening own w.core old g.core c.args.tx.0 (put_not_reading f.table c.args.tx.0 c.args.row (sym c.not_put.ensures ∙ c.in_default.is)) in
+    let is = subst (λ k. AreVersionsInOrder (state_of f.table) c.args.tx.0 c.args.tx.0 (versions_at f.versions.slots f.versions.lists k) → c.shown-found.result ≡ shown_in old c.args.tx.0 k) c.row_key-key.ensures c.shown-found.ensures in
+    exists_answers (readers_of w) opening own w.core old g.core c.args.tx c.args.row other (sym c.not_put.ensures ∙ c.in_default.is) c.shown-found.result is (sym c.is_some.ensures ∙ c.if-is_some.true)
+
+pub returns-in_err-insert_row-clause-whole : goal.returns-in_err-insert_row-clause-whole
+returns-in_err-insert_row-clause-whole c = λ opening steps own w h.
+    let f = c.self.inside in
+    let old : CoreData = core_data f in
+    let g : StandsWhole opening steps own w old = subst (StandsWhole opening steps own w) (sym c.self.view_is) h in
+    let other = stage_none (readers_of w) opening own w.core old g.core c.args.tx.0 (put_not_reading f.table c.args.tx.0 c.args.row (sym c.not_put.ensures ∙ c.in_default.is)) in
+    subst (λ r. LeadsWhole opening steps own w (CoreCall (Do c.args.tx.0 (Insert c.args.row))) r (record old { versions = c.insert_row.new.versions; table = c.insert_row.new.table }))
+    (came_spent c.from_residual-in_err-insert_row.result c.from_residual-in_err-insert_row.ensures.1)
+    (others_lead opening steps own w (Do c.args.tx.0 (Insert c.args.row)) _ old _ g other tt
+    (insert_spent_same (readers_of w) opening own w.core old g.core c.args.tx c.args.row other (sym c.not_put.ensures ∙ c.in_default.is) c.insert_row.new.versions c.in_err-insert_row.ensures.err
+    c.insert_row.ensures.indexed c.insert_row.new.table c.in_err-insert_row.ensures.alone))
+
+pub returns-clause-whole : goal.returns-clause-whole
+returns-clause-whole c = λ opening steps own w h.
+    let f = c.self.inside in
+    let old : CoreData = core_data f in
+    let g : StandsWhole opening steps own w old = subst (StandsWhole opening steps own w) (sym c.self.view_is) h in
+    let other = stage_none (readers_of w) opening own w.core old g.core c.args.tx.0 (put_not_reading f.table c.args.tx.0 c.args.row (sym c.not_put.ensures ∙ c.in_default.is)) in
+    let is = subst (λ k. AreVersionsInOrder (state_of f.table) c.args.tx.0 c.args.tx.0 (versions_at f.versions.slots f.versions.lists k) → c.shown-found.result ≡ shown_in old c.args.tx.0 k) c.row_key-key.ensures c.shown-found.ensures in
+    others_lead opening steps own w (Do c.args.tx.0 (Insert c.args.row)) _ old _ g other tt
+    (insert_leads (readers_of w) opening own w.core old g.core c.args.tx c.args.row other (sym c.not_put.ensures ∙ c.in_default.is) c.shown-found.result is (sym c.is_some.ensures ∙ c.if-is_some.false)
+    c.insert_row.new.versions c.insert_row.new.table c.in_ok-insert_row.ensures.ok c.insert_row.ensures.indexed)
+
+pub returns-clause-whole_answer : goal.returns-clause-whole_answer
+returns-clause-whole_answer c = λ opening steps own w h.
+    let f = c.self.inside in
+    let old : CoreData = core_data f in
+    let g : StandsWhole opening steps own w old = subst (StandsWhole opening steps own w) (sym c.self.view_is) h in
+    let other = stage_none (readers_of w) opening own w.core old g.core c.args.tx.0 (put_not_reading f.table c.args.tx.0 c.args.row (sym c.not_put.ensures ∙ c.in_default.is)) in
+    let is = subst (λ k. AreVersionsInOrder (state_of f.table) c.args.tx.0 c.args.tx.0 (versions_at f.versions.slots f.versions.lists k) → c.shown-found.result ≡ shown_in old c.args.tx.0 k) c.row_key-key.ensures c.shown-found.ensures in
+    inserted_answers (readers_of w) opening own w.core old g.core c.args.tx c.args.row other (sym c.not_put.ensures ∙ c.in_default.is) c.shown-found.result is (sym c.is_some.ensures ∙ c.if-is_some.false)
+
+pub returns-in_err-make_room-clause-whole : goal.returns-in_err-make_room-clause-whole
+returns-in_err-make_room-clause-whole c = λ opening steps own w h.
+    let f = c.self.inside in
+    let old : CoreData = core_data f in
+    let g : StandsWhole opening steps own w old = subst (StandsWhole opening steps own w) (sym c.self.view_is) h in
+    let other = stage_none (readers_of w) opening own w.core old g.core c.args.tx.0 (put_not_reading f.table c.args.tx.0 c.args.row (sym c.not_put.ensures ∙ c.in_default.is)) in
+    subst (λ r. LeadsWhole opening steps own w (CoreCall (Do c.args.tx.0 (Insert c.args.row))) r old) (came_spent c.from_residual-in_err-make_room.result c.from_residual-in_err-make_room.ensures.1)
+    (others_lead opening steps own w (Do c.args.tx.0 (Insert c.args.row)) _ old _ g other tt
+    (insert_starved (readers_of w) opening own w.core old g.core c.args.tx c.args.row other (sym c.not_put.ensures ∙ c.in_default.is)))

@@ -15,6 +15,11 @@ use Rattle.mvo_core.proofs.Refused.{came_spent}
 use Rattle.mvo_core.proofs.Reading.{read_refused, read_spent, read_spent_roomy, read_answers, read_leads}
 use Rattle.mvo_core.specs.Keeping.{HasDoneAsMuch}
 use Rattle.mvo_core.proofs.Waits.{waits_alike, alike_written, alike_recorded}
+use Rattle.mvo_core.specs.WholeStanding.{readers_of, StandsWhole, LeadsWhole}
+use Rattle.mvo_readonly.specs.WholeCauses.WholeCall.{CoreCall}
+use Rattle.mvo_core.proofs.WholeReads.{look_refused, may_look_whole, look_leads, look_spent}
+use Rattle.mvo_core.proofs.CausesTold.{MayLook}
+use Rattle.mvo_core.specs.Steps.{came}
 use Rattle.mvo_core.proofs.event_core.Core.read.Goals as goal
 
 pub returns-in-Some-clause-step : goal.returns-in-Some-clause-step
@@ -80,3 +85,65 @@ returns-clause-answer c = λ opening steps s h.
     let f = c.self.inside in
     let old : CoreData = core_data f in
     read_answers no_readers opening steps s old (subst (StandsFor opening steps s) (sym c.self.view_is) h) c.args.tx c.args.key tt (sym c.not_looked.ensures ∙ c.in_default.is) c.shown-found.result c.shown-found.ensures c.in_ok-row.row c.in_ok-row.ensures
+
+-- ---- beside read-only ones
+pub returns-in-Some-clause-whole : goal.returns-in-Some-clause-whole
+returns-in-Some-clause-whole c = λ opening steps own w h.
+    subst (λ r. LeadsWhole opening steps own w (CoreCall (Do c.args.tx.0 (Read c.args.key))) (Refused r) c.give_up.new.self) (sym c.give_up.ensures.same)
+    (look_refused opening steps own w c.args.self.now h c.args.tx.0 (Read c.args.key) c.args.key.table (Key c.args.key) refl c.in-Some.refusal
+    (ap (λ (x : CoreData). why_not_look x.table c.args.tx.0 c.args.key.table (Key c.args.key)) (sym c.self.view_is) ∙ sym c.not_looked.ensures ∙ c.in-Some.is)
+    c.give_up.new.self c.give_up.ensures.reader (λ other. read_refused (readers_of w) opening own w.core c.args.self.now h.core c.args.tx c.args.key (subst MayLook (sym other) tt) c.in-Some.refusal
+    (ap (λ (x : CoreData). why_not_look x.table c.args.tx.0 c.args.key.table (Key c.args.key)) (sym c.self.view_is) ∙ sym c.not_looked.ensures ∙ c.in-Some.is) c.give_up.new.self
+    (c.give_up.ensures.left (readers_of w) opening own w.core other h.core)))
+
+pub returns-in_err-row-clause-whole : goal.returns-in_err-row-clause-whole
+returns-in_err-row-clause-whole c = λ opening steps own w h.
+    let f = c.self.inside in
+    let old : CoreData = core_data f in
+    let g : StandsWhole opening steps own w old = subst (StandsWhole opening steps own w) (sym c.self.view_is) h in
+    let looks = may_look_whole opening steps own w old g c.args.tx.0 (Read c.args.key) c.args.key.table (Key c.args.key) refl (sym c.not_looked.ensures ∙ c.in_default.is) in
+    subst (λ (x : CoreData). LeadsWhole opening steps own w (CoreCall (Do c.args.tx.0 (Read c.args.key))) (came c.from_residual.result) x) c.self.view_is (
+    subst (λ r. LeadsWhole opening steps own w (CoreCall (Do c.args.tx.0 (Read c.args.key))) r old) (came_spent c.from_residual.result c.from_residual.ensures.1)
+    (look_spent opening steps own w old g c.args.tx.0 (Read c.args.key) c.args.key.table (Key c.args.key) refl (sym c.not_looked.ensures ∙ c.in_default.is) _
+    (read_spent (readers_of w) opening own w.core old g.core c.args.tx c.args.key looks
+    (sym c.not_looked.ensures ∙ c.in_default.is))))
+
+pub returns-in_err-kept-clause-whole : goal.returns-in_err-kept-clause-whole
+returns-in_err-kept-clause-whole c = λ opening steps own w h.
+    let f = c.self.inside in
+    let old : CoreData = core_data f in
+    let g : StandsWhole opening steps own w old = subst (StandsWhole opening steps own w) (sym c.self.view_is) h in
+    let looks = may_look_whole opening steps own w old g c.args.tx.0 (Read c.args.key) c.args.key.table (Key c.args.key) refl (sym c.not_looked.ensures ∙ c.in_default.is) in
+    subst (λ (x : CoreData). LeadsWhole opening steps own w (CoreCall (Do c.args.tx.0 (Read c.args.key))) (came c.from_residual-in_err-kept.result) x) c.self.view_is (
+    subst (λ r. LeadsWhole opening steps own w (CoreCall (Do c.args.tx.0 (Read c.args.key))) r old) (came_spent c.from_residual-in_err-kept.result c.from_residual-in_err-kept.ensures.1)
+    (look_spent opening steps own w old g c.args.tx.0 (Read c.args.key) c.args.key.table (Key c.args.key) refl (sym c.not_looked.ensures ∙ c.in_default.is) _
+    (read_spent (readers_of w) opening own w.core old g.core c.args.tx c.args.key looks
+    (sym c.not_looked.ensures ∙ c.in_default.is))))
+
+pub returns-in_err-record_answer-clause-whole : goal.returns-in_err-record_answer-clause-whole
+returns-in_err-record_answer-clause-whole c = λ opening steps own w h.
+    let f = c.self.inside in
+    let old : CoreData = core_data f in
+    let g : StandsWhole opening steps own w old = subst (StandsWhole opening steps own w) (sym c.self.view_is) h in
+    let looks = may_look_whole opening steps own w old g c.args.tx.0 (Read c.args.key) c.args.key.table (Key c.args.key) refl (sym c.not_looked.ensures ∙ c.in_default.is) in
+    subst (λ r. LeadsWhole opening steps own w (CoreCall (Do c.args.tx.0 (Read c.args.key))) r (record old { table = c.record_answer.new.table })) (came_spent c.from_residual-in_err-record_answer.result c.from_residual-in_err-record_answer.ensures.1)
+    (look_spent opening steps own w old g c.args.tx.0 (Read c.args.key) c.args.key.table (Key c.args.key) refl (sym c.not_looked.ensures ∙ c.in_default.is) _
+    (read_spent_roomy (readers_of w) opening own w.core old g.core c.args.tx c.args.key looks (sym c.not_looked.ensures ∙ c.in_default.is) c.record_answer.new.table c.in_err-record_answer.ensures.err))
+
+pub returns-clause-whole : goal.returns-clause-whole
+returns-clause-whole c = λ opening steps own w h.
+    let f = c.self.inside in
+    let old : CoreData = core_data f in
+    let g : StandsWhole opening steps own w old = subst (StandsWhole opening steps own w) (sym c.self.view_is) h in
+    let looks = may_look_whole opening steps own w old g c.args.tx.0 (Read c.args.key) c.args.key.table (Key c.args.key) refl (sym c.not_looked.ensures ∙ c.in_default.is) in
+    look_leads opening steps own w old g c.args.tx.0 (Read c.args.key) c.args.key.table (Key c.args.key) refl (sym c.not_looked.ensures ∙ c.in_default.is) _
+    (read_leads (readers_of w) opening own w.core old g.core c.args.tx c.args.key looks (sym c.not_looked.ensures ∙ c.in_default.is) c.shown-found.result c.shown-found.ensures c.in_ok-kept.kept
+    (c.in_ok-kept.ensures ∙ c.in_ok-row.ensures) c.record_answer.new.table c.in_ok-record_answer.ensures.ok)
+
+pub returns-clause-whole_answer : goal.returns-clause-whole_answer
+returns-clause-whole_answer c = λ opening steps own w h.
+    let f = c.self.inside in
+    let old : CoreData = core_data f in
+    let g : StandsWhole opening steps own w old = subst (StandsWhole opening steps own w) (sym c.self.view_is) h in
+    let looks = may_look_whole opening steps own w old g c.args.tx.0 (Read c.args.key) c.args.key.table (Key c.args.key) refl (sym c.not_looked.ensures ∙ c.in_default.is) in
+    read_answers (readers_of w) opening own w.core old g.core c.args.tx c.args.key looks (sym c.not_looked.ensures ∙ c.in_default.is) c.shown-found.result c.shown-found.ensures c.in_ok-row.row c.in_ok-row.ensures

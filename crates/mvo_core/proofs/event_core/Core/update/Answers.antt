@@ -23,6 +23,11 @@ use Rattle.mvo_core.proofs.Updating.{update_starved, update_refused, update_conf
 use Rattle.std.specs.Option.{option_to_list}
 use Rattle.mvo_core.specs.Keeping.{HasDoneAsMuch}
 use Rattle.mvo_core.proofs.Waits.{waits_roomy, waits_alike, alike_written, alike_recorded, waits_spent, waits_replaced}
+use Rattle.mvo_core.specs.WholeStanding.{readers_of, StandsWhole, LeadsWhole}
+use Rattle.mvo_readonly.specs.WholeCauses.WholeCall.{CoreCall}
+use Rattle.mvo_core.proofs.OthersLead.{others_lead}
+use Rattle.mvo_core.proofs.WholeCalled.{stage_none}
+use Rattle.mvo_core.proofs.WholeReads.{put_not_reading, put_refused_whole}
 use Rattle.mvo_core.proofs.event_core.Core.update.Goals as goal
 
 pub give_up-requires : goal.give_up-requires
@@ -187,3 +192,97 @@ returns-in_err-make_room-clause-step c = λ opening steps s h.
     let is = subst (λ k. AreVersionsInOrder (state_of f.table) c.args.tx.0 c.args.tx.0 (versions_at f.versions.slots f.versions.lists k) → c.shown-found.result ≡ shown_in old c.args.tx.0 k) c.row_key-key.ensures c.shown-found.ensures in
     subst (λ r. LeadsOn opening steps s (Do c.args.tx.0 (Update c.args.row)) r old) (came_spent c.from_residual-in_err-make_room.result c.from_residual-in_err-make_room.ensures.1)
     (update_starved no_readers opening steps s old (subst (StandsFor opening steps s) (sym c.self.view_is) h) c.args.tx c.args.row refl (sym c.not_put.ensures ∙ c.in_default.is) c.shown-found.result is (sym c.in_the_way.ensures ∙ c.in_default-in_the_way.is))
+
+-- ---- beside read-only ones
+pub returns-in-Some-clause-whole : goal.returns-in-Some-clause-whole
+returns-in-Some-clause-whole c = λ opening steps own w h.
+    subst (λ r. LeadsWhole opening steps own w (CoreCall (Do c.args.tx.0 (Update c.args.row))) (Refused r) c.give_up.new.self) (sym c.give_up.ensures.same)
+    (put_refused_whole opening steps own w c.args.self.now h c.args.tx.0 (Update c.args.row) refl c.in-Some.refusal c.give_up.new.self c.give_up.ensures.reader
+    (λ other. update_refused (readers_of w) opening own w.core c.args.self.now h.core c.args.tx c.args.row other c.in-Some.refusal
+    (ap (λ (x : CoreData). why_not_put x.table c.args.tx.0 c.args.row) (sym c.self.view_is) ∙ sym c.not_put.ensures ∙ c.in-Some.is) c.give_up.new.self
+    (c.give_up.ensures.left (readers_of w) opening own w.core other h.core))
+    c.args.row
+    (ap (λ (x : CoreData). why_not_put x.table c.args.tx.0 c.args.row) (sym c.self.view_is) ∙ sym c.not_put.ensures ∙ c.in-Some.is))
+
+pub returns-in-Some-in_the_way-clause-whole : goal.returns-in-Some-in_the_way-clause-whole
+returns-in-Some-in_the_way-clause-whole c = λ opening steps own w h.
+    let f = c.self.inside in
+    let old : CoreData = core_data f in
+    let g : StandsWhole opening steps own w old = subst (StandsWhole opening steps own w) (sym c.self.view_is) h in
+    let other = stage_none (readers_of w) opening own w.core old g.core c.args.tx.0 (put_not_reading f.table c.args.tx.0 c.args.row (sym c.not_put.ensures ∙ c.in_default.is)) in
+    let is = subst (λ k. AreVersionsInOrder (state_of f.table) c.args.tx.0 c.args.tx.0 (versions_at f.versions.slots f.versions.lists k) → c.shown-found.result ≡ shown_in old c.args.tx.0 k) c.row_key-key.ensures c.shown-found.ensures in
+    subst (λ r. LeadsWhole opening steps own w (CoreCall (Do c.args.tx.0 (Update c.args.row))) (Refused r) c.give_up-in-Some-in_the_way.new.self) (sym c.give_up-in-Some-in_the_way.ensures.same)
+    (others_lead opening steps own w (Do c.args.tx.0 (Update c.args.row)) _ old _ g other tt
+    (update_conflicts (readers_of w) opening own w.core old g.core c.args.tx c.args.row other (sym c.not_put.ensures ∙ c.in_default.is) c.shown-found.result is c.in-Some-in_the_way.cause (sym c.in_the_way.ensures ∙ c.in-Some-in_the_way.is)
+    c.give_up-in-Some-in_the_way.new.self (c.give_up-in-Some-in_the_way.ensures.left (readers_of w) opening own w.core other h.core)))
+
+pub returns-in_err-record_answer-clause-whole : goal.returns-in_err-record_answer-clause-whole
+returns-in_err-record_answer-clause-whole c = λ opening steps own w h.
+    let f = c.self.inside in
+    let old : CoreData = core_data f in
+    let g : StandsWhole opening steps own w old = subst (StandsWhole opening steps own w) (sym c.self.view_is) h in
+    let other = stage_none (readers_of w) opening own w.core old g.core c.args.tx.0 (put_not_reading f.table c.args.tx.0 c.args.row (sym c.not_put.ensures ∙ c.in_default.is)) in
+    let is = subst (λ k. AreVersionsInOrder (state_of f.table) c.args.tx.0 c.args.tx.0 (versions_at f.versions.slots f.versions.lists k) → c.shown-found.result ≡ shown_in old c.args.tx.0 k) c.row_key-key.ensures c.shown-found.ensures in
+    subst (λ r. LeadsWhole opening steps own w (CoreCall (Do c.args.tx.0 (Update c.args.row))) r (record old { table = c.record_answer.new.table })) (came_spent c.from_residual.result c.from_residual.ensures.1)
+    (others_lead opening steps own w (Do c.args.tx.0 (Update c.args.row)) _ old _ g other tt
+    (update_spent (readers_of w) opening own w.core old g.core c.args.tx c.args.row other (sym c.not_put.ensures ∙ c.in_default.is) c.shown-found.result is (sym c.in_the_way.ensures ∙ c.in_default-in_the_way.is) c.record_answer.new.table c.in_err-record_answer.ensures.err))
+
+pub returns-in_default-version-clause-whole : goal.returns-in_default-version-clause-whole
+returns-in_default-version-clause-whole c = λ opening steps own w h.
+    let f = c.self.inside in
+    let old : CoreData = core_data f in
+    let g : StandsWhole opening steps own w old = subst (StandsWhole opening steps own w) (sym c.self.view_is) h in
+    let other = stage_none (readers_of w) opening own w.core old g.core c.args.tx.0 (put_not_reading f.table c.args.tx.0 c.args.row (sym c.not_put.ensures ∙ c.in_default.is)) in
+    let is = subst (λ k. AreVersionsInOrder (state_of f.table) c.args.tx.0 c.args.tx.0 (versions_at f.versions.slots f.versions.lists k) → c.shown-found.result ≡ shown_in old c.args.tx.0 k) c.row_key-key.ensures c.shown-found.ensures in
+    others_lead opening steps own w (Do c.args.tx.0 (Update c.args.row)) _ old _ g other tt
+    (absent_leads (readers_of w) opening own w.core old g.core c.args.tx c.args.row other (sym c.not_put.ensures ∙ c.in_default.is) c.shown-found.result is (sym c.in_the_way.ensures ∙ c.in_default-in_the_way.is) c.in_default-version.is c.record_answer.new.table c.in_ok-record_answer.ensures.ok)
+
+pub returns-in_default-version-clause-whole_answer : goal.returns-in_default-version-clause-whole_answer
+returns-in_default-version-clause-whole_answer c = λ opening steps own w h.
+    let f = c.self.inside in
+    let old : CoreData = core_data f in
+    let g : StandsWhole opening steps own w old = subst (StandsWhole opening steps own w) (sym c.self.view_is) h in
+    let other = stage_none (readers_of w) opening own w.core old g.core c.args.tx.0 (put_not_reading f.table c.args.tx.0 c.args.row (sym c.not_put.ensures ∙ c.in_default.is)) in
+    let is = subst (λ k. AreVersionsInOrder (state_of f.table) c.args.tx.0 c.args.tx.0 (versions_at f.versions.slots f.versions.lists k) → c.shown-found.result ≡ shown_in old c.args.tx.0 k) c.row_key-key.ensures c.shown-found.ensures in
+    absent_answers (readers_of w) opening own w.core old g.core c.args.tx c.args.row other (sym c.not_put.ensures ∙ c.in_default.is) c.shown-found.result is (sym c.in_the_way.ensures ∙ c.in_default-in_the_way.is) c.in_default-version.is
+
+pub returns-in_err-put_instead-clause-whole : goal.returns-in_err-put_instead-clause-whole
+returns-in_err-put_instead-clause-whole c = λ opening steps own w h.
+    let f = c.self.inside in
+    let old : CoreData = core_data f in
+    let g : StandsWhole opening steps own w old = subst (StandsWhole opening steps own w) (sym c.self.view_is) h in
+    let other = stage_none (readers_of w) opening own w.core old g.core c.args.tx.0 (put_not_reading f.table c.args.tx.0 c.args.row (sym c.not_put.ensures ∙ c.in_default.is)) in
+    let is = subst (λ k. AreVersionsInOrder (state_of f.table) c.args.tx.0 c.args.tx.0 (versions_at f.versions.slots f.versions.lists k) → c.shown-found.result ≡ shown_in old c.args.tx.0 k) c.row_key-key.ensures c.shown-found.ensures in
+    subst (λ r. LeadsWhole opening steps own w (CoreCall (Do c.args.tx.0 (Update c.args.row))) r (record old { versions = c.put_instead.new.versions; table = c.put_instead.new.table })) (came_spent c.from_residual-in_err-put_instead.result c.from_residual-in_err-put_instead.ensures.1)
+    (others_lead opening steps own w (Do c.args.tx.0 (Update c.args.row)) _ old _ g other tt
+    (update_left (readers_of w) opening own w.core old g.core c.args.tx c.args.row other (sym c.not_put.ensures ∙ c.in_default.is) c.shown-found.result is (sym c.in_the_way.ensures ∙ c.in_default-in_the_way.is) c.put_instead.new.versions c.put_instead.new.table c.in_err-put_instead.ensures.err))
+
+pub returns-clause-whole : goal.returns-clause-whole
+returns-clause-whole c = λ opening steps own w h.
+    let f = c.self.inside in
+    let old : CoreData = core_data f in
+    let g : StandsWhole opening steps own w old = subst (StandsWhole opening steps own w) (sym c.self.view_is) h in
+    let other = stage_none (readers_of w) opening own w.core old g.core c.args.tx.0 (put_not_reading f.table c.args.tx.0 c.args.row (sym c.not_put.ensures ∙ c.in_default.is)) in
+    let is = subst (λ k. AreVersionsInOrder (state_of f.table) c.args.tx.0 c.args.tx.0 (versions_at f.versions.slots f.versions.lists k) → c.shown-found.result ≡ shown_in old c.args.tx.0 k) c.row_key-key.ensures c.shown-found.ensures in
+    others_lead opening steps own w (Do c.args.tx.0 (Update c.args.row)) _ old _ g other tt
+    (updated_leads (readers_of w) opening own w.core old g.core c.args.tx c.args.row other (sym c.not_put.ensures ∙ c.in_default.is) c.shown-found.result is (sym c.in_the_way.ensures ∙ c.in_default-in_the_way.is) c.in-Some-version.old c.in-Some-version.is c.put_instead.new.versions c.put_instead.new.table c.in_ok-put_instead.ensures.ok)
+
+pub returns-clause-whole_answer : goal.returns-clause-whole_answer
+returns-clause-whole_answer c = λ opening steps own w h.
+    let f = c.self.inside in
+    let old : CoreData = core_data f in
+    let g : StandsWhole opening steps own w old = subst (StandsWhole opening steps own w) (sym c.self.view_is) h in
+    let other = stage_none (readers_of w) opening own w.core old g.core c.args.tx.0 (put_not_reading f.table c.args.tx.0 c.args.row (sym c.not_put.ensures ∙ c.in_default.is)) in
+    let is = subst (λ k. AreVersionsInOrder (state_of f.table) c.args.tx.0 c.args.tx.0 (versions_at f.versions.slots f.versions.lists k) → c.shown-found.result ≡ shown_in old c.args.tx.0 k) c.row_key-key.ensures c.shown-found.ensures in
+    updated_answers (readers_of w) opening own w.core old g.core c.args.tx c.args.row other (sym c.not_put.ensures ∙ c.in_default.is) c.shown-found.result is (sym c.in_the_way.ensures ∙ c.in_default-in_the_way.is) c.in-Some-version.old c.in-Some-version.is
+
+pub returns-in_err-make_room-clause-whole : goal.returns-in_err-make_room-clause-whole
+returns-in_err-make_room-clause-whole c = λ opening steps own w h.
+    let f = c.self.inside in
+    let old : CoreData = core_data f in
+    let g : StandsWhole opening steps own w old = subst (StandsWhole opening steps own w) (sym c.self.view_is) h in
+    let other = stage_none (readers_of w) opening own w.core old g.core c.args.tx.0 (put_not_reading f.table c.args.tx.0 c.args.row (sym c.not_put.ensures ∙ c.in_default.is)) in
+    let is = subst (λ k. AreVersionsInOrder (state_of f.table) c.args.tx.0 c.args.tx.0 (versions_at f.versions.slots f.versions.lists k) → c.shown-found.result ≡ shown_in old c.args.tx.0 k) c.row_key-key.ensures c.shown-found.ensures in
+    subst (λ r. LeadsWhole opening steps own w (CoreCall (Do c.args.tx.0 (Update c.args.row))) r old) (came_spent c.from_residual-in_err-make_room.result c.from_residual-in_err-make_room.ensures.1)
+    (others_lead opening steps own w (Do c.args.tx.0 (Update c.args.row)) _ old _ g other tt
+    (update_starved (readers_of w) opening own w.core old g.core c.args.tx c.args.row other (sym c.not_put.ensures ∙ c.in_default.is) c.shown-found.result is (sym c.in_the_way.ensures ∙ c.in_default-in_the_way.is)))

@@ -13,6 +13,9 @@ use Rattle.mvo_core.proofs.Begun.{stands_on}
 use Rattle.mvo_core.proofs.Validating.{validate_refused, fall, valid_leads, valid_answers, differs_leads, own_there, counted_leads, counts_as}
 use Rattle.mvo_core.specs.Keeping.{IsCounted}
 use Rattle.mvo_core.proofs.Waits.{waits_alike, alike_written}
+use Rattle.mvo_readonly.specs.WholeCauses.WholeCall.{CoreCall}
+use Rattle.mvo_core.specs.WholeStanding.{StandsWhole, LeadsWhole}
+use Rattle.mvo_core.proofs.WholeChecks.{validate_refused_whole, valid_leads_whole, valid_answers_whole, differs_leads_whole, counted_leads_whole, counts_as_whole}
 use Rattle.mvo_core.proofs.event_core.Core.validate_one.Goals as goal
 
 pub returns-in-Refused-clause-step : goal.returns-in-Refused-clause-step
@@ -81,3 +84,51 @@ returns-in-Same-clause-answer c = λ opening steps s h.
     let old : CoreData = core_data f in
     let g : StandsFor opening steps s old = subst (StandsFor opening steps s) (sym c.self.view_is) h in
     c.count_check.ensures.answer ∙ counts_as no_readers opening steps s old g c.args.tx.0 c.in-Same.ensures.0.none refl c.in-Same.ensures.0.valid_is
+
+-- ---- with read-only ones beside
+pub returns-in-Refused-clause-whole : goal.returns-in-Refused-clause-whole
+returns-in-Refused-clause-whole c = λ opening steps own w h.
+    let f = c.self.inside in
+    let old : CoreData = core_data f in
+    let why : why_not_preparing old.table c.args.tx.0 ≡ Some c.in-Refused.refusal = c.in-Refused.ensures in
+    subst (λ r. LeadsWhole opening steps own w (CoreCall (Validate c.args.tx.0)) (Refused r) c.give_up.new.self) (sym c.give_up.ensures.same)
+    (validate_refused_whole opening steps own w c.args.self.now h c.args.tx.0 c.in-Refused.refusal c.give_up.new.self
+    (ap (λ (v : CoreData). why_not_preparing v.table c.args.tx.0) (sym c.self.view_is) ∙ why) c.give_up.ensures.left c.give_up.ensures.reader)
+
+pub returns-in-Valid-clause-whole : goal.returns-in-Valid-clause-whole
+returns-in-Valid-clause-whole c = λ opening steps own w h.
+    let f = c.self.inside in
+    let old : CoreData = core_data f in
+    let g : StandsWhole opening steps own w old = subst (StandsWhole opening steps own w) (sym c.self.view_is) h in
+    subst (LeadsWhole opening steps own w (CoreCall (Validate c.args.tx.0)) Accepted) c.self.view_is
+    (valid_leads_whole opening steps own w old g c.args.tx.0 c.in-Valid.ensures.none c.in-Valid.ensures.valid_is)
+
+pub returns-in-Valid-clause-whole_answer : goal.returns-in-Valid-clause-whole_answer
+returns-in-Valid-clause-whole_answer c = λ opening steps own w h.
+    let f = c.self.inside in
+    let old : CoreData = core_data f in
+    let g : StandsWhole opening steps own w old = subst (StandsWhole opening steps own w) (sym c.self.view_is) h in
+    valid_answers_whole opening steps own w old g c.args.tx.0 c.in-Valid.ensures.none c.in-Valid.ensures.valid_is
+
+pub returns-in-Differs-clause-whole : goal.returns-in-Differs-clause-whole
+returns-in-Differs-clause-whole c = λ opening steps own w h.
+    let f = c.self.inside in
+    let old : CoreData = core_data f in
+    let g : StandsWhole opening steps own w old = subst (StandsWhole opening steps own w) (sym c.self.view_is) h in
+    let left : IsGivenUp old c.args.tx.0 (ValidationFailed c.in-Differs.stamp) c.give_up-in-Differs.new.self = subst (λ (v : CoreData). IsGivenUp v c.args.tx.0 (ValidationFailed c.in-Differs.stamp) c.give_up-in-Differs.new.self) (sym c.self.view_is) c.give_up-in-Differs.ensures.left in
+    subst (λ r. LeadsWhole opening steps own w (CoreCall (Validate c.args.tx.0)) (Refused r) c.give_up-in-Differs.new.self) (sym c.give_up-in-Differs.ensures.same)
+    (differs_leads_whole opening steps own w old g c.args.tx.0 c.in-Differs.ensures.0.none c.in-Differs.ensures.0.valid_is c.in-Differs.stamp c.give_up-in-Differs.new.self c.in-Differs.ensures.1 left)
+
+pub returns-in-Same-clause-whole : goal.returns-in-Same-clause-whole
+returns-in-Same-clause-whole c = λ opening steps own w h.
+    let f = c.self.inside in
+    let old : CoreData = core_data f in
+    let g : StandsWhole opening steps own w old = subst (StandsWhole opening steps own w) (sym c.self.view_is) h in
+    counted_leads_whole opening steps own w old g c.args.tx.0 c.in-Same.ensures.0.none c.in-Same.ensures.0.valid_is c.count_check.new.table c.count_check.ensures.counted c.in-Same.ensures.1
+
+pub returns-in-Same-clause-whole_answer : goal.returns-in-Same-clause-whole_answer
+returns-in-Same-clause-whole_answer c = λ opening steps own w h.
+    let f = c.self.inside in
+    let old : CoreData = core_data f in
+    let g : StandsWhole opening steps own w old = subst (StandsWhole opening steps own w) (sym c.self.view_is) h in
+    c.count_check.ensures.answer ∙ counts_as_whole opening steps own w old g c.args.tx.0 c.in-Same.ensures.0.none c.in-Same.ensures.0.valid_is

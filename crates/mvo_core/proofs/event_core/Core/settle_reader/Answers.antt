@@ -1,0 +1,45 @@
+use Rattle.std.proofs.Common.{◌≡◌, ◌∙◌, refl, sym, ap, subst}
+use Rattle.mvo_theory.specs.Told.{history_told}
+use Rattle.mvo_core.specs.Data.{CoreData}
+use Rattle.mvo_core.specs.View.{core_data}
+use Rattle.mvo_core.specs.Settling.{IsReadyReader}
+use Rattle.mvo_core.specs.WholeStanding.{StandsWhole}
+use Rattle.mvo_core.proofs.WholeCalled.{none_reads}
+use Rattle.mvo_core.proofs.WholeSettles.{unended_if_none, some_reported, reads_settle}
+use Rattle.mvo_core.proofs.event_core.Core.settle_reader.Goals as goal
+
+pub abort-requires : goal.abort-requires
+abort-requires c =
+    let f = c.self.inside in
+    let ready : IsReadyReader f.table c.args.reader.id = subst (λ (v : CoreData). IsReadyReader v.table c.args.reader.id) (sym c.self.view_is) c.requires in
+    unended_if_none f.table c.args.reader.id.0 ready.called.none
+
+pub hand_over-place-requires : goal.hand_over-place-requires
+hand_over-place-requires c =
+    let f = c.self.inside in
+    let ready : IsReadyReader f.table c.args.reader.id = subst (λ (v : CoreData). IsReadyReader v.table c.args.reader.id) (sym c.self.view_is) c.requires in
+    some_reported f.table c.abort.new.self c.report_abort.new.table c.args.reader.id c.abort.ensures c.report_abort.ensures.told ready.reads
+
+pub settle-requires : goal.settle-requires
+settle-requires c =
+    let f = c.self.inside in
+    let i = c.self.invariant.stands in
+    let ready : IsReadyReader f.table c.args.reader.id = subst (λ (v : CoreData). IsReadyReader v.table c.args.reader.id) (sym c.self.view_is) c.requires in
+    absurd (none_reads i.opening i.steps i.state (core_data f) i.stands c.args.reader.id.0 ready.reads)
+
+pub invariant_of-self : goal.invariant_of-self
+invariant_of-self c =
+    let f = c.self.inside in
+    let i = c.self.invariant.stands in
+    let ready : IsReadyReader f.table c.args.reader.id = subst (λ (v : CoreData). IsReadyReader v.table c.args.reader.id) (sym c.self.view_is) c.requires in
+    absurd (none_reads i.opening i.steps i.state (core_data f) i.stands c.args.reader.id.0 ready.reads)
+
+pub returns-clause-settled : goal.returns-clause-settled
+returns-clause-settled c = λ opening steps own w h.
+    let f = c.self.inside in
+    let old : CoreData = core_data f in
+    let g : StandsWhole opening steps own w old = subst (StandsWhole opening steps own w) (sym c.self.view_is) h in
+    let ready : IsReadyReader f.table c.args.reader.id = subst (λ (v : CoreData). IsReadyReader v.table c.args.reader.id) (sym c.self.view_is) c.requires in
+    reads_settle opening steps own w old g c.args.reader.id ready c.len.ensures.rising c.abort.new.self c.report_abort.new.table c.hand_over-place.new.table c.abort.ensures c.report_abort.ensures.told
+    c.report_abort.ensures.graph c.bring_puts.new.versions c.bring_puts.ensures c.hand_over-place.ensures.left
+    c.hand_over-place.result.0 c.hand_over-place.ensures.place (history_told c.hand_over-place.result.1.told.items) c.hand_over-place.ensures.told c.settle.new.self c.settle.ensures
