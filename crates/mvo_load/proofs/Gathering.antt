@@ -10,7 +10,6 @@ use Rattle.std.proofs.lemmas.List.Concat.{flat_map-cons}
 use Rattle.std.proofs.lemmas.List.Sorted.{IsPermutation-refl, IsPermutation-append, IsPermutation-map, All-permutation}
 use Rattle.mvo_types.specs.declared.row.RowKey.{RowKey}
 use Rattle.mvo_types.specs.Keys.{Map}
-use Rattle.mvo_format.specs.declared.format.Format.{Format}
 use Rattle.mvo_pair.specs.Data.{Numbered, AreApart, key_of, keys_of}
 use Rattle.mvo_pair.specs.Answers.{IsOnly}
 use Rattle.mvo_pair.specs.Loading.{LoadsAs}
@@ -22,7 +21,6 @@ use Rattle.mvo_places.specs.Rows.{rows_of}
 use Rattle.mvo_recovery.specs.image.Opens.{Image, OpeningOutcome, Pairs}
 use Rattle.mvo_recovery.specs.image.Gives.{HaveLive}
 use Rattle.mvo_recovery.proofs.image.Apart.{distinct_front}
-use Rattle.mvo_places.specs.declared.record_place.RecordPlace.{RecordPlace}
 use Rattle.mvo_places.specs.Places.{PlaceMap, ArePlaces, file_of, places_in, record_places}
 use Rattle.mvo_places.proofs.Rising.{live_numbers_rise}
 use Rattle.mvo_places.proofs.Growing.{no_places, places_grow, keys-push}
@@ -92,21 +90,21 @@ all_files (p ∷ ps) fit = ((fit.0.«data», fit.0.delta), all_files ps fit.1)
 
 -- ---- the pairs of a manifest
 
-module _ (f : Format) (image : Image) (m : ManifestData) where
+module _ (upto : ℕ) (image : Image) (m : ManifestData) where
   abbrev next : List (List Numbered) → OpeningOutcome → Type 0
-  next lives = Behind f image m (rows_of lives)
+  next lives = Behind upto image m (rows_of lives)
 
   -- the pairs in front of these are gathered
   pub record GatheredSoFar (rest : List Pair) (gathered : List Filed) : Type 0 where
     pub done : List Pair
     pub whole : m.pairs ≡ done ++ rest
     pub lives : List (List Numbered)
-    pub have : HaveLive f image done lives
+    pub have : HaveLive upto image done lives
     pub files : AllByRecursion HasFiles rest
-    pub alone : (ls : List (List Numbered)) → HaveLive f image done ls → ls ≡ lives
+    pub alone : (ls : List (List Numbered)) → HaveLive upto image done ls → ls ≡ lives
     pub all : IsPermutation (filed_by done lives) gathered
     pub long : length done ≡ length lives
-    pub leads : AreApart lives → Leads (Pairs f image next rest lives) (Whole f image m)
+    pub leads : AreApart lives → Leads (Pairs upto image next rest lives) (Whole upto image m)
     pub places : AreApart lives → ArePlaces done lives (from_entries (record_places done lives))
 
   pub none_gathered : IsManifest m → GatheredSoFar m.pairs []
@@ -116,14 +114,14 @@ module _ (f : Format) (image : Image) (m : ManifestData) where
     lives = [];
     have = tt;
     files = pair_files_fit m good;
-    alone = none_alone f image;
+    alone = none_alone upto image;
     all = IsPermutation-refl [];
     long = refl;
     leads = λ apart out only. only;
     places = λ apart. no_places;
   }
 
-  module _ (p : Pair) (ps : List Pair) (before : List Filed) (here : GatheredSoFar (p ∷ ps) before) (live sorted : List Numbered) (moved : IsPermutation live sorted) (only : IsOnly (LoadsAs f.version p (image p.data_file) (image p.delta_file)) (Ok live)) (good : IsManifest m) where
+  module _ (p : Pair) (ps : List Pair) (before : List Filed) (here : GatheredSoFar (p ∷ ps) before) (live sorted : List Numbered) (moved : IsPermutation live sorted) (only : IsOnly (LoadsAs upto p (image p.data_file) (image p.delta_file)) (Ok live)) (good : IsManifest m) where
     front : AreApart (here.lives ++ live ∷ []) → AreApart here.lives
     front apart = distinct_front eq (keys_of here.lives) (map key_of live) (subst (λ (ks : List RowKey). IsDistinct eq ks) (keys-push here.lives live) apart)
 
@@ -141,7 +139,7 @@ module _ (f : Format) (image : Image) (m : ManifestData) where
 
     places_more : AreApart (here.lives ++ live ∷ []) → ArePlaces (here.done ++ p ∷ []) (here.lives ++ live ∷ []) (from_entries (record_places (here.done ++ p ∷ []) (here.lives ++ live ∷ [])))
     places_more apart =
-        let grown = places_grow here.done here.lives (from_entries (record_places here.done here.lives)) p live (here.places (front apart)) files_differ apart (live_numbers_rise f.version p (image p.data_file) (image p.delta_file) live only.0).0 in
+        let grown = places_grow here.done here.lives (from_entries (record_places here.done here.lives)) p live (here.places (front apart)) files_differ apart (live_numbers_rise upto p (image p.data_file) (image p.delta_file) live only.0).0 in
         subst (λ (at : PlaceMap). ArePlaces (here.done ++ p ∷ []) (here.lives ++ live ∷ []) at) grown.are grown
 
     pub one_gathered : GatheredSoFar ps (before ++ file_all p.data_file sorted)
@@ -149,12 +147,12 @@ module _ (f : Format) (image : Image) (m : ManifestData) where
       done = here.done ++ p ∷ [];
       whole = whole_more;
       lives = here.lives ++ live ∷ [];
-      have = live_push f image here.done here.lives p live here.have only.0;
+      have = live_push upto image here.done here.lives p live here.have only.0;
       files = here.files.1;
-      alone = one_more_alone f image here.done here.lives p live here.alone only;
+      alone = one_more_alone upto image here.done here.lives p live here.alone only;
       all = all_more;
       long = omega (arith, length-append here.done (p ∷ []), length-append here.lives (live ∷ []), here.long);
-      leads = λ apart out n. here.leads (front apart) out (pair_leads f image next p ps here.lives live only apart out n);
+      leads = λ apart out n. here.leads (front apart) out (pair_leads upto image next p ps here.lives live only apart out n);
       places = places_more;
     }
 
@@ -163,7 +161,7 @@ module _ (f : Format) (image : Image) (m : ManifestData) where
   front_files ps qs gathered here = All-from_recursion AreFiles ps (all_files ps (all_parts HasFiles ps qs here.files).0)
 
   abbrev pub ArePartsOf : List Pair → List Part → Type 0
-  ArePartsOf ps parts = AllZip (IsPart f) (map (bytes_of f image) ps) parts
+  ArePartsOf ps parts = AllZip (IsPart upto) (map (bytes_of upto image) ps) parts
 
   -- the parts of some more pairs, one after another
   pub more_gathered : IsManifest m → (ps qs : List Pair) (parts : List Part) (before : List Filed) → GatheredSoFar (ps ++ qs) before → ArePartsOf ps parts → GatheredSoFar qs (before ++ filed_in parts)
@@ -171,7 +169,7 @@ module _ (f : Format) (image : Image) (m : ManifestData) where
   more_gathered good [] qs (part ∷ parts) before here are = absurd are
   more_gathered good (p ∷ ps) qs [] before here are = absurd are
   more_gathered good (p ∷ ps) qs (part ∷ parts) before here are =
-      let only = pair_on_disk f p (image p.data_file) (image p.delta_file) (Ok are.0.live) are.0.only in
+      let only = pair_on_disk upto p (image p.data_file) (image p.delta_file) (Ok are.0.live) are.0.only in
       let one = one_gathered p (ps ++ qs) before here are.0.live part.live.items are.0.moved only good in
       let next = subst (λ (n : ℕ). GatheredSoFar (ps ++ qs) (before ++ file_all n part.live.items)) (sym are.0.file) one in
       let all = more_gathered good ps qs parts (before ++ filed_of part) next are.1 in
@@ -183,18 +181,18 @@ module _ (f : Format) (image : Image) (m : ManifestData) where
     pairs_are : m.pairs ≡ all.done
     pairs_are = all.whole ∙ append-nil all.done
 
-    places_all : AreApart all.lives → HavePlaces f image m.pairs (from_entries (record_places m.pairs all.lives))
+    places_all : AreApart all.lives → HavePlaces upto image m.pairs (from_entries (record_places m.pairs all.lives))
     places_all apart = record {
       are = λ lives have.
-          let same : lives ≡ all.lives = all.alone lives (subst (λ (ps : List Pair). HaveLive f image ps lives) pairs_are have) in
+          let same : lives ≡ all.lives = all.alone lives (subst (λ (ps : List Pair). HaveLive upto image ps lives) pairs_are have) in
           subst (λ (ps : List Pair). ArePlaces ps lives (from_entries (record_places ps all.lives))) (sym pairs_are)
           (subst (λ (ls : List (List Numbered)). ArePlaces all.done ls (from_entries (record_places all.done all.lives))) (sym same) (all.places apart));
     }
 
-    pub all_gathered : AreGathered f image m gathered
+    pub all_gathered : AreGathered upto image m gathered
     all_gathered = record {
       lives = all.lives;
-      have = subst (λ (ps : List Pair). HaveLive f image ps all.lives) (sym pairs_are) all.have;
+      have = subst (λ (ps : List Pair). HaveLive upto image ps all.lives) (sym pairs_are) all.have;
       whole = subst (λ (ps : List Pair). IsPermutation (filed_by ps all.lives) gathered) (sym pairs_are) all.all;
       leads = all.leads;
       places = places_all;
@@ -202,15 +200,15 @@ module _ (f : Format) (image : Image) (m : ManifestData) where
 
 -- ---- what is made of them
 
-long_as : (f : Format) (image : Image) (ps : List Pair) (ls : List (List Numbered)) → HaveLive f image ps ls → length ps ≡ length ls
-long_as f image [] [] have = refl
-long_as f image [] (l ∷ ls) have = absurd have
-long_as f image (p ∷ ps) [] have = absurd have
-long_as f image (p ∷ ps) (l ∷ ls) have = omega (arith, long_as f image ps ls have.1)
+long_as : (upto : ℕ) (image : Image) (ps : List Pair) (ls : List (List Numbered)) → HaveLive upto image ps ls → length ps ≡ length ls
+long_as upto image [] [] have = refl
+long_as upto image [] (l ∷ ls) have = absurd have
+long_as upto image (p ∷ ps) [] have = absurd have
+long_as upto image (p ∷ ps) (l ∷ ls) have = omega (arith, long_as upto image ps ls have.1)
 
-module _ (f : Format) (image : Image) (m : ManifestData) (gathered : List Filed) (all : AreGathered f image m gathered) (rows : Map) (at : PlaceMap) (made : AreMade gathered rows at) where
+module _ (upto : ℕ) (image : Image) (m : ManifestData) (gathered : List Filed) (all : AreGathered upto image m gathered) (rows : Map) (at : PlaceMap) (made : AreMade gathered rows at) where
   long : length m.pairs ≡ length all.lives
-  long = long_as f image m.pairs all.lives all.have
+  long = long_as upto image m.pairs all.lives all.have
 
   each_made : AreRows (all_of all.lives) rows
   each_made =
@@ -232,24 +230,24 @@ module _ (f : Format) (image : Image) (m : ManifestData) (gathered : List Filed)
   rows_are : rows ≡ rows_of all.lives
   rows_are = each_made.are ∙ rows_each all.lives (all_of all.lives) refl
 
-  pub rows_made : HaveRows f image m.pairs rows
+  pub rows_made : HaveRows upto image m.pairs rows
   rows_made = record { lives = all.lives; live = all.have; distinct = apart; are = rows_are }
 
-  pub places_made : HavePlaces f image m.pairs at
-  places_made = subst (λ (x : PlaceMap). HavePlaces f image m.pairs x) at_is (all.places apart)
+  pub places_made : HavePlaces upto image m.pairs at
+  places_made = subst (λ (x : PlaceMap). HavePlaces upto image m.pairs x) at_is (all.places apart)
 
-  pub leads_made : Leads (Behind f image m rows) (Whole f image m)
-  leads_made out only = all.leads apart out (subst (λ (r : Map). IsOnly (Behind f image m r) out) rows_are only)
+  pub leads_made : Leads (Behind upto image m rows) (Whole upto image m)
+  leads_made out only = all.leads apart out (subst (λ (r : Map). IsOnly (Behind upto image m r) out) rows_are only)
 
 -- the live records of parts that were found may lie in a table, whatever their bytes
-pub small_parts : (f : Format) (bs : List PairBytes) (parts : List Part) → AllByRecursion HasFiles (map (λ b. b.pair) bs) → AllZip (IsPart f) bs parts → All MayLie (filed_in parts)
-small_parts f [] [] fit are = All-from_recursion MayLie [] tt
-small_parts f [] (part ∷ parts) fit are = absurd are
-small_parts f (b ∷ bs) [] fit are = absurd are
-small_parts f (b ∷ bs) (part ∷ parts) fit are =
+pub small_parts : (upto : ℕ) (bs : List PairBytes) (parts : List Part) → AllByRecursion HasFiles (map (λ b. b.pair) bs) → AllZip (IsPart upto) bs parts → All MayLie (filed_in parts)
+small_parts upto [] [] fit are = All-from_recursion MayLie [] tt
+small_parts upto [] (part ∷ parts) fit are = absurd are
+small_parts upto (b ∷ bs) [] fit are = absurd are
+small_parts upto (b ∷ bs) (part ∷ parts) fit are =
     let p = b.pair in
     let sorted = part.live.items in
-    let few = All-permutation (λ (l : Numbered). l.0 < p.records) are.0.live sorted are.0.moved (live_numbers_rise f.version p b.data_bytes b.delta_bytes are.0.live are.0.only.0).1 in
+    let few = All-permutation (λ (l : Numbered). l.0 < p.records) are.0.live sorted are.0.moved (live_numbers_rise upto p b.data_bytes b.delta_bytes are.0.live are.0.only.0).1 in
     let here = All-from_recursion MayLie (file_all p.data_file sorted) (may_lie p sorted fit.0 (recursion_from_All (λ l. l.0 < p.records) sorted few)) in
     let mine : All MayLie (filed_of part) = subst (λ (n : ℕ). All MayLie (file_all n sorted)) (sym are.0.file) here in
-    subst (λ (l : List Filed). All MayLie l) (sym (flat_map-cons filed_of part parts)) (All-append MayLie (filed_of part) (filed_in parts) mine (small_parts f bs parts fit.1 are.1))
+    subst (λ (l : List Filed). All MayLie l) (sym (flat_map-cons filed_of part parts)) (All-append MayLie (filed_of part) (filed_in parts) mine (small_parts upto bs parts fit.1 are.1))

@@ -1,7 +1,6 @@
 -- What is refused of a file that was read breaks a rule of it.
 use Rattle.std.proofs.Common.{◌≡◌, ℕ, List, Result, Ok, Err, inl, inr, sym, subst}
 use Rattle.mvo_types.specs.declared.refusal.Refusal.{Refusal}
-use Rattle.mvo_format.specs.declared.format.Format.{Format}
 use Rattle.mvo_frame.specs.declared.kind.Kind.{Kind}
 use Rattle.mvo_pair.specs.declared.pair.Pair.{Pair}
 use Rattle.mvo_pair.specs.declared.unread.Unread.{Unread}
@@ -26,11 +25,11 @@ after {X} {Y} file Other Holds next so e h = go h.0 h.1 h.2
     go (Err u) says goes = let same : file_refusal file u ≡ e = cc goes in subst IsMisread same (unread file Other Holds u says)
 
 -- the live records of a pair
-pub pair_misread : (f : Format) (p : Pair) (a b : List ℕ) (e : Refusal) → LoadsAs f.version p a b (Err e) → IsMisread e
-pair_misread f p a b e = after {Y = List Numbered} p.data_file (HasUnknownVersion data_magic f.version a) (λ d. IsDataFile f.version p.lo.0 p.hi.0 p.records d a) _
+pub pair_misread : (upto : ℕ) (p : Pair) (a b : List ℕ) (e : Refusal) → LoadsAs upto p a b (Err e) → IsMisread e
+pair_misread upto p a b e = after {Y = List Numbered} p.data_file (HasUnknownVersion data_magic upto a) (λ d. IsDataFile upto p.lo.0 p.hi.0 p.records d a) _
     (λ d k. after {Y = List Numbered} p.delta_file (HasOtherVersion delta_magic d.0.version b) (λ ns. HasDeadNumbers d.0.version p.records p.entries ns b) (λ ns out. out ≡ Ok (live_of ns d.1)) (λ ns r same. absurd (cc same)) k) e
 
 -- the groups of a segment
-pub segment_misread : (f : Format) (file mark : ℕ) (kind : Kind) (bytes : List ℕ) (e : Refusal) → SegmentIs f file mark kind bytes (Err e) → IsMisread e
-segment_misread f file mark kind bytes e (inl other) = subst IsMisread (sym other.0) tt
-segment_misread f file mark kind bytes e (inr broken) = subst IsMisread (sym broken.0) tt
+pub segment_misread : (upto : ℕ) (file mark : ℕ) (kind : Kind) (bytes : List ℕ) (e : Refusal) → SegmentIs upto file mark kind bytes (Err e) → IsMisread e
+segment_misread upto file mark kind bytes e (inl other) = subst IsMisread (sym other.0) tt
+segment_misread upto file mark kind bytes e (inr broken) = subst IsMisread (sym broken.0) tt

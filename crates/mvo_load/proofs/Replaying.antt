@@ -1,5 +1,5 @@
 -- The groups of a segment are put on the rows one at a time.
-use Rattle.std.proofs.Common.{◌≡◌, ℕ, ◌+◌, ◌-◌, ◌<◌, ◌≤◌, ◌^◌, Bool, true, false, cond, ltb, List, [], ◌∷◌, ◌++◌, map, length, Some, None, Result, Ok, Err, refl, sym, ap, subst, ◌∙◌, append_assoc, length-append, arith}
+use Rattle.std.proofs.Common.{◌≡◌, ℕ, ◌+◌, ◌-◌, ◌<◌, ◌≤◌, Bool, true, false, cond, ltb, List, [], ◌∷◌, ◌++◌, map, length, Some, None, Result, Ok, Err, refl, sym, ap, subst, ◌∙◌, append_assoc, length-append, arith}
 use Rattle.std.specs.Prelude.{fold, filter, not, ◌&&◌}
 use Rattle.std.specs.List.{flat_map}
 use Rattle.std.specs.Result.{IfErr, IsErrAnd}
@@ -127,8 +127,8 @@ sorted_same m ws vs stable = same_map keys_total exact_keys _ _ (λ k. at k)
 
 -- ---- the header, and a refusal that is passed on
 
-pub behind_fits : (f own : Format) (file : ℕ) (bytes rest : List ℕ) → IsBytes bytes → header_found file MAGIC f.version bytes ≡ Ok (own, rest) → IsBytes rest
-behind_fits f own file bytes rest fits e = (subst (IsHead file MAGIC f.version bytes) e (head_is file MAGIC f.version bytes fits)).takes.rest_fits
+pub behind_fits : (upto : ℕ) (own : Format) (file : ℕ) (bytes rest : List ℕ) → IsBytes bytes → header_found file MAGIC upto bytes ≡ Ok (own, rest) → IsBytes rest
+behind_fits upto own file bytes rest fits e = (subst (IsHead file MAGIC upto bytes) e (head_is file MAGIC upto bytes fits)).takes.rest_fits
 
 pub passed : {X : Type 0} (r : Result X Refusal) (e : Refusal) (P : Refusal → Type 0) → IsErrAnd r (λ x. x ≡ e) → P e → IfErr r P
 passed (Ok x) e P is p = absurd is
@@ -154,25 +154,25 @@ enough_is file gate kind (g ∷ gs) is place = ap (λ (k : Kind). enough_found f
 -- ---- one group after another
 
 -- The groups that were read of a segment of its own format make these rows of the old ones, once these writes are put.
-pub record IsReplaying (f own : Format) (file start : ℕ) (bytes rest : List ℕ) (old rows : Map) (writes : List Write) (gate mark : ℕ) : Type 0 where
+pub record IsReplaying (upto : ℕ) (own : Format) (file start : ℕ) (bytes rest : List ℕ) (old rows : Map) (writes : List Write) (gate mark : ℕ) : Type 0 where
   pub gs : List GroupData
-  pub read : IsReadUpTo f.version own file start bytes rest gs gate mark
+  pub read : IsReadUpTo upto own file start bytes rest gs gate mark
   pub rows_are : after_writes rows writes ≡ after_groups old gs
 
-module _ (f own : Format) (file start : ℕ) (bytes : List ℕ) (old : Map) where
-  pub replay_begun : (rest : List ℕ) (ws : List RustWrite) → header_found file MAGIC f.version bytes ≡ Ok (own, rest) → IsBytes rest → ws ≡ [] → IsReplaying f own file start bytes rest old old (map write_data ws) HEADER_LEN start
+module _ (upto : ℕ) (own : Format) (file start : ℕ) (bytes : List ℕ) (old : Map) where
+  pub replay_begun : (rest : List ℕ) (ws : List RustWrite) → header_found file MAGIC upto bytes ≡ Ok (own, rest) → IsBytes rest → ws ≡ [] → IsReplaying upto own file start bytes rest old old (map write_data ws) HEADER_LEN start
   replay_begun rest ws head fits nil = record {
     gs = [];
-    read = read_begun f.version own file start bytes rest [] head fits refl;
+    read = read_begun upto own file start bytes rest [] head fits refl;
     rows_are = ap (λ (l : List RustWrite). after_writes old (map write_data l)) nil;
   }
 
-  module _ (rest : List ℕ) (rows : Map) (ws : List Write) (gate mark : ℕ) (r : IsReplaying f own file start bytes rest old rows ws gate mark) where
+  module _ (rest : List ℕ) (rows : Map) (ws : List Write) (gate mark : ℕ) (r : IsReplaying upto own file start bytes rest old rows ws gate mark) where
     pub replay_more : (g : GroupData) (later : List ℕ) (next : ℕ) (vs left : List Write) (new : Map) → step_found own file gate mark rest ≡ Ok (Some (g, later)) → next ≡ gate + (length rest - length later)
-        → vs ≡ ws ++ all_writes g.records → after_writes new left ≡ after_writes rows vs → IsReplaying f own file start bytes later old new left next g.mark
+        → vs ≡ ws ++ all_writes g.records → after_writes new left ≡ after_writes rows vs → IsReplaying upto own file start bytes later old new left next g.mark
     replay_more g later next vs left new found next_is all put = record {
       gs = r.gs ++ g ∷ [];
-      read = read_more f.version own file start bytes rest r.gs gate mark r.read g later next (r.gs ++ g ∷ []) found next_is refl;
+      read = read_more upto own file start bytes rest r.gs gate mark r.read g later next (r.gs ++ g ∷ []) found next_is refl;
       rows_are =
           put ∙ ap (after_writes rows) all ∙ after_both rows ws (all_writes g.records)
           ∙ ap (λ (m : Map). after_writes m (all_writes g.records)) r.rows_are
@@ -180,26 +180,26 @@ module _ (f own : Format) (file start : ℕ) (bytes : List ℕ) (old : Map) wher
     }
 
     pub replay_shorter : (g : GroupData) (later : List ℕ) → step_found own file gate mark rest ≡ Ok (Some (g, later)) → length later < length rest
-    replay_shorter g later found = read_shorter f.version own file start bytes rest r.gs gate mark r.read g later found
+    replay_shorter g later found = read_shorter upto own file start bytes rest r.gs gate mark r.read g later found
 
     pub replay_next : (g : GroupData) (later : List ℕ) → step_found own file gate mark rest ≡ Ok (Some (g, later)) → gate + (length rest - length later) < MAX_SEGMENT_LEN
-    replay_next g later found = (read_more f.version own file start bytes rest r.gs gate mark r.read g later (gate + (length rest - length later)) (r.gs ++ g ∷ []) found refl refl).so_far.few
+    replay_next g later found = (read_more upto own file start bytes rest r.gs gate mark r.read g later (gate + (length rest - length later)) (r.gs ++ g ∷ []) found refl refl).so_far.few
 
-    pub replay_failed : (kind : Kind) (e : Refusal) → step_found own file gate mark rest ≡ Err e → segment_found f.version file start kind bytes ≡ Err e
-    replay_failed kind e found = read_failed f.version own file start bytes rest r.gs gate mark r.read kind e found
+    pub replay_failed : (kind : Kind) (e : Refusal) → step_found own file gate mark rest ≡ Err e → segment_found upto file start kind bytes ≡ Err e
+    replay_failed kind e found = read_failed upto own file start bytes rest r.gs gate mark r.read kind e found
 
     module _ (kind : Kind) (enough : Bool) (found : step_found own file gate mark rest ≡ Ok None) (by : (file : ℕ) (gs : List GroupData) → gate ≡ gate_of gs → enough_found file kind gs ≡ cond enough (Ok gs) (Err (Corrupt file))) where
-      all_found : segment_found f.version file start kind bytes ≡ cond enough (Ok r.gs) (Err (Corrupt file))
-      all_found = read_ended f.version own file start bytes rest r.gs gate mark r.read kind found ∙ by file r.gs r.read.so_far.place
+      all_found : segment_found upto file start kind bytes ≡ cond enough (Ok r.gs) (Err (Corrupt file))
+      all_found = read_ended upto own file start bytes rest r.gs gate mark r.read kind found ∙ by file r.gs r.read.so_far.place
 
-      pub replay_short : enough ≡ false → segment_found f.version file start kind bytes ≡ Err (Corrupt file)
+      pub replay_short : enough ≡ false → segment_found upto file start kind bytes ≡ Err (Corrupt file)
       replay_short e = all_found ∙ ap (λ (t : Bool). cond t (Ok r.gs) (Err (Corrupt file))) e
 
       module _ (e : enough ≡ true) (fits : IsBytes bytes) where
-        pub replay_ended : (new : Map) → new ≡ after_writes rows ws → IsReplayed f file start kind bytes old new mark gate
+        pub replay_ended : (new : Map) → new ≡ after_writes rows ws → IsReplayed upto file start kind bytes old new mark gate
         replay_ended new put = record {
           groups = r.gs;
-          says = tells_ok (SegmentIs f file start kind bytes) (segment_found f.version file start kind bytes) r.gs (segment_exact f file start kind bytes fits) (all_found ∙ ap (λ (t : Bool). cond t (Ok r.gs) (Err (Corrupt file))) e);
+          says = tells_ok (SegmentIs upto file start kind bytes) (segment_found upto file start kind bytes) r.gs (segment_exact upto file start kind bytes fits) (all_found ∙ ap (λ (t : Bool). cond t (Ok r.gs) (Err (Corrupt file))) e);
           rows = put ∙ r.rows_are;
           mark_is = r.read.so_far.mark_is;
           gate_is = r.read.so_far.place;
@@ -207,15 +207,15 @@ module _ (f own : Format) (file start : ℕ) (bytes : List ℕ) (old : Map) wher
         }
 
 -- the mark behind the groups is a stamp
-pub replayed_fits : (f : Format) (file start : ℕ) (kind : Kind) (bytes : List ℕ) (old new : Map) (mark gate : ℕ) → IsReplayed f file start kind bytes old new mark gate → start ≤ MAX_STAMP → mark ≤ MAX_STAMP
-replayed_fits f file start kind bytes old new mark gate r le =
+pub replayed_fits : (upto : ℕ) (file start : ℕ) (kind : Kind) (bytes : List ℕ) (old new : Map) (mark gate : ℕ) → IsReplayed upto file start kind bytes old new mark gate → start ≤ MAX_STAMP → mark ≤ MAX_STAMP
+replayed_fits upto file start kind bytes old new mark gate r le =
     subst (λ (n : ℕ). n ≤ MAX_STAMP) (sym r.mark_is) (after_frames HEADER_LEN start r.groups r.says.0.has.rest le r.says.0.has.frames)
 
 -- what is put of the front of a file is what the file says
-pub replayed_on_disk : (f : Format) (file start : ℕ) (kind : Kind) (bytes : List ℕ) (old new : Map) (mark gate : ℕ) → IsReplayed f file start kind (segment_front bytes) old new mark gate → IsReplayed f file start kind bytes old new mark gate
-replayed_on_disk f file start kind bytes old new mark gate r = record {
+pub replayed_on_disk : (upto : ℕ) (file start : ℕ) (kind : Kind) (bytes : List ℕ) (old new : Map) (mark gate : ℕ) → IsReplayed upto file start kind (segment_front bytes) old new mark gate → IsReplayed upto file start kind bytes old new mark gate
+replayed_on_disk upto file start kind bytes old new mark gate r = record {
   groups = r.groups;
-  says = segment_on_disk f file start kind bytes (Ok r.groups) r.says;
+  says = segment_on_disk upto file start kind bytes (Ok r.groups) r.says;
   rows = r.rows;
   mark_is = r.mark_is;
   gate_is = r.gate_is;

@@ -13,17 +13,17 @@ use crate::pairs::load_pairs;
 use crate::segments::load_segments;
 use crate::slots::read_manifest;
 use mvo_disk::Disk;
-use mvo_format::Format;
 use mvo_types::Refusal;
 use std::alloc::Global;
 use std::thread::Threads;
 
-/// What a disk holds of files of this version. Nothing changes, and no stop within it leaves
-/// anything new. Files are read one after another, and the records of pairs in threads, unless the
-/// manifest says that there are fewer than 8,192; memory is taken in proportion to the bytes of one
-/// pair's files or of one segment, and to the rows. The place of a live record takes 13 bytes where
-/// the records are read in threads, and else 32 or more, as that of a key which is put later; the
-/// seed is for the table of these, and who chose the keys can't know it.
+/// What a disk holds of files of the versions up to the one that is written. Nothing changes, and
+/// no stop within it leaves anything new. Files are read one after another, and the records of
+/// pairs in threads, unless the manifest says that there are fewer than 8,192; memory is taken in
+/// proportion to the bytes of one pair's files or of one segment, and to the rows. The place of a
+/// live record takes 13 bytes where the records are read in threads, and else 32 or more, as that
+/// of a key which is put later; the seed is for the table of these, and who chose the keys can't
+/// know it.
 ///
 /// Refused by the first rule that is broken, in this order: Corrupt with 0 or BadVersion by slot 0,
 /// Corrupt with 1 or BadVersion by slot 1, NotFormatted where no slot is open; of the pairs in
@@ -36,15 +36,14 @@ pub fn load<D: Disk>(
     rt: &(impl Threads + Sync),
     alloc: Global,
     disk: &mut D,
-    format: Format,
     seed: u64,
 ) -> Result<Loaded, Refusal>
     requires room { D.fault_count disk.old + 1 < 2 ^ 64 }
     ensures says { IsHonest (D.moment disk.new) → Tells IsStop (λ l. (l.rows, l.mark.0)) result
-        (OpensAs format (D.content disk.old)) }
-    ensures parts { IsHonest (D.moment disk.new) → IfOk result (λ l. IsLoaded format
+        (OpensAs (D.content disk.old)) }
+    ensures parts { IsHonest (D.moment disk.new) → IfOk result (λ l. IsLoaded
         (D.content disk.old) l.manifest l.rows l.mark.0 l.gate) }
-    ensures places { IsHonest (D.moment disk.new) → IfOk result (λ l. HavePlaces format
+    ensures places { IsHonest (D.moment disk.new) → IfOk result (λ l. HavePlaces l.manifest.version
         (D.content disk.old) l.manifest.pairs l.places.at) }
     ensures few { IfOk result (λ l. l.gate < MAX_SEGMENT_LEN) }
     ensures stamp { IfOk result (λ l. l.mark.0 ≤ MAX_STAMP) }
@@ -54,15 +53,16 @@ pub fn load<D: Disk>(
     ensures any_moment { LeavesOnly D.moment D.left_since disk.old disk.new
         (AllOf (D.may_leave disk.old)) }
 {
-    let manifest = match read_manifest(alloc, disk, format) {
+    let manifest = match read_manifest(alloc, disk) {
         Ok(manifest) => manifest,
         Err(e) => return Err(e),
     };
-    let (mut rows, places) = match load_pairs(rt, alloc, disk, format, &manifest, seed) {
+    let upto = manifest.version();
+    let (mut rows, places) = match load_pairs(rt, alloc, disk, upto, &manifest, seed) {
         Ok(found) => found,
         Err(e) => return Err(e),
     };
-    let end = match load_segments(alloc, disk, format, &manifest, &mut rows) {
+    let end = match load_segments(alloc, disk, upto, &manifest, &mut rows) {
         Ok(end) => end,
         Err(e) => return Err(e),
     };

@@ -10,7 +10,6 @@ use crate::at_once::at_once;
 use crate::gather::gather;
 use crate::single::pair_on;
 use mvo_disk::Disk;
-use mvo_format::Format;
 use mvo_manifest::Manifest;
 use mvo_pair::{DataRecord, Live};
 use mvo_places::Places;
@@ -41,18 +40,18 @@ pub fn join(rows: &mut Rows, live: Vec<Live>) -> Result<bool, AllocError>
 fn load_in_turn<D: Disk>(
     alloc: Global,
     disk: &mut D,
-    format: Format,
+    upto: u32,
     manifest: &Manifest,
     seed: u64,
 ) -> Result<(Rows, Places), Refusal>
     requires room { D.fault_count disk.old + 1 < 2 ^ 64 }
-    ensures { HavePairs D.Disk format manifest.now disk.old disk.new result }
+    ensures { HavePairs D.Disk upto manifest.now disk.old disk.new result }
 {
     let mut places = Places::new(alloc, seed);
     let mut rows = Rows::new(alloc);
     let mut rest = manifest.pairs();
     while let [pair, after @ ..] = rest {
-        let live = match pair_on(alloc, disk, format, *pair) {
+        let live = match pair_on(alloc, disk, upto, *pair) {
             Ok(live) => live,
             Err(e) => return Err(e),
         };
@@ -72,14 +71,14 @@ fn load_beside<D: Disk>(
     rt: &(impl Threads + Sync),
     alloc: Global,
     disk: &mut D,
-    format: Format,
+    upto: u32,
     manifest: &Manifest,
     seed: u64,
 ) -> Result<(Rows, Places), Refusal>
     requires room { D.fault_count disk.old + 1 < 2 ^ 64 }
-    ensures { HavePairs D.Disk format manifest.now disk.old disk.new result }
+    ensures { HavePairs D.Disk upto manifest.now disk.old disk.new result }
 {
-    let gathered = match gather(rt, alloc, disk, format, manifest) {
+    let gathered = match gather(rt, alloc, disk, upto, manifest) {
         Ok(gathered) => gathered,
         Err(e) => return Err(e),
     };
@@ -88,7 +87,7 @@ fn load_beside<D: Disk>(
             return Ok(made);
         }
     }
-    match load_in_turn(alloc, disk, format, manifest, seed) {
+    match load_in_turn(alloc, disk, upto, manifest, seed) {
         Ok(found) => Ok(found),
         Err(e) => Err(e),
     }
@@ -109,20 +108,20 @@ pub fn load_pairs<D: Disk>(
     rt: &(impl Threads + Sync),
     alloc: Global,
     disk: &mut D,
-    format: Format,
+    upto: u32,
     manifest: &Manifest,
     seed: u64,
 ) -> Result<(Rows, Places), Refusal>
     requires room { D.fault_count disk.old + 1 < 2 ^ 64 }
-    ensures { HavePairs D.Disk format manifest.now disk.old disk.new result }
+    ensures { HavePairs D.Disk upto manifest.now disk.old disk.new result }
 {
     if count_of(manifest) < FEW_RECORDS {
-        return match load_in_turn(alloc, disk, format, manifest, seed) {
+        return match load_in_turn(alloc, disk, upto, manifest, seed) {
             Ok(found) => Ok(found),
             Err(e) => Err(e),
         };
     }
-    match load_beside(rt, alloc, disk, format, manifest, seed) {
+    match load_beside(rt, alloc, disk, upto, manifest, seed) {
         Ok(found) => Ok(found),
         Err(e) => Err(e),
     }

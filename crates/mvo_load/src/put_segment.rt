@@ -11,7 +11,7 @@ ghost use Rattle.mvo_load.specs.Parts.{IsReplayed};
 
 use crate::log_end::LogEnd;
 use crate::replay::{add_writes, put_many, put_writes};
-use mvo_format::{Format, HEADER_LEN, behind_header};
+use mvo_format::{HEADER_LEN, behind_header};
 use mvo_frame::{Kind, MAGIC, next_group};
 use mvo_types::{Refusal, Rows, Stamp};
 use std::alloc::Global;
@@ -27,28 +27,28 @@ fn are_enough(kind: Kind, gate: usize) -> bool
     }
 }
 
-/// Puts the groups of a segment, of a version up to that of the format, on rows. The first of them
-/// follows a mark, and each keeps the limits of the segment's own version. A group is decoded and
-/// let go before the next one, so that no memory of it is left between the rows.
+/// Puts the groups of a segment, of a version up to this one, on rows. The first of them follows a
+/// mark, and each keeps the limits of the segment's own version. A group is decoded and let go
+/// before the next one, so that no memory of it is left between the rows.
 ///
 /// Refused: Corrupt with the file or BadVersion, by the first rule that its bytes break.
 /// OutOfMemory may stand in the place of any answer. Refused, it leaves some of the groups there.
 pub fn put_segment(
     alloc: Global,
-    format: Format,
+    upto: u32,
     file: u16,
     start: Stamp,
     kind: Kind,
     bytes: &[u8],
     rows: &mut Rows,
 ) -> Result<LogEnd, Refusal>
-    ensures ok { IfOk result (λ end. IsReplayed format file start.0 kind bytes.now rows.old rows.new
+    ensures ok { IfOk result (λ end. IsReplayed upto file start.0 kind bytes.now rows.old rows.new
         end.mark.0 end.gate) }
     ensures stamp { start.0 ≤ MAX_STAMP → IfOk result (λ end. end.mark.0 ≤ MAX_STAMP) }
     ensures err { IfErr result (λ e. (e ≡ OutOfMemory) ⊎
-        IsOnly (SegmentIs format file start.0 kind bytes.now) (Err e)) }
+        IsOnly (SegmentIs upto file start.0 kind bytes.now) (Err e)) }
 {
-    let (own, mut rest) = match behind_header(file, MAGIC, format.version, bytes) {
+    let (own, mut rest) = match behind_header(file, MAGIC, upto, bytes) {
         Ok((own, rest)) => (own, rest),
         Err(refusal) => return Err(refusal),
     };

@@ -8,7 +8,6 @@ ghost use Rattle.mvo_load.specs.Read.{HasRead};
 
 use crate::stop::stop_of;
 use mvo_disk::{Disk, read_up_to};
-use mvo_format::Format;
 use mvo_pair::Pair;
 use mvo_types::{MAX_SEGMENT_LEN, Refusal};
 use std::alloc::Global;
@@ -32,17 +31,17 @@ pub fn log_on<D: Disk>(alloc: Global, disk: &mut D, file: u16) -> Result<Vec<u8>
 pub fn data_on<D: Disk>(
     alloc: Global,
     disk: &mut D,
-    format: Format,
+    upto: u32,
     pair: Pair,
 ) -> Result<Vec<u8>, Refusal>
     requires file { pair.data_file < 1024 }
     requires room { D.fault_count disk.old + 1 < 2 ^ 64 }
     ensures bytes { IsHonest (D.moment disk.new) → IfOk result (λ v.
-        v.items ≡ take (data_reach format.version pair) (D.content disk.old pair.data_file)) }
+        v.items ≡ take (data_reach upto pair) (D.content disk.old pair.data_file)) }
     ensures stopped { IfErr result IsStop }
     ensures read { HasRead D.Disk disk.old disk.new result }
 {
-    match read_up_to(alloc, disk, pair.data_file, pair.data_reach(format.version)) {
+    match read_up_to(alloc, disk, pair.data_file, pair.data_reach(upto)) {
         Ok(bytes) => Ok(bytes),
         Err(failure) => Err(stop_of(failure)),
     }

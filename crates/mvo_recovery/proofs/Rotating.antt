@@ -34,10 +34,10 @@ last_not_fresh m file fresh last unnamed e = unnamed (subst (Contains (named m))
 pub rotated_last : (m : ManifestData) (fresh : ℕ) → IsLastFile (rotated m fresh) fresh
 rotated_last m fresh = (m.segments, refl)
 
-module _ (f : Format) (old new : Image) (may_old may_new : ℕ → List ℕ → Type 0) (file : ℕ) (rest : OthersStay file old new may_old may_new) where
+module _ (old new : Image) (may_old may_new : ℕ → List ℕ → Type 0) (file : ℕ) (rest : OthersStay file old new may_old may_new) where
   -- a fresh segment in another file
-  pub fresh_beside : (fresh : ℕ) → fresh ≢ file → IsFreshSegment f old may_old fresh → IsFreshSegment f new may_new fresh
-  fresh_beside fresh ne = fresh_framed f old new may_old may_new fresh (files_stay_others old new may_old may_new (λ n. n ≡ fresh) file (λ e. ne (sym e)) rest)
+  pub fresh_beside : (f : Format) (fresh : ℕ) → fresh ≢ file → IsFreshSegment f old may_old fresh → IsFreshSegment f new may_new fresh
+  fresh_beside f fresh ne = fresh_framed f old new may_old may_new fresh (files_stay_others old new may_old may_new (λ n. n ≡ fresh) file (λ e. ne (sym e)) rest)
 
   module _ (m : ManifestData) (apart : other_slot m ≢ file) where
     -- the other slot, shut
@@ -45,5 +45,5 @@ module _ (f : Format) (old new : Image) (may_old may_new : ℕ → List ℕ → 
     shut_beside shut = subst IsShut (sym (rest.content (other_slot m) apart)) shut
 
     -- the next manifest behind its gate, beside what is settled now
-    pub staged_beside : (next : ManifestData) (x y : Parts) → IsStagedBeside f old may_old m next x → IsSettled f new may_new m y → IsStagedBeside f new may_new m next y
+    pub staged_beside : (next : ManifestData) (x y : Parts) → IsStagedBeside old may_old m next x → IsSettled new may_new m y → IsStagedBeside new may_new m next y
     staged_beside next x y s settled = record { settled = settled; staged = subst (λ (c : List ℕ). IsStaged (other_slot m) next c) (sym (rest.content (other_slot m) apart)) s.staged }

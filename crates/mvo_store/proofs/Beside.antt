@@ -1,8 +1,7 @@
 -- A step of one of two jobs leaves the other.
-use Rattle.std.proofs.Common.{◌≡◌, ◌≢◌, inl, inr, ℕ, zero, suc, ◌+◌, ◌<◌, ◌||◌, Bool, true, false, eqb, cond, List, [], ◌∷◌, Option, Some, None, refl, sym, ap, subst, ◌∙◌, arith, eq-eqb}
+use Rattle.std.proofs.Common.{◌≡◌, ◌≢◌, inl, inr, ℕ, zero, suc, ◌+◌, ◌<◌, ◌≤◌, ◌||◌, Bool, true, false, eqb, cond, List, [], ◌∷◌, Option, Some, None, refl, sym, ap, subst, ◌∙◌, arith, eq-eqb}
 use Rattle.std.specs.List.{Contains, flat_map}
 use Rattle.mvo_disk.specs.Disk.{Image, OthersStay}
-use Rattle.mvo_format.specs.declared.format.TheConstants.{FIRST_FORMAT}
 use Rattle.mvo_frame.specs.declared.segment.Segment.{Segment}
 use Rattle.mvo_manifest.specs.Data.{ManifestData, named, pair_files}
 use Rattle.mvo_manifest.specs.Rules.{IsManifest}
@@ -101,7 +100,7 @@ module _ (c : Checkpointing) (g : Merging) (apart : ShareNoFile (Checkpoint c) (
 
 -- ---- a step of a checkpoint leaves the merge
 
-module _ (old new : Image) (may_old may_new : ℕ → List ℕ → Type 0) (m : ManifestData) (x : Parts) (settled : IsSettled FIRST_FORMAT old may_old m x) where
+module _ (old new : Image) (may_old may_new : ℕ → List ℕ → Type 0) (m : ManifestData) (x : Parts) (settled : IsSettled old may_old m x) where
   is : IsManifest m
   is = settled.installed.own.is
 
@@ -126,13 +125,13 @@ module _ (old new : Image) (may_old may_new : ℕ → List ℕ → Type 0) (m : 
           go (AtInstall step) at = absurd (omega (arith, new_files.0.file.0, at, slot_below (m.generation + 1)))
 
       -- THE MERGE STANDS beside a step of the checkpoint.
-      pub merge_stays : CountsStay FIRST_FORMAT old new m.pairs → IsRunning new may_new m x (Merge g)
+      pub merge_stays : CountsStay m.version old new m.pairs → IsRunning new may_new m x (Merge g)
       merge_stays counts = record {
         work = record {
           merge = record {
             live_left = has.merge.live_left;
             live_right = has.merge.live_right;
-            seen = seen_where_counts_stay old new FIRST_FORMAT m (seen_with g.seen has.merge.live_left has.merge.live_right) x.lives is settled.installed.parts.live counts has.merge.seen;
+            seen = seen_where_counts_stay old new m (seen_with g.seen has.merge.live_left has.merge.live_right) x.lives is settled.installed.parts.live counts has.merge.seen;
             may_merge = has.merge.may_merge;
             records = has.merge.records;
             renumbering = has.merge.renumbering;
@@ -176,7 +175,7 @@ module _ (old new : Image) (may_old may_new : ℕ → List ℕ → Type 0) (m : 
 
 -- ---- the merge beside an install of the checkpoint
 
-module _ (old new : Image) (may_old may_new : ℕ → List ℕ → Type 0) (m : ManifestData) (x : Parts) (settled : IsSettled FIRST_FORMAT old may_old m x) (rest : OthersStay (other_slot m) old new may_old may_new) (c : Checkpointing) (g : Merging) (apart : ShareNoFile (Checkpoint c) (Merge g)) (into : IsCheckpointInto old m x c.pair c.made c.next) (few : m.generation < MAX_GENERATION) (has : IsMergingAt old may_old m g) where
+module _ (old new : Image) (may_old may_new : ℕ → List ℕ → Type 0) (m : ManifestData) (x : Parts) (settled : IsSettled old may_old m x) (rest : OthersStay (other_slot m) old new may_old may_new) (c : Checkpointing) (g : Merging) (apart : ShareNoFile (Checkpoint c) (Merge g)) (into : IsCheckpointInto old m x c.pair c.made c.next) (few : m.generation < MAX_GENERATION) (has : IsMergingAt old may_old m g) where
   pair_stays : (n : ℕ) → Contains (flat_map pair_files m.pairs) n → new n ≡ old n
   pair_stays n in_pairs = rest.content n (λ e. named_is_no_slot m n settled.installed.own.is (pairs_named m n in_pairs) (omega (arith, e, slot_below (m.generation + 1))))
 
@@ -199,7 +198,7 @@ module _ (old new : Image) (may_old may_new : ℕ → List ℕ → Type 0) (m : 
           merge = record {
             live_left = has.merge.live_left;
             live_right = has.merge.live_right;
-            seen = seen_beside_install new FIRST_FORMAT m c.next saw (gained c.made.deltas) c.pair (ap (λ (k : ManifestData). k.pairs) into.next_is) (seen_stays old new FIRST_FORMAT m saw pair_stays has.merge.seen);
+            seen = seen_beside_install new m c.next saw (gained c.made.deltas) c.pair (subst (λ (k : ManifestData). m.version ≤ k.version) (sym into.next_is) (omega arith)) (ap (λ (k : ManifestData). k.pairs) into.next_is) (seen_stays old new m saw pair_stays has.merge.seen);
             may_merge = record {
               generation = omega (arith, generation_is, few);
               lo = may.lo;

@@ -1,5 +1,5 @@
 -- The last file of a merge: the numbers that came late to its two pairs, and the manifest that has one pair in their place.
-use Rattle.std.proofs.Common.{◌≡◌, ◌≢◌, ◌⊎◌, inl, inr, Bool, ℕ, ◌+◌, ◌<◌, ◌≤◌, ◌^◌, List, [], ◌∷◌, ◌++◌, length, take, drop, Option, Some, None, Result, Ok, Err, refl, sym, ap, subst, ◌∙◌, arith, append_assoc, length-append}
+use Rattle.std.proofs.Common.{◌≡◌, ◌≢◌, ◌⊎◌, inl, inr, ℕ, ◌+◌, ◌<◌, ◌≤◌, ◌^◌, List, [], ◌∷◌, ◌++◌, length, take, drop, Option, Some, None, Result, Ok, Err, refl, sym, ap, subst, ◌∙◌, arith, append_assoc, length-append}
 use Rattle.std.specs.Prelude.{⊤, All, AllPairs}
 use Rattle.std.specs.List.{Contains}
 use Rattle.std.proofs.lemmas.List.{take_at, drop_at, append-nil, length-take, length-drop}
@@ -8,13 +8,12 @@ use Rattle.mvo_types.specs.declared.refusal.Refusal.TheVariants.{DiskFault}
 use Rattle.mvo_disk.specs.declared.disk.Disk.{Ghosts}
 use Rattle.mvo_disk.specs.Disk.{Image, Only, AllStay, OthersStay, AllOf, Touched, LeavesOnly, IsHonest}
 use Rattle.mvo_disk.specs.Moments.{started, weaker, runs_on}
-use Rattle.mvo_format.specs.declared.format.TheConstants.{FIRST_FORMAT}
 use Rattle.mvo_format.specs.declared.header.TheConstants.{VERSION}
 use Rattle.mvo_pair.specs.declared.pair.Pair.{Pair}
 use Rattle.mvo_pair.specs.Data.{EntryData}
-use Rattle.mvo_pair.specs.Files.{AreNumbers, HasDeadNumbers, delta_bytes}
+use Rattle.mvo_pair.specs.Files.{AreNumbers, delta_bytes}
 use Rattle.mvo_pair.specs.Late.{AreThoseFrom}
-use Rattle.mvo_pair.specs.Writing.{IsWriteRefusal, IsStop, CountsFaults, place_behind}
+use Rattle.mvo_pair.specs.Writing.{IsStop, CountsFaults, place_behind}
 use Rattle.mvo_pair.proofs.Appends.{length-delta}
 use Rattle.mvo_manifest.specs.Data.{ManifestData, manifest_of, named}
 use Rattle.mvo_manifest.specs.Rules.{IsManifest, IsFile, PairsRise}
@@ -50,12 +49,12 @@ use Rattle.mvo_store.proofs.Neighbours.{two_stand}
 
 -- ---- the two among the pairs
 
-module _ (content : Image) (m : ManifestData) (saw : SeenData) (seen : WasSeen FIRST_FORMAT content m saw) where
+module _ (content : Image) (m : ManifestData) (saw : SeenData) (seen : WasSeen content m saw) where
   abbrev first_now : Pair
-  first_now = left_now FIRST_FORMAT content m saw seen
+  first_now = left_now content m saw seen
 
   abbrev second_now : Pair
-  second_now = right_now FIRST_FORMAT content m saw seen
+  second_now = right_now content m saw seen
 
   -- they stand in their place
   seen_there : neighbours_at saw.place m.pairs ≡ Some (first_now, second_now)
@@ -73,9 +72,9 @@ module _ (content : Image) (m : ManifestData) (saw : SeenData) (seen : WasSeen F
       ∙ ap (λ (ps : List Pair). manifest_of m.version (m.generation + 1) m.checkpoint_mark (seen.before ++ p ∷ ps) m.segments) back
 
 -- the delta file of a pair has room for the numbers that count
-pub counted_start : (content : Image) (may : ℕ → List ℕ → Type 0) (m : ManifestData) (x : Parts) → IsSettled FIRST_FORMAT content may m x → (p : Pair) → Contains m.pairs p → place_behind p.entries ≤ length (content p.delta_file)
+pub counted_start : (content : Image) (may : ℕ → List ℕ → Type 0) (m : ManifestData) (x : Parts) → IsSettled content may m x → (p : Pair) → Contains m.pairs p → place_behind p.entries ≤ length (content p.delta_file)
 counted_start content may m x settled p in_pairs =
-    let has : HasCounted FIRST_FORMAT content p = counted_of FIRST_FORMAT content may m x settled p in_pairs x.lives m.pairs settled.installed.parts.live in_pairs in
+    let has : HasCounted m.version content p = counted_of content may m x settled p in_pairs x.lives m.pairs settled.installed.parts.live in_pairs in
     omega (arith, ap (λ (l : List ℕ). length l) has.3.whole, length-append (delta_bytes has.0.version has.2) has.3.rest, length-delta has.0.version has.2 p.entries has.3.counted)
 
 -- the neighbours at a place are among the pairs
@@ -103,7 +102,7 @@ some_there m s still e = absurd (cc (sym still.two ∙ e))
 
 -- ---- the numbers that came late
 
-module _ (content : Image) (may : ℕ → List ℕ → Type 0) (m : ManifestData) (x : Parts) (settled : IsSettled FIRST_FORMAT content may m x) (s : SeenPairs) (has : IsMerging content m s) where
+module _ (content : Image) (may : ℕ → List ℕ → Type 0) (m : ManifestData) (x : Parts) (settled : IsSettled content may m x) (s : SeenPairs) (has : IsMerging content m s) where
   abbrev saw : SeenData
   saw = seen_with s has.live_left has.live_right
 
@@ -111,12 +110,12 @@ module _ (content : Image) (may : ℕ → List ℕ → Type 0) (m : ManifestData
   is_manifest = settled.installed.own.is
 
   -- those that count now
-  numbers_now : NumbersNow FIRST_FORMAT content m saw has.seen
+  numbers_now : NumbersNow content m saw has.seen
   numbers_now =
-      let counted : (p : Pair) → Contains m.pairs p → HasCounted FIRST_FORMAT content p =
-      λ p in_pairs. counted_of FIRST_FORMAT content may m x settled p in_pairs x.lives m.pairs settled.installed.parts.live in_pairs in
-      let left = counted (left_now FIRST_FORMAT content m saw has.seen) (in_left FIRST_FORMAT content m saw has.seen) in
-      let right = counted (right_now FIRST_FORMAT content m saw has.seen) (in_right FIRST_FORMAT content m saw has.seen) in
+      let counted : (p : Pair) → Contains m.pairs p → HasCounted m.version content p =
+      λ p in_pairs. counted_of content may m x settled p in_pairs x.lives m.pairs settled.installed.parts.live in_pairs in
+      let left = counted (left_now content m saw has.seen) (in_left content m saw has.seen) in
+      let right = counted (right_now content m saw has.seen) (in_right content m saw has.seen) in
       record { left = left.2; right = right.2; left_own = left.0; right_own = right.0; left_known = left.1; right_known = right.1; left_has = left.3; right_has = right.3 }
 
   abbrev late_left : List ℕ
@@ -133,13 +132,13 @@ module _ (content : Image) (may : ℕ → List ℕ → Type 0) (m : ManifestData
     left_is =
         let p = first_now content m saw has.seen in
         let here : AreThoseFrom s.left.entries p.entries (content p.delta_file) left = subst (λ (t : Pair × Pair). AreThoseFrom s.left.entries t.0.entries (content t.0.delta_file) left) two_same are.left_are in
-        here numbers_now.left_own.version s.left.records numbers_now.left (omega (arith, few_records m is_manifest p (in_left FIRST_FORMAT content m saw has.seen))) numbers_now.left_has
+        here numbers_now.left_own.version s.left.records numbers_now.left (omega (arith, few_records m is_manifest p (in_left content m saw has.seen))) numbers_now.left_has
 
     right_is : right ≡ late_right
     right_is =
         let q = second_now content m saw has.seen in
         let here : AreThoseFrom s.right.entries q.entries (content q.delta_file) right = subst (λ (t : Pair × Pair). AreThoseFrom s.right.entries t.1.entries (content t.1.delta_file) right) two_same are.right_are in
-        here numbers_now.right_own.version s.right.records numbers_now.right (omega (arith, few_records m is_manifest q (in_right FIRST_FORMAT content m saw has.seen))) numbers_now.right_has
+        here numbers_now.right_own.version s.right.records numbers_now.right (omega (arith, few_records m is_manifest q (in_right content m saw has.seen))) numbers_now.right_has
 
     late_now : late_of s left right ≡ late_of s late_left late_right
     late_now = ap (λ (l : List ℕ). late_of s l right) left_is ∙ ap (λ (r : List ℕ). late_of s late_left r) right_is
@@ -152,13 +151,13 @@ module _ (content : Image) (may : ℕ → List ℕ → Type 0) (m : ManifestData
 
     -- THEY ARE FEW, and are numbers of the merge's records.
     pub late_few : length (late_of s left right) < 2 ^ 32
-    late_few = subst (λ (l : List ℕ). length l < 2 ^ 32) (sym late_same) (few_late FIRST_FORMAT content m x.lives saw is_manifest settled.installed.parts.live has.seen numbers_now)
+    late_few = subst (λ (l : List ℕ). length l < 2 ^ 32) (sym late_same) (few_late content m x.lives saw is_manifest settled.installed.parts.live has.seen numbers_now)
 
     late_are : AreNumbers s.pair.records (late_of s left right)
     late_are =
         let count : length (records_of has.live_left has.live_right) ≡ s.pair.records = sym (has.may_merge.counted ∙ ap (λ (es : List EntryData). length es) has.records) in
-        let from_left = are_left FIRST_FORMAT content m x.lives saw is_manifest settled.installed.parts.live has.seen numbers_now in
-        let from_right = are_right FIRST_FORMAT content m x.lives saw is_manifest settled.installed.parts.live has.seen numbers_now in
+        let from_left = are_left content m x.lives saw is_manifest settled.installed.parts.live has.seen numbers_now in
+        let from_right = are_right content m x.lives saw is_manifest settled.installed.parts.live has.seen numbers_now in
         subst (λ (l : List ℕ). AreNumbers s.pair.records l) (sym late_same) (subst (λ k. AreNumbers k (renumbered renumbering late_left late_right)) count (gives_numbers has.live_left has.live_right late_left late_right from_left from_right))
 
 -- they are the same where the manifest's files stay
@@ -203,7 +202,7 @@ module _ {D : Type 0} (d : Ghosts D) (old new : D) (m : ManifestData) (g : Mergi
       late = late_of g.seen left right
 
       -- its manifest may be installed
-      ready_end : (x : Parts) → IsSettled FIRST_FORMAT (d.content new) (d.may_leave new) m x → HasWork (d.content new) (d.may_leave new) m x (Merge g) → IsMergeReady (d.content new) (d.may_leave new) m g.seen next
+      ready_end : (x : Parts) → IsSettled (d.content new) (d.may_leave new) m x → HasWork (d.content new) (d.may_leave new) m x (Merge g) → IsMergeReady (d.content new) (d.may_leave new) m g.seen next
       ready_end x settled w =
           let merge = w.merge in
           let is = settled.installed.own.is in

@@ -4,7 +4,6 @@ use Rattle.std.specs.List.{Contains, flat_map}
 use Rattle.std.proofs.lemmas.Bool.{cases_eq}
 use Rattle.std.proofs.lemmas.List.{take_at}
 use Rattle.mvo_disk.specs.Disk.{Holds}
-use Rattle.mvo_format.specs.declared.format.TheConstants.{FIRST_FORMAT}
 use Rattle.mvo_format.specs.declared.format.Format.{Format}
 use Rattle.mvo_format.specs.Formats.{IsFormatUpTo}
 use Rattle.mvo_pair.specs.declared.pair.Pair.{Pair}
@@ -26,21 +25,21 @@ counted_before version below count ns old new bytes holds has =
 
 module _ (old new : Image) (m : ManifestData) where
   -- where a file is written that no pair has
-  pub counts_beside : (file : ℕ) → ((n : ℕ) → n ≢ file → new n ≡ old n) → (Contains (flat_map pair_files m.pairs) file → ⊥) → CountsStay FIRST_FORMAT old new m.pairs
+  pub counts_beside : (file : ℕ) → ((n : ℕ) → n ≢ file → new n ≡ old n) → (Contains (flat_map pair_files m.pairs) file → ⊥) → CountsStay m.version old new m.pairs
   counts_beside file others never p in_pairs =
       let data_is : new p.data_file ≡ old p.data_file = others p.data_file (λ e. never (subst (Contains (flat_map pair_files m.pairs)) e (data_among m.pairs p in_pairs))) in
       let delta_is : new p.delta_file ≡ old p.delta_file = others p.delta_file (λ e. never (subst (Contains (flat_map pair_files m.pairs)) e (delta_among m.pairs p in_pairs))) in
       (data_is, λ own known ns has. subst (λ (l : List ℕ). HasDeadNumbers own.version p.records p.entries ns l) (sym delta_is) has)
 
   -- where the delta file of a pair is, behind those that count
-  pub counts_behind : IsManifest m → (r : Pair) → Contains m.pairs r → ((n : ℕ) → n ≢ r.delta_file → new n ≡ old n) → ((own : Format) → IsFormatUpTo FIRST_FORMAT.version own → (ns : List ℕ) → HasDeadNumbers own.version r.records r.entries ns (old r.delta_file) → HasDeadNumbers own.version r.records r.entries ns (new r.delta_file)) → CountsStay FIRST_FORMAT old new m.pairs
+  pub counts_behind : IsManifest m → (r : Pair) → Contains m.pairs r → ((n : ℕ) → n ≢ r.delta_file → new n ≡ old n) → ((own : Format) → IsFormatUpTo m.version own → (ns : List ℕ) → HasDeadNumbers own.version r.records r.entries ns (old r.delta_file) → HasDeadNumbers own.version r.records r.entries ns (new r.delta_file)) → CountsStay m.version old new m.pairs
   counts_behind is r has others keeps p in_pairs =
       let apart = pairs_apart m is in
       let data_is : new p.data_file ≡ old p.data_file = others p.data_file (data_no_delta m.pairs apart r p has in_pairs) in
       elim (cases_eq p.data_file r.data_file) [
         | inl e ↦ (
             let it : r ≡ p = sym (same_data m.pairs apart r p has in_pairs e) in
-            (data_is, subst (λ (k : Pair). (own : Format) → IsFormatUpTo FIRST_FORMAT.version own → (ns : List ℕ) → HasDeadNumbers own.version k.records k.entries ns (old k.delta_file) → HasDeadNumbers own.version k.records k.entries ns (new k.delta_file)) it keeps))
+            (data_is, subst (λ (k : Pair). (own : Format) → IsFormatUpTo m.version own → (ns : List ℕ) → HasDeadNumbers own.version k.records k.entries ns (old k.delta_file) → HasDeadNumbers own.version k.records k.entries ns (new k.delta_file)) it keeps))
         | inr ne ↦ (
             let delta_is : new p.delta_file ≡ old p.delta_file = others p.delta_file (λ e. ne (ap (λ (k : Pair). k.data_file) (same_delta m.pairs apart r p has in_pairs e))) in
             (data_is, λ own known ns h. subst (λ (l : List ℕ). HasDeadNumbers own.version p.records p.entries ns l) (sym delta_is) h))

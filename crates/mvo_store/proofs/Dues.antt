@@ -13,7 +13,6 @@ use Rattle.mvo_disk.specs.declared.disk.Disk.{Ghosts}
 use Rattle.mvo_disk.specs.Disk.{OthersStay, IsHonest}
 use Rattle.mvo_disk.specs.Moments.{weaker}
 use Rattle.mvo_group.specs.Data.{GroupData}
-use Rattle.mvo_format.specs.declared.format.TheConstants.{FIRST_FORMAT}
 use Rattle.mvo_frame.specs.declared.segment.Segment.{Segment}
 use Rattle.mvo_frame.specs.Standing.{gate_of}
 use Rattle.mvo_pair.specs.Writing.{IsWriteRefusal}
@@ -333,12 +332,12 @@ module _ {D : Type 0} (d : Ghosts D) (s : StoreData D) (rows : Map) (up : IsUp d
     last_apart e = named_is_no_slot m s.segment.file up.settled.installed.own.is (last_named m up.last.0 s.segment.file up.last.1) (subst (λ k. k < 2) (sym (e ∙ at)) (slot_below (m.generation + 1)))
 
     -- THE NEXT MANIFEST IS INSTALLED.
-    next_settled : (next : ManifestData) → next.generation ≡ m.generation + 1 → (i : Installs (d.content s.disk) (d.may_leave s.disk) up.parts next) → IsOpened d new m next → IsSettled FIRST_FORMAT (d.content new) (d.may_leave new) next i.parts
-    next_settled next one_more i is = settled_after FIRST_FORMAT (d.content s.disk) (d.content new) (d.may_leave s.disk) (d.may_leave new) m up.parts up.settled (other_slot m) refl
+    next_settled : (next : ManifestData) → next.generation ≡ m.generation + 1 → (i : Installs (d.content s.disk) (d.may_leave s.disk) up.parts next) → IsOpened d new m next → IsSettled (d.content new) (d.may_leave new) next i.parts
+    next_settled next one_more i is = settled_after (d.content s.disk) (d.content new) (d.may_leave s.disk) (d.may_leave new) m up.parts up.settled (other_slot m) refl
         (subst (λ k. OthersStay k (d.content s.disk) (d.content new) (d.may_leave s.disk) (d.may_leave new)) at rest) is.durable next i.parts one_more i.ready is.has
 
     -- the store is up with it, with these places and this segment
-    with_next : (next : ManifestData) (i : Installs (d.content s.disk) (d.may_leave s.disk) up.parts next) (places : PlaceTable) (segment : Segment) (jobs : Jobs) → HaveJobs (d.content new) (d.may_leave new) next i.parts jobs → ShareNone jobs → JobsHaveRoom places jobs → IsSettled FIRST_FORMAT (d.content new) (d.may_leave new) next i.parts → IsLastFile next segment.file
+    with_next : (next : ManifestData) (i : Installs (d.content s.disk) (d.may_leave s.disk) up.parts next) (places : PlaceTable) (segment : Segment) (jobs : Jobs) → HaveJobs (d.content new) (d.may_leave new) next i.parts jobs → ShareNone jobs → JobsHaveRoom places jobs → IsSettled (d.content new) (d.may_leave new) next i.parts → IsLastFile next segment.file
         → segment.gate ≡ gate_of i.parts.last → segment.gate < MAX_SEGMENT_LEN → (s.written ≡ true → HasBody i.parts s.pending segment.gate segment.next (d.content new segment.file)) → ArePlaces next.pairs i.parts.lives places.at
         → IsUp d (record s { disk = new; manifest = next; places = places; segment = segment; jobs = jobs }) rows
     with_next next i places segment jobs runs apart room settled last gate few written are =
@@ -347,7 +346,7 @@ module _ {D : Type 0} (d : Ghosts D) (s : StoreData D) (rows : Map) (up : IsUp d
         search (rules, arith)
 
     -- the segment that took frames takes them then
-    installed_up : (next : ManifestData) (i : Installs (d.content s.disk) (d.may_leave s.disk) up.parts next) (places : PlaceTable) (jobs : Jobs) → HaveJobs (d.content new) (d.may_leave new) next i.parts jobs → ShareNone jobs → JobsHaveRoom places jobs → IsSettled FIRST_FORMAT (d.content new) (d.may_leave new) next i.parts
+    installed_up : (next : ManifestData) (i : Installs (d.content s.disk) (d.may_leave s.disk) up.parts next) (places : PlaceTable) (jobs : Jobs) → HaveJobs (d.content new) (d.may_leave new) next i.parts jobs → ShareNone jobs → JobsHaveRoom places jobs → IsSettled (d.content new) (d.may_leave new) next i.parts
         → i.parts.middle ≡ up.parts.middle → i.parts.last ≡ up.parts.last → IsLastFile next s.segment.file → ArePlaces next.pairs i.parts.lives places.at
         → IsUp d (record s { disk = new; manifest = next; places = places; jobs = jobs }) rows
     installed_up next i places jobs runs apart room settled same_middle same_last last = with_next next i places s.segment jobs runs apart room settled last (up.gate ∙ ap gate_of (sym same_last)) up.few
@@ -355,7 +354,7 @@ module _ {D : Type 0} (d : Ghosts D) (s : StoreData D) (rows : Map) (up : IsUp d
 
     -- the places then
     checkpoint_places : (c : Checkpointing) (places : PlaceTable) → (has : IsCheckpointInto (d.content s.disk) m up.parts c.pair c.made c.next)
-        → IsSettled FIRST_FORMAT (d.content new) (d.may_leave new) c.next (checkpointed_parts m up.parts (made_of c.pair c.made has.segment) has.log.others)
+        → IsSettled (d.content new) (d.may_leave new) c.next (checkpointed_parts m up.parts (made_of c.pair c.made has.segment) has.log.others)
         → places.at ≡ taken_places c.pair.data_file c.made.records c.made.gone s.places.at → ArePlaces c.next.pairs (lives_after_checkpoint m up.parts (made_of c.pair c.made has.segment)) places.at
     checkpoint_places c places has settled are =
         let made = has.made_is in
@@ -369,13 +368,13 @@ module _ {D : Type 0} (d : Ghosts D) (s : StoreData D) (rows : Map) (up : IsUp d
         rw (at_is, made.lives, has.next_is) taken
 
     merge_places : (g : SeenPairs) (next : ManifestData) (places : PlaceTable) → (is : IsMergeReady (d.content s.disk) (d.may_leave s.disk) m g next)
-        → IsSettled FIRST_FORMAT (d.content new) (d.may_leave new) next (merged_parts_now (d.content s.disk) (d.may_leave s.disk) m up.parts g next is)
+        → IsSettled (d.content new) (d.may_leave new) next (merged_parts_now (d.content s.disk) (d.may_leave s.disk) m up.parts g next is)
         → places.at ≡ moved g.left.data_file g.right.data_file g.pair.data_file g.made.records s.places.at → ArePlaces next.pairs (merged_parts_now (d.content s.disk) (d.may_leave s.disk) m up.parts g next is).lives places.at
     merge_places g next places is settled to =
         let merge = is.merge in
         let saw = seen_with g merge.live_left merge.live_right in
         let differ : IsDistinct nat_eq (map file_of (merged_manifest m (pairs_now merge.seen (pair_with g is.late))).pairs) = subst (λ (n : ManifestData). IsDistinct nat_eq (map file_of n.pairs)) is.next_is (data_files_differ next settled.installed.own.is) in
-        let now = places_beside FIRST_FORMAT (d.content s.disk) m up.parts saw (pair_with g is.late) merge.seen is.now s.places.at up.settled.installed.own.is up.settled.installed.parts.live differ up.places in
+        let now = places_beside (d.content s.disk) m up.parts saw (pair_with g is.late) merge.seen is.now s.places.at up.settled.installed.own.is up.settled.installed.parts.live differ up.places in
         let at_is : places.at ≡ moved g.left.data_file g.right.data_file g.pair.data_file (records_merged merge.live_left merge.live_right) s.places.at = to ∙ ap (λ (es : List EntryData). moved g.left.data_file g.right.data_file g.pair.data_file es s.places.at) merge.records in
         rw (at_is, is.next_is) now
 
@@ -392,10 +391,10 @@ module _ {D : Type 0} (d : Ghosts D) (s : StoreData D) (rows : Map) (up : IsUp d
         let settled = next_settled next (ap (λ (n : ManifestData). n.generation) has.into.next_is) i opened in
         let made = made_of pair c has.into.segment in
         let log = has.into.log in
-        let stays = last_stays FIRST_FORMAT (d.content s.disk) (d.may_leave s.disk) m up.parts made log in
+        let stays = last_stays (d.content s.disk) (d.may_leave s.disk) m up.parts made log in
         let it : s.segment.file ≡ log.last_file = last_once m stays.0 log.last_file s.segment.file stays.1 up.last in
         installed_up next i places jobs (runs i.parts) apart room settled refl refl
-        (subst (λ (n : ManifestData). IsLastFile n s.segment.file) (sym has.into.next_is) (subst (IsLastFile (checkpointed m made)) (sym it) (last_after FIRST_FORMAT (d.content s.disk) (d.may_leave s.disk) m up.parts made log)))
+        (subst (λ (n : ManifestData). IsLastFile n s.segment.file) (sym has.into.next_is) (subst (IsLastFile (checkpointed m made)) (sym it) (last_after (d.content s.disk) (d.may_leave s.disk) m up.parts made log)))
         (checkpoint_places (record { pair = pair; made = c; next = next; stage = AtInstall step }) places has.into settled to)
     open_up (OfMergeReady g k) has places opened to free jobs runs apart room =
         let i = installs (d.content s.disk) (d.may_leave s.disk) m up.parts up.settled (OfMergeReady g k) has in

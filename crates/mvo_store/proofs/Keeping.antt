@@ -7,7 +7,6 @@ use Rattle.mvo_disk.specs.declared.disk.Disk.{Ghosts}
 use Rattle.mvo_disk.specs.Disk.{Image, AllOf, OthersStay, Touched, LeavesOnly, AllStay, Moment, IsBefore, IsHonest}
 use Rattle.mvo_disk.specs.Moments.{weaker, started, at_end}
 use Rattle.mvo_group.specs.Data.{GroupData}
-use Rattle.mvo_format.specs.declared.format.TheConstants.{FIRST_FORMAT}
 use Rattle.mvo_manifest.specs.Data.{ManifestData}
 use Rattle.mvo_places.specs.Places.{PlaceMap, PlaceTable, ArePlaces}
 use Rattle.mvo_recovery.specs.Parts.{Parts}
@@ -58,7 +57,7 @@ module _ {D : Type 0} (d : Ghosts D) where
     before = λ t image le left. ⊎_elim (λ past. inl past) (λ p. ⊎_elim (λ past. inl past) (λ q. inr (p, q)) (second.before t image le left)) (first.before t image le left);
   }
 
-  module _ (old : D) (m : ManifestData) (x : Parts) (settled : IsSettled FIRST_FORMAT (d.content old) (d.may_leave old) m x) (slots : HasSlots (d.content old)) where
+  module _ (old : D) (m : ManifestData) (x : Parts) (settled : IsSettled (d.content old) (d.may_leave old) m x) (slots : HasSlots (d.content old)) where
     -- each image of now has the slots
     pub settled_slots : (image : Image) → AllOf (d.may_leave old) image → HasSlots image
     settled_slots image all = slots_as (d.content old) image (settled.durable 0 (inl (omega arith)) (image 0) (all 0)) (settled.durable 1 (inl (omega arith)) (image 1) (all 1)) slots
@@ -75,9 +74,9 @@ module _ {D : Type 0} (d : Ghosts D) where
 
     -- a step on a file leaves them, beside what the parts make up
     pub leaves_still : (new : D) (file : ℕ) (P : List ℕ → Type 0) → HasGateIn file P → LeavesOnly d.moment d.left_since old new (Touched file (d.may_leave old) P)
-        → LeavesOnly d.moment d.left_since old new (GivesParts FIRST_FORMAT x) → LeavesOnly d.moment d.left_since old new (StillGives x)
-    leaves_still new file P some touched gives = weaker d.moment d.left_since old new (λ image. HasSlots image × GivesParts FIRST_FORMAT x image) (StillGives x) (λ image both. record { slots = both.0; gives = both.1 })
-        (both_leave old new HasSlots (GivesParts FIRST_FORMAT x) (weaker d.moment d.left_since old new (Touched file (d.may_leave old) P) HasSlots (slots_touched file P some) touched) gives)
+        → LeavesOnly d.moment d.left_since old new (GivesParts x) → LeavesOnly d.moment d.left_since old new (StillGives x)
+    leaves_still new file P some touched gives = weaker d.moment d.left_since old new (λ image. HasSlots image × GivesParts x image) (StillGives x) (λ image both. record { slots = both.0; gives = both.1 })
+        (both_leave old new HasSlots (GivesParts x) (weaker d.moment d.left_since old new (Touched file (d.may_leave old) P) HasSlots (slots_touched file P some) touched) gives)
 
 -- ---- the rows
 
@@ -105,27 +104,27 @@ module _ {D : Type 0} (d : Ghosts D) where
 
   module _ (s : StoreData D) (rows : Map) (up : IsUp d s rows) where
     -- what the parts give are its rows and its mark
-    pub give_or : (image : Image) → GivesParts FIRST_FORMAT up.parts image → GivesOr rows s.mark (opening s) image
+    pub give_or : (image : Image) → GivesParts up.parts image → GivesOr rows s.mark (opening s) image
     give_or image g = gives_or rows s.mark (opening s) image (rw (up.rows_are, up.mark_is) g)
 
     pub now_left : HasSlots (d.content s.disk) → (image : Image) → AllOf (d.may_leave s.disk) image → MayBeLeft rows s.mark (opening s) image
     now_left slots image all = record {
       slots = settled_slots d s.disk s.manifest up.parts up.settled slots image all;
-      gives = give_or image (settled_gives FIRST_FORMAT (d.content s.disk) (d.may_leave s.disk) s.manifest up.parts up.settled image all);
+      gives = give_or image (settled_gives (d.content s.disk) (d.may_leave s.disk) s.manifest up.parts up.settled image all);
     }
 
     -- so in an image in which a call has touched a file that isn't used
     pub touched_left : HasSlots (d.content s.disk) → (file : ℕ) → 2 ≤ file → (IsUsed s.manifest file → ⊥) → (image : Image) → Touched file (d.may_leave s.disk) (λ _. ⊤) image → MayBeLeft rows s.mark (opening s) image
     touched_left slots file behind unused image t = record {
       slots = slots_touched d s.disk s.manifest up.parts up.settled slots file (λ _. ⊤) (λ c lt _ e. absurd (omega (arith, lt, behind))) image t;
-      gives = give_or image (within_unused FIRST_FORMAT (d.content s.disk) (d.may_leave s.disk) s.manifest up.parts up.settled file (λ _. ⊤) image unused t);
+      gives = give_or image (within_unused (d.content s.disk) (d.may_leave s.disk) s.manifest up.parts up.settled file (λ _. ⊤) image unused t);
     }
 
     pub up_keeps : HasSlots (d.content s.disk) → KeepsRows d s rows
     up_keeps slots = record { images = now_left slots; up = λ _. (up, slots) }
 
     -- Its disk, its places and its jobs are others: the last segment stays, and the jobs stand.
-    pub stays_up : (new : D) (places : PlaceTable) (jobs : Jobs) → IsSettled FIRST_FORMAT (d.content new) (d.may_leave new) s.manifest up.parts → d.content new s.segment.file ≡ d.content s.disk s.segment.file
+    pub stays_up : (new : D) (places : PlaceTable) (jobs : Jobs) → IsSettled (d.content new) (d.may_leave new) s.manifest up.parts → d.content new s.segment.file ≡ d.content s.disk s.segment.file
         → HaveJobs (d.content new) (d.may_leave new) s.manifest up.parts jobs → ShareNone jobs → places.at ≡ s.places.at → JobsHaveRoom places jobs → d.fault_count new ≡ d.fault_count s.disk → IsUp d (record s { disk = new; places = places; jobs = jobs }) rows
     stays_up new places jobs settled last stands apart same room count =
         let written : s.written ≡ true → HasBody up.parts s.pending s.segment.gate s.segment.next (d.content new s.segment.file) = λ e. subst (λ (c : List ℕ). HasBody up.parts s.pending s.segment.gate s.segment.next c) (sym last) (up.written e) in

@@ -11,7 +11,6 @@ use Rattle.mvo_types.specs.declared.refusal.Refusal.TheVariants.{DiskFault, OutO
 use Rattle.mvo_disk.specs.declared.disk.Disk.{Ghosts}
 use Rattle.mvo_disk.specs.Disk.{OthersStay, AllOf, AllStay, Touched, LeavesOnly, IsHonest}
 use Rattle.mvo_disk.specs.Moments.{weaker, runs_on}
-use Rattle.mvo_format.specs.declared.format.TheConstants.{FIRST_FORMAT}
 use Rattle.mvo_pair.specs.Writing.{IsStop, CountsFaults}
 use Rattle.mvo_pair.specs.declared.pair.Pair.{Pair}
 use Rattle.mvo_manifest.specs.Data.{ManifestData}
@@ -44,7 +43,7 @@ module _ {D : Type 0} {d : Ghosts D} {s : StoreData D} {call : StoreStep} (b : B
   -- the store stays up, whatever jobs run then
   pub looked_up : (rows : Map) (up : IsUp d s rows) (places : PlaceTable) (jobs : Jobs) → places.at ≡ s.places.at → JobsHaveRoom places jobs → HaveJobs (d.content s.disk) (d.may_leave s.disk) s.manifest up.parts jobs → ShareNone jobs → d.fault_count new ≡ d.fault_count s.disk
       → IsUp d (record s { disk = new; places = places; jobs = jobs }) rows
-  looked_up rows up places jobs same room has apart = stays_up d s rows up new places jobs (settled_all (d.content s.disk) (d.content new) (d.may_leave s.disk) (d.may_leave new) FIRST_FORMAT s.manifest up.parts rest up.settled) (rest.content s.segment.file)
+  looked_up rows up places jobs same room has apart = stays_up d s rows up new places jobs (settled_all (d.content s.disk) (d.content new) (d.may_leave s.disk) (d.may_leave new) s.manifest up.parts rest up.settled) (rest.content s.segment.file)
       (jobs_framed (d.content s.disk) (d.content new) (d.may_leave s.disk) (d.may_leave new) s.manifest up.settled.installed.own.is up.parts up.settled.installed.parts up.parts.last (λ some. some) (jobs_of jobs)
       (each_job (λ j. HasWork (d.content s.disk) (d.may_leave s.disk) s.manifest up.parts j → FilesStay (RestsOn s.manifest j) (d.content s.disk) (d.content new) (d.may_leave s.disk) (d.may_leave new)) (λ j work. record { content = λ n _. rest.content n; images = λ n c _. rest.images n c }) (jobs_of jobs))
       (rest.content (other_slot s.manifest)) has) apart same room
@@ -152,7 +151,7 @@ module _ {D : Type 0} {d : Ghosts D} {s : StoreData D} {call : StoreStep} (b : B
   -- THE STORE STAYS UP where a file is emptied that is not used.
   pub emptied_up : d.fault_count new ≡ d.fault_count s.disk → (rows : Map) → IsUp d s rows → IsUp d (record s { disk = new }) rows
   emptied_up count rows up = stays_up d s rows up new s.places s.jobs
-      (settled_framed (d.content s.disk) (d.content new) (d.may_leave s.disk) (d.may_leave new) FIRST_FORMAT s.manifest up.parts used_stay up.settled)
+      (settled_framed (d.content s.disk) (d.content new) (d.may_leave s.disk) (d.may_leave new) s.manifest up.parts used_stay up.settled)
       (used_stay.content s.segment.file (last_used s.manifest s.segment.file up.last))
       (jobs_framed (d.content s.disk) (d.content new) (d.may_leave s.disk) (d.may_leave new) s.manifest up.settled.installed.own.is up.parts up.settled.installed.parts up.parts.last (λ some. some) (jobs_of s.jobs)
       (each_follows (λ j. job_takes_file j file ≡ false) (λ j. HasWork (d.content s.disk) (d.may_leave s.disk) s.manifest up.parts j → FilesStay (RestsOn s.manifest j) (d.content s.disk) (d.content new) (d.may_leave s.disk) (d.may_leave new)) (λ j not_taken work. rested_stay j not_taken) (jobs_of s.jobs) (none_take file (jobs_of s.jobs) free.untaken))

@@ -18,13 +18,12 @@ use Rattle.mvo_types.specs.declared.refusal.Refusal.{Refusal}
 use Rattle.mvo_types.specs.declared.refusal.Refusal.TheVariants.{ClockSpent, AlreadyFormatted}
 use Rattle.mvo_disk.specs.declared.disk.Disk.{Ghosts}
 use Rattle.mvo_recovery.proofs.image.Opening.{exact}
-use Rattle.mvo_recovery.proofs.Opened.{gives_installed, newest_stands}
+use Rattle.mvo_recovery.proofs.Opened.{newest_stands}
 use Rattle.mvo_store.specs.Opening.{IsAnswer, IsNotOpened, IsNotOfFiles, HasSynced}
 use Rattle.std.proofs.lemmas.Bool.{lt-leb}
 use Rattle.std.proofs.lemmas.List.Elements.{All-contains}
 use Rattle.std.specs.FinMap as map
 use Rattle.mvo_disk.specs.Disk.{Only, AllOf, Image, OthersStay, IsHonest}
-use Rattle.mvo_format.specs.declared.format.Format.{Format}
 use Rattle.mvo_format.specs.Found.{header}
 use Rattle.mvo_frame.specs.declared.magic.TheConstants.{MAGIC}
 use Rattle.mvo_manifest.specs.Data.{ManifestData, named}
@@ -52,10 +51,10 @@ pub after_frames : (place mark : ℕ) (gs : List GroupData) (bytes : List ℕ) �
 after_frames place mark [] bytes le f = le
 after_frames place mark (g ∷ gs) bytes le f = after_frames (place + 1 + length (sized (body_of g))) g.mark gs f.1 f.3.is.rules.mark f.4
 
-after_segments : (image : Image) (ns : List ℕ) (mark : ℕ) (gs : List GroupData) (upto : ℕ) → mark ≤ MAX_STAMP → HaveGroups (SegmentSays FIRST_FORMAT) image ns mark gs upto → upto ≤ MAX_STAMP
-after_segments image [] mark gs upto le h = subst (λ (m : ℕ). m ≤ MAX_STAMP) (sym h.1) le
-after_segments image (n ∷ ns) mark gs upto le h =
-    after_segments image ns (mark_after mark h.0) h.1 upto (after_frames HEADER_LEN mark h.0 h.3.has.rest le h.3.has.frames) h.4
+after_segments : (upto : ℕ) (image : Image) (ns : List ℕ) (mark : ℕ) (gs : List GroupData) (next : ℕ) → mark ≤ MAX_STAMP → HaveGroups (SegmentSays upto) image ns mark gs next → next ≤ MAX_STAMP
+after_segments upto image [] mark gs next le h = subst (λ (m : ℕ). m ≤ MAX_STAMP) (sym h.1) le
+after_segments upto image (n ∷ ns) mark gs next le h =
+    after_segments upto image ns (mark_after mark h.0) h.1 next (after_frames HEADER_LEN mark h.0 h.3.has.rest le h.3.has.frames) h.4
 
 pub after_pairs : (lo : ℕ) (ps : List Pair) (hi : ℕ) → lo ≤ MAX_STAMP → PairsRise lo ps hi → hi ≤ MAX_STAMP
 after_pairs lo [] hi le h = subst (λ (m : ℕ). m ≤ MAX_STAMP) h le
@@ -63,7 +62,7 @@ after_pairs lo (p ∷ ps) hi le h = after_pairs p.hi.0 ps hi h.0.top h.1
 
 -- what an image gives is the one answer of opening it
 same_outcome : (content : Image) (out : OpeningOutcome) → IsAnswer content out → (rows : Map) (mark : ℕ) → Gives rows mark content → ◌≡◌ {A = OpeningOutcome} (Ok (rows, mark)) out
-same_outcome content out answer rows mark gives = answer.1 (Ok (rows, mark)) ((exact FIRST_FORMAT content rows mark).1 gives)
+same_outcome content out answer rows mark gives = answer.1 (Ok (rows, mark)) ((exact content rows mark).1 gives)
 
 -- so it is the rows and the mark that were answered
 pub same_answer : (content : Image) (rows : Map) (mark : ℕ) → IsAnswer content (Ok (rows, mark)) → (given : Map) (at : ℕ) → Gives given at content → ◌≡◌ {A = Map × ℕ} (given, at) (rows, mark)
@@ -82,24 +81,24 @@ module _ {D : Type 0} (d : Ghosts D) where
 
 -- ---- what is opened
 
-have_sealed : (f : Format) (image : Image) (ns : List ℕ) (mark : ℕ) (gs : List GroupData) (upto : ℕ) → HaveGroups (SealedSays f) image ns mark gs upto → HaveSealed f image ns mark gs upto
-have_sealed f image [] mark gs upto have = have
-have_sealed f image (n ∷ ns) mark gs upto have = (have.0, have.1, have.2, have.3, have_sealed f image ns (mark_after mark have.0) have.1 upto have.4)
+have_sealed : (upto : ℕ) (image : Image) (ns : List ℕ) (mark : ℕ) (gs : List GroupData) (next : ℕ) → HaveGroups (SealedSays upto) image ns mark gs next → HaveSealed upto image ns mark gs next
+have_sealed upto image [] mark gs next have = have
+have_sealed upto image (n ∷ ns) mark gs next have = (have.0, have.1, have.2, have.3, have_sealed upto image ns (mark_after mark have.0) have.1 next have.4)
 
 -- each file that is used is one of the disk
 used_below : (m : ManifestData) → IsManifest m → (n : ℕ) → IsUsed m n → n < 1024
 used_below m is n (inl lt) = omega (arith, lt)
 used_below m is n (inr has) = let file : IsFile n = All-contains IsFile (named m) n is.rules.files has in omega (arith, file.1)
 
-module _ (f : Format) (image : Image) (m : ManifestData) (rows : Map) (mark gate : ℕ) (loaded : IsLoaded f image m rows mark gate) where
+module _ (image : Image) (m : ManifestData) (rows : Map) (mark gate : ℕ) (loaded : IsLoaded image m rows mark gate) where
   abbrev pub parts_loaded : Parts
   parts_loaded = record { lives = loaded.lives; sealed = loaded.log.last.earlier; middle = loaded.log.last.middle; last = loaded.log.last.own }
 
-  pub installed_loaded : IsInstalled f image m parts_loaded
+  pub installed_loaded : IsInstalled image m parts_loaded
   installed_loaded =
       let i = loaded.installed in
       let last = loaded.log.last in
-      let s = newest_stands f image m (record { even = i.first; odd = i.second; even_has = i.first_has; odd_has = i.second_has; greatest = i.is }) in
+      let s = newest_stands image m (record { even = i.first; odd = i.second; even_has = i.first_has; odd_has = i.second_has; greatest = i.is }) in
       record {
         own = s.own;
         other = s.other;
@@ -110,7 +109,7 @@ module _ (f : Format) (image : Image) (m : ManifestData) (rows : Map) (mark gate
           segments = last.files;
           live = loaded.live;
           distinct = loaded.distinct;
-          sealed = have_sealed f image last.sealed m.checkpoint_mark last.earlier last.middle last.before;
+          sealed = have_sealed m.version image last.sealed m.checkpoint_mark last.earlier last.middle last.before;
           last = record { format = last.format; known = last.known; has = last.stands.has; allowed = last.allowed; some = tt };
         };
       }
@@ -120,7 +119,7 @@ pub opened_safe : {D : Type 0} (d : Ghosts D) (old new : D) (m : ManifestData) (
     → IsSafe d (record { disk = new; manifest = m; places = places; segment = record { file = file; gate = gate; next = gate }; mark = mark; pending = None; written = false; jobs = no_jobs; down = false })
 opened_safe d old new m places mark gate file is few synced faults = record { file = is; few = few; written = λ e. absurd (cc e); jobs = tt; apart = tt; room_for = tt; room = omega (arith, synced.count, faults) }
 
-module _ {D : Type 0} (d : Ghosts D) (old new : D) (m : ManifestData) (rows : Map) (mark gate file : ℕ) (loaded : IsLoaded FIRST_FORMAT (d.content old) m rows mark gate) (places : PlaceTable) (have : HavePlaces FIRST_FORMAT (d.content old) m.pairs places.at) (synced : HasSynced d (IsUsed m) 1024 old new) (is : IsLastFile m file) (few : d.fault_count old < MAX_FAULTS) where
+module _ {D : Type 0} (d : Ghosts D) (old new : D) (m : ManifestData) (rows : Map) (mark gate file : ℕ) (loaded : IsLoaded (d.content old) m rows mark gate) (places : PlaceTable) (have : HavePlaces m.version (d.content old) m.pairs places.at) (synced : HasSynced d (IsUsed m) 1024 old new) (is : IsLastFile m file) (few : d.fault_count old < MAX_FAULTS) where
   abbrev pub opened_store : StoreData D
   opened_store = record {
     disk = new;
@@ -134,12 +133,11 @@ module _ {D : Type 0} (d : Ghosts D) (old new : D) (m : ManifestData) (rows : Ma
     down = false;
   }
 
-  settled_opened : IsSettled FIRST_FORMAT (d.content new) (d.may_leave new) m (parts_loaded FIRST_FORMAT (d.content old) m rows mark gate loaded)
+  settled_opened : IsSettled (d.content new) (d.may_leave new) m (parts_loaded (d.content old) m rows mark gate loaded)
   settled_opened =
-      let was = installed_loaded FIRST_FORMAT (d.content old) m rows mark gate loaded in
+      let was = installed_loaded (d.content old) m rows mark gate loaded in
       record {
-        known = first_known;
-        installed = installed_framed FIRST_FORMAT (d.content old) (d.content new) m (parts_loaded FIRST_FORMAT (d.content old) m rows mark gate loaded) (λ n _. synced.content n) was;
+        installed = installed_framed (d.content old) (d.content new) m (parts_loaded (d.content old) m rows mark gate loaded) (λ n _. synced.content n) was;
         durable = λ n used. synced.durable n (used_below m was.own.is n used) used;
       }
 
@@ -148,7 +146,7 @@ module _ {D : Type 0} (d : Ghosts D) (old new : D) (m : ManifestData) (rows : Ma
       let log = loaded.log.last in
       let rows_are = loaded.log.rows_are ∙ ap (after_groups (rows_of loaded.lives)) log.all in
       let are = have.are loaded.lives loaded.live in
-      search (rules, arith, settled_opened, log.upto, log.stands, log.few, synced.count)
+      search (rules, arith, settled_opened, log.mark_is, log.stands, log.few, synced.count)
 
   pub opened_keeps : HasSlots (d.content old) → KeepsRows d opened_store rows
   opened_keeps slots = up_keeps d opened_store rows opened_up (slots_as (d.content old) (d.content new) (synced.content 0) (synced.content 1) slots)
@@ -156,10 +154,10 @@ module _ {D : Type 0} (d : Ghosts D) (old new : D) (m : ManifestData) (rows : Ma
 -- slot 1 is shut, then file 2 fresh, then slot 0 open
 module _ (shut fresh new : Image) (may_shut may_fresh may_new : ℕ → List ℕ → Type 0) (second : OthersStay 2 shut fresh may_shut may_fresh) (third : OthersStay 0 fresh new may_fresh may_new) where
   pub written_settled : IsShut (shut 1) → Only (shut 1) (may_shut 1) → fresh 2 ≡ header MAGIC VERSION ++ 0 ∷ [] → Only (fresh 2) (may_fresh 2) → IsOpen 0 (first_manifest VERSION 0 2) (new 0) → Only (new 0) (may_new 0)
-      → IsSettled FIRST_FORMAT new may_new (first_manifest VERSION 0 2) no_parts
+      → IsSettled new may_new (first_manifest VERSION 0 2) no_parts
   written_settled is_shut shut_only bytes fresh_only is_open open_only =
-      first_settled FIRST_FORMAT first_known new may_new 0 2 is_open (subst IsShut (sym same_second) is_shut)
-      (record { frames = λ mark. fresh_frames VERSION mark (new 2) (third.content 2 (λ e. omega (arith, e)) ∙ bytes); durable = only_stays FIRST_FORMAT fresh new may_fresh may_new 0 third 2 (λ e. omega (arith, e)) fresh_only })
+      first_settled FIRST_FORMAT first_known (omega arith) new may_new 0 2 is_open (subst IsShut (sym same_second) is_shut)
+      (record { frames = λ mark. fresh_frames VERSION mark (new 2) (third.content 2 (λ e. omega (arith, e)) ∙ bytes); durable = only_stays fresh new may_fresh may_new 0 third 2 (λ e. omega (arith, e)) fresh_only })
       slots
     where
       same_second : new 1 ≡ shut 1
@@ -167,7 +165,7 @@ module _ (shut fresh new : Image) (may_shut may_fresh may_new : ℕ → List ℕ
 
       slots : (slot : ℕ) → slot < 2 → Only (new slot) (may_new slot)
       slots zero lt = open_only
-      slots (suc zero) lt = only_stays FIRST_FORMAT fresh new may_fresh may_new 0 third 1 (λ e. omega (arith, e)) (only_stays FIRST_FORMAT shut fresh may_shut may_fresh 2 second 1 (λ e. omega (arith, e)) shut_only)
+      slots (suc zero) lt = only_stays fresh new may_fresh may_new 0 third 1 (λ e. omega (arith, e)) (only_stays shut fresh may_shut may_fresh 2 second 1 (λ e. omega (arith, e)) shut_only)
       slots (suc (suc n)) lt = absurd (omega (arith, lt))
 
 pub none_stands : (faults : ℕ) (content : Image) → faults < MAX_FAULTS → has_open_slot content ≡ false → why_not_format faults content ≡ None
@@ -175,10 +173,10 @@ none_stands faults content few shut =
     ap (λ (b : Bool). or_next (when b ClockSpent) (or_next (when (has_open_slot content) AlreadyFormatted) None)) (lt-leb MAX_FAULTS faults few) ∙ ap (λ (b : Bool). or_next (when b AlreadyFormatted) None) shut
 
 module _ {D : Type 0} (d : Ghosts D) (old new : D) where
-  pub is_formatted : why_not_format (d.fault_count old) (d.content old) ≡ None → ((n : ℕ) → d.may_leave new n (d.content new n)) → IsSettled FIRST_FORMAT (d.content new) (d.may_leave new) (first_manifest VERSION 0 2) no_parts → HasSlots (d.content new)
+  pub is_formatted : why_not_format (d.fault_count old) (d.content old) ≡ None → ((n : ℕ) → d.may_leave new n (d.content new n)) → IsSettled (d.content new) (d.may_leave new) (first_manifest VERSION 0 2) no_parts → HasSlots (d.content new)
       → IsFormatted d old new
   is_formatted free stays settled slots =
-      let gives : (image : Image) → AllOf (d.may_leave new) image → Gives map.empty 0 image = settled_gives FIRST_FORMAT (d.content new) (d.may_leave new) (first_manifest VERSION 0 2) no_parts settled in
+      let gives : (image : Image) → AllOf (d.may_leave new) image → Gives map.empty 0 image = settled_gives (d.content new) (d.may_leave new) (first_manifest VERSION 0 2) no_parts settled in
       let images : (image : Image) → AllOf (d.may_leave new) image → MayBeLeft map.empty 0 None image = λ image all. record { slots = settled_slots d new (first_manifest VERSION 0 2) no_parts settled slots image all; gives = gives image all } in
       let now = gives (d.content new) stays in
       search

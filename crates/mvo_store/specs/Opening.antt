@@ -4,7 +4,6 @@ use Rattle.mvo_types.specs.declared.refusal.Refusal.{Refusal}
 use Rattle.mvo_types.specs.declared.refusal.Refusal.TheVariants.{ClockSpent}
 use Rattle.mvo_disk.specs.declared.disk.Disk.{Ghosts}
 use Rattle.mvo_disk.specs.Disk.{Image, Only, AllOf, LeavesOnly, IsHonest}
-use Rattle.mvo_format.specs.declared.format.TheConstants.{FIRST_FORMAT}
 use Rattle.mvo_pair.specs.Answers.{IsOnly}
 use Rattle.mvo_pair.specs.Writing.{IsStop, CountsFaults}
 use Rattle.mvo_recovery.specs.image.Opens.{OpeningOutcome}
@@ -33,7 +32,7 @@ pub record HasSynced {D : Type 0} (d : Ghosts D) (used : ℕ → Type 0) (below 
 
 -- this is the one answer of opening what a disk holds
 abbrev pub IsAnswer : Image → OpeningOutcome → Type 0
-IsAnswer content out = IsOnly (OpensAs FIRST_FORMAT content) out
+IsAnswer content out = IsOnly (OpensAs content) out
 
 -- nothing happened since the opening at this mark
 pub record HasBegun {D : Type 0} (d : Ghosts D) (old : D) (s : StoreData D) (mark : ℕ) : Type 0

@@ -151,7 +151,7 @@ pub record IsUp {D : Type 0} (d : Ghosts D) (s : StoreData D) (rows : Map) : Typ
   pub up : s.down ≡ false
   pub parts : Parts
   pub settled :
-      IsSettled FIRST_FORMAT (d.content s.disk) (d.may_leave s.disk) s.manifest parts
+      IsSettled (d.content s.disk) (d.may_leave s.disk) s.manifest parts
   pub rows_are : rows ≡ rows_of_parts parts
   pub mark_is : s.mark ≡ mark_of_parts parts
   pub last : IsLastFile s.manifest s.segment.file
@@ -168,12 +168,12 @@ pub record IsUp {D : Type 0} (d : Ghosts D) (s : StoreData D) (rows : Map) : Typ
 
 -- the image is well formed, and gives these rows and this mark
 abbrev pub Gives : Map → ℕ → Image → Type 0
-Gives rows mark image = GivesRows FIRST_FORMAT image rows mark
+Gives rows mark image = GivesRows image rows mark
 
 -- these, or those after the group that is being opened
 abbrev pub GivesOr : Map → ℕ → Option GroupData → Image → Type 0
 GivesOr rows mark None image = Gives rows mark image
-GivesOr rows mark (Some g) image = GivesWithOrWithout FIRST_FORMAT rows mark g image
+GivesOr rows mark (Some g) image = GivesWithOrWithout rows mark g image
 
 -- each slot has a gate: only a disk that isn't formatted has an empty one
 pub record HasSlots (content : Image) : Type 0 where

@@ -1,7 +1,6 @@
 //! Opens a store over what is on its disk.
 ghost use Rattle.std.specs.Prelude.{◌≡◌, ◌<◌, ◌≤◌, Ok, OnOk, IfOk, IfErr};
 ghost use Rattle.mvo_disk.specs.Disk.{IsHonest};
-ghost use Rattle.mvo_format.specs.declared.format.TheConstants.{FIRST_FORMAT};
 ghost use Rattle.mvo_types.specs.declared.limits.TheConstants.{MAX_SEGMENT_LEN, MAX_STAMP};
 ghost use Rattle.mvo_manifest.specs.Rules.{IsFile};
 ghost use Rattle.mvo_recovery.specs.Parts.{IsLastFile};
@@ -18,7 +17,6 @@ use crate::limits::MAX_FAULTS;
 use crate::store::Store;
 use crate::syncing::sync_used;
 use mvo_disk::Disk;
-use mvo_format::FIRST_FORMAT;
 use mvo_frame::Segment;
 use mvo_load::{Loaded, load};
 use mvo_manifest::Manifest;
@@ -42,9 +40,9 @@ fn load_synced<D: Disk>(
     seed: u64,
     disk: &mut D,
 ) -> Result<Loaded, Refusal>
-    ensures loaded { IsHonest (D.moment disk.new) → IfOk result (λ l. IsLoaded FIRST_FORMAT
+    ensures loaded { IsHonest (D.moment disk.new) → IfOk result (λ l. IsLoaded
         (D.content disk.old) l.manifest l.rows l.mark.0 l.gate) }
-    ensures places { IsHonest (D.moment disk.new) → IfOk result (λ l. HavePlaces FIRST_FORMAT
+    ensures places { IsHonest (D.moment disk.new) → IfOk result (λ l. HavePlaces l.manifest.version
         (D.content disk.old) l.manifest.pairs l.places.at) }
     ensures answer { IsHonest (D.moment disk.new) → IfOk result (λ l.
         IsAnswer (D.content disk.old) (Ok (l.rows, l.mark.0))) }
@@ -60,7 +58,7 @@ fn load_synced<D: Disk>(
     if disk.faults() >= MAX_FAULTS {
         return Err(Refusal::ClockSpent);
     }
-    let loaded = match load(rt, alloc, disk, FIRST_FORMAT, seed) {
+    let loaded = match load(rt, alloc, disk, seed) {
         Ok(loaded) => loaded,
         Err(refusal) => return Err(refusal),
     };

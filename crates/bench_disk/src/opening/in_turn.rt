@@ -51,7 +51,7 @@ fn live_of(alloc: Global, disk: &mut MemDisk, pair: Pair) -> Result<Vec<Live>> {
     if pair.data_file >= 1000 || pair.delta_file >= 1000 || disk.faults() != 0 {
         bail!("files of a disk without a fault");
     }
-    match pair_on(alloc, disk, FIRST_FORMAT, pair) {
+    match pair_on(alloc, disk, FIRST_FORMAT.version, pair) {
         Ok(live) => Ok(live),
         Err(refusal) => bail!("a pair isn't read: {refusal}"),
     }

@@ -1,7 +1,6 @@
 //! Images of a disk, as bytes in hexadecimal digits, and what is found out of them.
 use crate::equal::same;
 use mvo_disk::{Disk, FILE_COUNT, MemDisk, rewrite_synced};
-use mvo_format::FIRST_FORMAT;
 use mvo_load::{Loaded, load};
 use mvo_places::Places;
 use mvo_types::{Refusal, Row, RowKey, Rows};
@@ -102,7 +101,7 @@ fn placed_on(
     if disk.faults() > 0 {
         return Err(Fail::from("a fault"));
     }
-    match load(rt, alloc, disk, FIRST_FORMAT, 7) {
+    match load(rt, alloc, disk, 7) {
         Ok(loaded) => place(alloc, &loaded.places),
         Err(refusal) => refused(alloc, refusal),
     }
@@ -123,7 +122,7 @@ fn found_on(rt: &(impl Threads + Sync), alloc: Global, disk: &mut MemDisk) -> Re
     if disk.faults() > 0 {
         return Err(Fail::from("a fault"));
     }
-    match load(rt, alloc, disk, FIRST_FORMAT, 7) {
+    match load(rt, alloc, disk, 7) {
         Ok(loaded) => line_of(alloc, &loaded),
         Err(refusal) => refused(alloc, refusal),
     }

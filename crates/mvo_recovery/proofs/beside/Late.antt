@@ -18,18 +18,18 @@ use Rattle.mvo_recovery.specs.beside.Seen.{grown, Loads}
 use Rattle.mvo_recovery.proofs.beside.Entries.{entries_once}
 use Rattle.mvo_recovery.proofs.beside.Numbers.{first_are, more_are, first_stay}
 
-module _ (f : Format) (content : Image) (p : Pair) (more : ℕ) (seen now : List Numbered) (few : p.records ≤ MAX_PAIR_RECORDS) (was : Loads f content p seen) (is : Loads f content (grown more p) now) where
-  abbrev old : HasLoaded f p (content p.data_file) (content p.delta_file) seen
-  old = loaded f p (content p.data_file) (content p.delta_file) seen was
+module _ (upto : ℕ) (content : Image) (p : Pair) (more : ℕ) (seen now : List Numbered) (few : p.records ≤ MAX_PAIR_RECORDS) (was : Loads upto content p seen) (is : Loads upto content (grown more p) now) where
+  abbrev old : HasLoaded upto p (content p.data_file) (content p.delta_file) seen
+  old = loaded upto p (content p.data_file) (content p.delta_file) seen was
 
-  abbrev new : HasLoaded f (grown more p) (content p.data_file) (content p.delta_file) now
-  new = loaded f (grown more p) (content p.data_file) (content p.delta_file) now is
+  abbrev new : HasLoaded upto (grown more p) (content p.data_file) (content p.delta_file) now
+  new = loaded upto (grown more p) (content p.data_file) (content p.delta_file) now is
 
   -- both are of one version
   same_own : new.own ≡ old.own
   same_own =
-      format_once f.version f.version new.own old.own new.known old.known
-      (version_once new.own.version old.own.version p.records (p.entries + more) p.entries p.records new.ns old.ns (content p.delta_file) (known_word f.version new.own new.known) (known_word f.version old.own old.known) new.numbers old.numbers)
+      format_once upto upto new.own old.own new.known old.known
+      (version_once new.own.version old.own.version p.records (p.entries + more) p.entries p.records new.ns old.ns (content p.delta_file) (known_word upto new.own new.known) (known_word upto old.own old.known) new.numbers old.numbers)
 
   new_entries : HasEntries old.own p.lo.0 p.hi.0 p.records new.es (content p.data_file)
   new_entries = subst (λ (g : Format). HasEntries g p.lo.0 p.hi.0 p.records new.es (content p.data_file)) same_own new.entries
@@ -37,17 +37,17 @@ module _ (f : Format) (content : Image) (p : Pair) (more : ℕ) (seen now : List
   new_numbers : HasDeadNumbers old.own.version p.records (p.entries + more) new.ns (content p.delta_file)
   new_numbers = subst (λ (g : Format). HasDeadNumbers g.version p.records (p.entries + more) new.ns (content p.delta_file)) same_own new.numbers
 
-  module _ (own : Format) (known : IsFormatUpTo f.version own) (top : p.hi.0 < 2 ^ 64) (ns : List ℕ) (has : HasDeadNumbers own.version p.records (p.entries + more) ns (content p.delta_file)) where
+  module _ (own : Format) (known : IsFormatUpTo upto own) (top : p.hi.0 < 2 ^ 64) (ns : List ℕ) (has : HasDeadNumbers own.version p.records (p.entries + more) ns (content p.delta_file)) where
     abbrev late : List ℕ
     late = drop p.entries ns
 
     has_own : HasDeadNumbers old.own.version p.records (p.entries + more) ns (content p.delta_file)
     has_own =
         subst (λ k. HasDeadNumbers k p.records (p.entries + more) ns (content p.delta_file))
-        (version_once own.version old.own.version p.records (p.entries + more) p.entries p.records ns old.ns (content p.delta_file) (known_word f.version own known) (known_word f.version old.own old.known) has old.numbers) has
+        (version_once own.version old.own.version p.records (p.entries + more) p.entries p.records ns old.ns (content p.delta_file) (known_word upto own known) (known_word upto old.own old.known) has old.numbers) has
 
     same_entries : new.es ≡ old.es
-    same_entries = entries_once old.own p.lo.0 p.hi.0 p.records new.es old.es (content p.data_file) (known_fits f.version old.own old.known) top new_entries old.entries
+    same_entries = entries_once old.own p.lo.0 p.hi.0 p.records new.es old.es (content p.data_file) (known_fits upto old.own old.known) top new_entries old.entries
 
     same_numbers : new.ns ≡ old.ns ++ late
     same_numbers =
@@ -72,9 +72,9 @@ module _ (f : Format) (content : Image) (p : Pair) (more : ℕ) (seen now : List
 
   -- where the counted numbers and the data file stay, what was seen loads again
   pub seen_again : (later : Image) → later p.data_file ≡ content p.data_file
-      → ((own : Format) → IsFormatUpTo f.version own → (ns : List ℕ) → HasDeadNumbers own.version p.records (p.entries + more) ns (content p.delta_file) → HasDeadNumbers own.version p.records (p.entries + more) ns (later p.delta_file))
-      → Loads f later p seen
-  seen_again later same stays = loads f p (later p.data_file) (later p.delta_file) seen (record {
+      → ((own : Format) → IsFormatUpTo upto own → (ns : List ℕ) → HasDeadNumbers own.version p.records (p.entries + more) ns (content p.delta_file) → HasDeadNumbers own.version p.records (p.entries + more) ns (later p.delta_file))
+      → Loads upto later p seen
+  seen_again later same stays = loads upto p (later p.data_file) (later p.delta_file) seen (record {
     own = old.own;
     known = old.known;
     es = old.es;

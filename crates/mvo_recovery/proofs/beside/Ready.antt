@@ -6,6 +6,7 @@ use Rattle.std.proofs.lemmas.List.{length-map}
 use Rattle.mvo_types.specs.Keys.{Map}
 use Rattle.mvo_disk.specs.Disk.{Only}
 use Rattle.mvo_format.specs.declared.format.Format.{Format}
+use Rattle.mvo_format.specs.Formats.{IsFormatUpTo}
 use Rattle.mvo_pair.specs.declared.pair.Pair.{Pair}
 use Rattle.mvo_pair.specs.Data.{Numbered, AreApart}
 use Rattle.mvo_pair.specs.Files.{HasEntries}
@@ -33,23 +34,23 @@ use Rattle.mvo_recovery.proofs.beside.Two.{HaveTwo, have_one, lives_at, two_rule
 use Rattle.mvo_recovery.proofs.beside.Seen.{left_now, right_now, two_now}
 
 pub finds_late : (content : Image) → FindsLate content
-finds_late content f own p more seen now ns known top few was is has = (
-  are_late f content p more seen now few was is own known top ns has,
-  others_live f content p more seen now few was is own known top ns has,
-  late_counted f content p more seen now few was is own known top ns has,
+finds_late content upto own p more seen now ns known top few was is has = (
+  are_late upto content p more seen now few was is own known top ns has,
+  others_live upto content p more seen now few was is own known top ns has,
+  late_counted upto content p more seen now few was is own known top ns has,
 )
 
 -- ---- what came late
 
-module _ (f : Format) (content : Image) (m : ManifestData) (lives : List (List Numbered)) (s : SeenData) (is : IsManifest m) (have : HaveLive f content m.pairs lives) (seen : WasSeen f content m s) (now : NumbersNow f content m s seen) where
+module _ (content : Image) (m : ManifestData) (lives : List (List Numbered)) (s : SeenData) (is : IsManifest m) (have : HaveLive m.version content m.pairs lives) (seen : WasSeen content m s) (now : NumbersNow content m s seen) where
   abbrev p : Pair
-  p = left_now f content m s seen
+  p = left_now content m s seen
 
   abbrev q : Pair
-  q = right_now f content m s seen
+  q = right_now content m s seen
 
-  abbrev two : HaveTwo f content seen.before p q lives
-  two = two_now f content m s seen lives have
+  abbrev two : HaveTwo m.version content seen.before p q lives
+  two = two_now content m s seen lives have
 
   rules : IsPair p.lo.0 p × IsPair p.hi.0 q
   rules = two_rules 0 m.checkpoint_mark seen.before seen.behind p q (subst (λ (ps : List Pair). PairsRise 0 ps m.checkpoint_mark) seen.pairs is.rules.rise)
@@ -67,10 +68,10 @@ module _ (f : Format) (content : Image) (m : ManifestData) (lives : List (List N
   late_right = drop s.right.entries now.right
 
   pub are_left : AreLate s.live_left late_left
-  are_left = are_late f content s.left seen.more_left s.live_left two.left rules.0.records seen.left two.left_has now.left_own now.left_known left_top now.left now.left_has
+  are_left = are_late m.version content s.left seen.more_left s.live_left two.left rules.0.records seen.left two.left_has now.left_own now.left_known left_top now.left now.left_has
 
   pub are_right : AreLate s.live_right late_right
-  are_right = are_late f content s.right seen.more_right s.live_right two.right rules.1.records seen.right two.right_has now.right_own now.right_known right_top now.right now.right_has
+  are_right = are_late m.version content s.right seen.more_right s.live_right two.right rules.1.records seen.right two.right_has now.right_own now.right_known right_top now.right now.right_has
 
   abbrev live : List Numbered
   live = live_after s.live_left s.live_right late_left late_right
@@ -81,8 +82,8 @@ module _ (f : Format) (content : Image) (m : ManifestData) (lives : List (List N
   lives_are : lives ≡ old_lives
   lives_are =
       two.are
-      ∙ ap (λ (l : List Numbered). two.front ++ l ∷ two.right ∷ two.back) (others_live f content s.left seen.more_left s.live_left two.left rules.0.records seen.left two.left_has now.left_own now.left_known left_top now.left now.left_has)
-      ∙ ap (λ (r : List Numbered). two.front ++ without late_left s.live_left ∷ r ∷ two.back) (others_live f content s.right seen.more_right s.live_right two.right rules.1.records seen.right two.right_has now.right_own now.right_known right_top now.right now.right_has)
+      ∙ ap (λ (l : List Numbered). two.front ++ l ∷ two.right ∷ two.back) (others_live m.version content s.left seen.more_left s.live_left two.left rules.0.records seen.left two.left_has now.left_own now.left_known left_top now.left now.left_has)
+      ∙ ap (λ (r : List Numbered). two.front ++ without late_left s.live_left ∷ r ∷ two.back) (others_live m.version content s.right seen.more_right s.live_right two.right rules.1.records seen.right two.right_has now.right_own now.right_known right_top now.right now.right_has)
 
   new_lives : lives_now s live lives ≡ two.front ++ live ∷ two.back
   new_lives = lives_at s live lives two.front two.back two.left two.right two.are (sym two.each ∙ seen.at)
@@ -97,10 +98,10 @@ module _ (f : Format) (content : Image) (m : ManifestData) (lives : List (List N
   pub few_late : length (renumbered (renumbering_of s.live_left s.live_right) late_left late_right) < 2 ^ 32
   few_late =
       let r = renumbering_of s.live_left s.live_right in
-      let left_counts = counts_live f.version p (content p.data_file) (content p.delta_file) two.left two.left_has in
-      let right_counts = counts_live f.version q (content q.data_file) (content q.delta_file) two.right two.right_has in
-      let left_more = late_counted f content s.left seen.more_left s.live_left two.left rules.0.records seen.left two.left_has now.left_own now.left_known left_top now.left now.left_has in
-      let right_more = late_counted f content s.right seen.more_right s.live_right two.right rules.1.records seen.right two.right_has now.right_own now.right_known right_top now.right now.right_has in
+      let left_counts = counts_live m.version p (content p.data_file) (content p.delta_file) two.left two.left_has in
+      let right_counts = counts_live m.version q (content q.data_file) (content q.delta_file) two.right two.right_has in
+      let left_more = late_counted m.version content s.left seen.more_left s.live_left two.left rules.0.records seen.left two.left_has now.left_own now.left_known left_top now.left now.left_has in
+      let right_more = late_counted m.version content s.right seen.more_right s.live_right two.right rules.1.records seen.right two.right_has now.right_own now.right_known right_top now.right now.right_has in
       omega (arith, length-append (map (of_left r) late_left) (map (of_right r) late_right), length-map late_left (of_left r), length-map late_right (of_right r), left_counts, right_counts, left_more, right_more, rules.0.records, rules.1.records)
 
   module _ (pair : Pair) where
@@ -158,8 +159,8 @@ module _ (f : Format) (content : Image) (m : ManifestData) (lives : List (List N
 
 -- ---- one pair for the two
 
-module _ (f : Format) (content : Image) (may : ℕ → List ℕ → Type 0) (m : ManifestData) (x : Parts) (s : SeenData) (pair : Pair) (settled : IsSettled f content may m x) (seen : WasSeen f content m s) (now : NumbersNow f content m s seen) where
-  abbrev parts : HasParts f content m x
+module _ (content : Image) (may : ℕ → List ℕ → Type 0) (m : ManifestData) (x : Parts) (s : SeenData) (pair : Pair) (settled : IsSettled content may m x) (seen : WasSeen content m s) (now : NumbersNow content m s seen) where
+  abbrev parts : HasParts content m x
   parts = settled.installed.parts
 
   abbrev is_manifest : IsManifest m
@@ -169,27 +170,27 @@ module _ (f : Format) (content : Image) (may : ℕ → List ℕ → Type 0) (m :
   lates = renumbered (renumbering_of s.live_left s.live_right) (drop s.left.entries now.left) (drop s.right.entries now.right)
 
   abbrev joined : List Numbered
-  joined = live f content m x.lives s is_manifest parts.live seen now
+  joined = live content m x.lives s is_manifest parts.live seen now
 
   abbrev y : Parts
   y = parts_now s joined x
 
-  abbrev twice : HaveTwo f content seen.before (left_now f content m s seen) (right_now f content m s seen) x.lives
-  twice = two_now f content m s seen x.lives parts.live
+  abbrev twice : HaveTwo m.version content seen.before (left_now content m s seen) (right_now content m s seen) x.lives
+  twice = two_now content m s seen x.lives parts.live
 
-  module _ (may_merge : MayMergeNow m s pair (records_of s.live_left s.live_right) (length lates)) (data_file : HasRecords f content may pair (records_of s.live_left s.live_right)) (delta_file : HasLate f content may pair lates) where
-    pair_loads : Loads f content pair joined
+  module _ (may_merge : MayMergeNow m s pair (records_of s.live_left s.live_right) (length lates)) (f : Format) (known : IsFormatUpTo m.version f) (data_file : HasRecords f content may pair (records_of s.live_left s.live_right)) (delta_file : HasLate f content may pair lates) where
+    pair_loads : Loads m.version content pair joined
     pair_loads =
-        loads_merged f.version f pair s.live_left s.live_right (drop s.left.entries now.left) (drop s.right.entries now.right) (content pair.data_file) (content pair.delta_file) settled.known
+        loads_merged m.version f pair s.live_left s.live_right (drop s.left.entries now.left) (drop s.right.entries now.right) (content pair.data_file) (content pair.delta_file) known
         (subst (λ k. HasEntries f pair.lo.0 pair.hi.0 k (records_of s.live_left s.live_right) (content pair.data_file)) (sym may_merge.counted) data_file.has) delta_file.has
 
-    live_now : HaveLive f content (seen.before ++ pair ∷ seen.behind) y.lives
+    live_now : HaveLive m.version content (seen.before ++ pair ∷ seen.behind) y.lives
     live_now =
-        subst (λ (ls : List (List Numbered)). HaveLive f content (seen.before ++ pair ∷ seen.behind) ls) (sym (new_lives f content m x.lives s is_manifest parts.live seen now))
-        (have_one f content seen.before seen.behind (left_now f content m s seen) (right_now f content m s seen) pair twice.front twice.back twice.left twice.right joined twice.each
-        (subst (λ (ls : List (List Numbered)). HaveLive f content (seen.before ++ left_now f content m s seen ∷ right_now f content m s seen ∷ seen.behind) ls) twice.are (subst (λ (ps : List Pair). HaveLive f content ps x.lives) seen.pairs parts.live)) pair_loads)
+        subst (λ (ls : List (List Numbered)). HaveLive m.version content (seen.before ++ pair ∷ seen.behind) ls) (sym (new_lives content m x.lives s is_manifest parts.live seen now))
+        (have_one m.version content seen.before seen.behind (left_now content m s seen) (right_now content m s seen) pair twice.front twice.back twice.left twice.right joined twice.each
+        (subst (λ (ls : List (List Numbered)). HaveLive m.version content (seen.before ++ left_now content m s seen ∷ right_now content m s seen ∷ seen.behind) ls) twice.are (subst (λ (ps : List Pair). HaveLive m.version content ps x.lives) seen.pairs parts.live)) pair_loads)
 
-    pub ready_now : IsReady f content may (merged_manifest m (pairs_now seen pair)) y
+    pub ready_now : IsReady content may (merged_manifest m (pairs_now seen pair)) y
     ready_now = record {
       parts = record {
         version = parts.version;
@@ -197,7 +198,7 @@ module _ (f : Format) (content : Image) (may : ℕ → List ℕ → Type 0) (m :
         last_file = parts.last_file;
         segments = parts.segments;
         live = live_now;
-        distinct = apart_now f content m x.lives s is_manifest parts.live seen now parts.distinct;
+        distinct = apart_now content m x.lives s is_manifest parts.live seen now parts.distinct;
         sealed = parts.sealed;
         last = parts.last;
       };
@@ -206,6 +207,6 @@ module _ (f : Format) (content : Image) (may : ℕ → List ℕ → Type 0) (m :
 
     pub same_now : MakeUpSame x y
     same_now = record {
-      rows = ap (λ (r : Map). after_groups r (x.sealed ++ x.last)) (same_rows f content m x.lives s is_manifest parts.live seen now);
+      rows = ap (λ (r : Map). after_groups r (x.sealed ++ x.last)) (same_rows content m x.lives s is_manifest parts.live seen now);
       mark = refl;
     }

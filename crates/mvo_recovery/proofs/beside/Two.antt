@@ -4,33 +4,31 @@ use Rattle.std.specs.Prelude.{All}
 use Rattle.std.specs.List.{Contains}
 use Rattle.std.proofs.lemmas.List.{take_at, drop_at}
 use Rattle.std.proofs.lemmas.List.Elements.{Contains-append_right}
-use Rattle.mvo_format.specs.declared.format.Format.{Format}
 use Rattle.mvo_pair.specs.declared.pair.Pair.{Pair}
 use Rattle.mvo_pair.specs.Data.{Numbered}
 use Rattle.mvo_manifest.specs.Rules.{IsPair, PairsRise}
 use Rattle.mvo_recovery.specs.image.Opens.{Image}
 use Rattle.mvo_recovery.specs.image.Gives.{HaveLive}
 use Rattle.mvo_recovery.specs.beside.Seen.{SeenData, Loads, lives_now}
-use Rattle.mvo_recovery.proofs.Merged.{rise_merged}
 
 -- these are the live records of the two, and of those before and behind them
-pub record HaveTwo (f : Format) (content : Image) (before : List Pair) (p q : Pair) (all : List (List Numbered)) : Type 0 where
+pub record HaveTwo (upto : ℕ) (content : Image) (before : List Pair) (p q : Pair) (all : List (List Numbered)) : Type 0 where
   pub front : List (List Numbered)
   pub left : List Numbered
   pub right : List Numbered
   pub back : List (List Numbered)
   pub are : all ≡ front ++ left ∷ right ∷ back
   pub each : length before ≡ length front
-  pub left_has : Loads f content p left
-  pub right_has : Loads f content q right
+  pub left_has : Loads upto content p left
+  pub right_has : Loads upto content q right
 
-pub have_two : (f : Format) (content : Image) (before : List Pair) (p q : Pair) (behind : List Pair) (all : List (List Numbered)) → HaveLive f content (before ++ p ∷ q ∷ behind) all → HaveTwo f content before p q all
-have_two f content [] p q behind [] have = absurd have
-have_two f content [] p q behind (l ∷ []) have = absurd have.1
-have_two f content [] p q behind (l ∷ (r ∷ ls)) have = record { front = []; left = l; right = r; back = ls; are = refl; each = refl; left_has = have.0; right_has = have.1.0 }
-have_two f content (b ∷ before) p q behind [] have = absurd have
-have_two f content (b ∷ before) p q behind (l ∷ ls) have =
-    let more = have_two f content before p q behind ls have.1 in
+pub have_two : (upto : ℕ) (content : Image) (before : List Pair) (p q : Pair) (behind : List Pair) (all : List (List Numbered)) → HaveLive upto content (before ++ p ∷ q ∷ behind) all → HaveTwo upto content before p q all
+have_two upto content [] p q behind [] have = absurd have
+have_two upto content [] p q behind (l ∷ []) have = absurd have.1
+have_two upto content [] p q behind (l ∷ (r ∷ ls)) have = record { front = []; left = l; right = r; back = ls; are = refl; each = refl; left_has = have.0; right_has = have.1.0 }
+have_two upto content (b ∷ before) p q behind [] have = absurd have
+have_two upto content (b ∷ before) p q behind (l ∷ ls) have =
+    let more = have_two upto content before p q behind ls have.1 in
     record {
       front = l ∷ more.front;
       left = more.left;
@@ -43,12 +41,12 @@ have_two f content (b ∷ before) p q behind (l ∷ ls) have =
     }
 
 -- with one pair in the place of the two
-pub have_one : (f : Format) (content : Image) (before behind : List Pair) (p q r : Pair) (front back : List (List Numbered)) (left right live : List Numbered) → length before ≡ length front → HaveLive f content (before ++ p ∷ q ∷ behind) (front ++ left ∷ right ∷ back) → Loads f content r live
-    → HaveLive f content (before ++ r ∷ behind) (front ++ live ∷ back)
-have_one f content [] behind p q r [] back left right live each have one = (one, have.1.1)
-have_one f content [] behind p q r (l ∷ front) back left right live each have one = absurd (omega (arith, each))
-have_one f content (b ∷ before) behind p q r [] back left right live each have one = absurd (omega (arith, each))
-have_one f content (b ∷ before) behind p q r (l ∷ front) back left right live each have one = (have.0, have_one f content before behind p q r front back left right live (omega (arith, each)) have.1 one)
+pub have_one : (upto : ℕ) (content : Image) (before behind : List Pair) (p q r : Pair) (front back : List (List Numbered)) (left right live : List Numbered) → length before ≡ length front → HaveLive upto content (before ++ p ∷ q ∷ behind) (front ++ left ∷ right ∷ back) → Loads upto content r live
+    → HaveLive upto content (before ++ r ∷ behind) (front ++ live ∷ back)
+have_one upto content [] behind p q r [] back left right live each have one = (one, have.1.1)
+have_one upto content [] behind p q r (l ∷ front) back left right live each have one = absurd (omega (arith, each))
+have_one upto content (b ∷ before) behind p q r [] back left right live each have one = absurd (omega (arith, each))
+have_one upto content (b ∷ before) behind p q r (l ∷ front) back left right live each have one = (have.0, have_one upto content before behind p q r front back left right live (omega (arith, each)) have.1 one)
 
 -- by their place among all
 pub lives_at : (s : SeenData) (live : List Numbered) (all front back : List (List Numbered)) (left right : List Numbered) → all ≡ front ++ left ∷ right ∷ back → length front ≡ s.place → lives_now s live all ≡ front ++ live ∷ back

@@ -10,7 +10,6 @@ use Rattle.mvo_group.specs.Data.{GroupData}
 use Rattle.mvo_pair.specs.Data.{Numbered, AreApart, keys_of}
 use Rattle.mvo_pair.specs.Answers.{IsOnly}
 use Rattle.mvo_pair.specs.Loading.{LoadsAs}
-use Rattle.mvo_format.specs.declared.format.Format.{Format}
 use Rattle.mvo_pair.specs.declared.pair.Pair.{Pair}
 use Rattle.mvo_manifest.specs.Data.{ManifestData}
 use Rattle.mvo_manifest.specs.Slots.{newest}
@@ -40,41 +39,41 @@ beside_one file lives next n = ⊎_elim
     (λ (two : AreApart lives → ⊥). (Err (Corrupt file), (inr (two, refl), λ z h. ⊎_elim (λ (y : AreApart lives × next lives z). absurd (two y.0)) (λ (y : (AreApart lives → ⊥) × (z ≡ Err (Corrupt file))). y.1) h)))
     (distinct_or_not (eq_by_cmp key_cmp) (keys_of lives))
 
-module _ (f : Format) (image : Image) (next : List (List Numbered) → OpeningOutcome → Type 0) (rest : (lives : List (List Numbered)) → HasOne (next lives)) where
-  pub pairs_one : (ps : List Pair) (lives : List (List Numbered)) → AllByRecursion (λ p. HasOne (LoadsAs f.version p (image p.data_file) (image p.delta_file))) ps → HasOne (Pairs f image next ps lives)
+module _ (upto : ℕ) (image : Image) (next : List (List Numbered) → OpeningOutcome → Type 0) (rest : (lives : List (List Numbered)) → HasOne (next lives)) where
+  pub pairs_one : (ps : List Pair) (lives : List (List Numbered)) → AllByRecursion (λ p. HasOne (LoadsAs upto p (image p.data_file) (image p.delta_file))) ps → HasOne (Pairs upto image next ps lives)
   pairs_one [] lives one = rest lives
   pairs_one (p ∷ ps) lives one =
-      after_one (LoadsAs f.version p (image p.data_file) (image p.delta_file)) (λ live. Beside p.data_file (lives ++ live ∷ []) (Pairs f image next ps)) one.0
-      (λ live _. beside_one p.data_file (lives ++ live ∷ []) (Pairs f image next ps) (pairs_one ps (lives ++ live ∷ []) one.1))
+      after_one (LoadsAs upto p (image p.data_file) (image p.delta_file)) (λ live. Beside p.data_file (lives ++ live ∷ []) (Pairs upto image next ps)) one.0
+      (λ live _. beside_one p.data_file (lives ++ live ∷ []) (Pairs upto image next ps) (pairs_one ps (lives ++ live ∷ []) one.1))
 
-module _ (slots : SlotReading) (reads : SegmentReading) (f : Format) (image : Image) where
-  segments_one : ((n mark : ℕ) (last : Bool) → HasOne (reads n mark last (image n))) → (rows : Map) (ns : List ℕ) (mark : ℕ) (before : List GroupData) → HasOne (Segments reads image rows ns mark before)
-  segments_one one rows [] mark before = (Ok (after_groups rows before, mark), (refl, λ z h. h))
-  segments_one one rows (n ∷ ns) mark before =
-      after_one (reads n mark (is_empty_list ns) (image n)) (λ gs. Segments reads image rows ns (mark_after mark gs) (before ++ gs)) (one n mark (is_empty_list ns)) (λ gs _. segments_one one rows ns (mark_after mark gs) (before ++ gs))
+segments_one : (reads : SegmentReading) (image : Image) → ((n mark : ℕ) (last : Bool) → HasOne (reads n mark last (image n))) → (rows : Map) (ns : List ℕ) (mark : ℕ) (before : List GroupData) → HasOne (Segments reads image rows ns mark before)
+segments_one reads image one rows [] mark before = (Ok (after_groups rows before, mark), (refl, λ z h. h))
+segments_one reads image one rows (n ∷ ns) mark before =
+    after_one (reads n mark (is_empty_list ns) (image n)) (λ gs. Segments reads image rows ns (mark_after mark gs) (before ++ gs)) (one n mark (is_empty_list ns)) (λ gs _. segments_one reads image one rows ns (mark_after mark gs) (before ++ gs))
 
+module _ (slots : SlotReading) (reads : ℕ → SegmentReading) (image : Image) where
   -- what the answer of each part is needed for
   pub record EachHasOne : Type 0 where
     pub slot : (n : ℕ) → HasOne (slots n (image n))
-    pub pair : (n : ℕ) (m : ManifestData) → slots n (image n) (Ok (Some m)) → AllByRecursion (λ p. HasOne (LoadsAs f.version p (image p.data_file) (image p.delta_file))) m.pairs
-    pub segment : (n mark : ℕ) (last : Bool) → HasOne (reads n mark last (image n))
+    pub pair : (n : ℕ) (m : ManifestData) → slots n (image n) (Ok (Some m)) → AllByRecursion (λ p. HasOne (LoadsAs m.version p (image p.data_file) (image p.delta_file))) m.pairs
+    pub segment : (version n mark : ℕ) (last : Bool) → HasOne (reads version n mark last (image n))
 
   module _ (each : EachHasOne) where
-    with_one : (m : ManifestData) → AllByRecursion (λ p. HasOne (LoadsAs f.version p (image p.data_file) (image p.delta_file))) m.pairs → HasOne (OpensWith reads f image (Some m))
+    with_one : (m : ManifestData) → AllByRecursion (λ p. HasOne (LoadsAs m.version p (image p.data_file) (image p.delta_file))) m.pairs → HasOne (OpensWith reads image (Some m))
     with_one m pairs =
-        pairs_one f image (λ lives. Segments reads image (rows_of lives) m.segments m.checkpoint_mark []) (λ lives. segments_one each.segment (rows_of lives) m.segments m.checkpoint_mark []) m.pairs [] pairs
+        pairs_one m.version image (λ lives. Segments (reads m.version) image (rows_of lives) m.segments m.checkpoint_mark []) (λ lives. segments_one (reads m.version) image (each.segment m.version) (rows_of lives) m.segments m.checkpoint_mark []) m.pairs [] pairs
 
-    newer_one : (a b : ManifestData) → slots 0 (image 0) (Ok (Some a)) → slots 1 (image 1) (Ok (Some b)) → (t : Bool) → HasOne (OpensWith reads f image (if t then Some b else Some a))
+    newer_one : (a b : ManifestData) → slots 0 (image 0) (Ok (Some a)) → slots 1 (image 1) (Ok (Some b)) → (t : Bool) → HasOne (OpensWith reads image (if t then Some b else Some a))
     newer_one a b sa sb true = with_one b (each.pair 1 b sb)
     newer_one a b sa sb false = with_one a (each.pair 0 a sa)
 
-    newest_one : (a b : Option ManifestData) → slots 0 (image 0) (Ok a) → slots 1 (image 1) (Ok b) → HasOne (OpensWith reads f image (newest a b))
+    newest_one : (a b : Option ManifestData) → slots 0 (image 0) (Ok a) → slots 1 (image 1) (Ok b) → HasOne (OpensWith reads image (newest a b))
     newest_one None None sa sb = (Err NotFormatted, (refl, λ z h. h))
     newest_one None (Some b) sa sb = with_one b (each.pair 1 b sb)
     newest_one (Some a) None sa sb = with_one a (each.pair 0 a sa)
     newest_one (Some a) (Some b) sa sb = newer_one a b sa sb (nat_lt a.generation b.generation)
 
-    pub opens_one : HasOne (Opens slots reads f image)
+    pub opens_one : HasOne (Opens slots reads image)
     opens_one =
-        after_one (slots 0 (image 0)) (λ a. OpeningAfter (slots 1 (image 1)) (λ b. OpensWith reads f image (newest a b))) (each.slot 0)
-        (λ a sa. after_one (slots 1 (image 1)) (λ b. OpensWith reads f image (newest a b)) (each.slot 1) (λ b sb. newest_one a b sa sb))
+        after_one (slots 0 (image 0)) (λ a. OpeningAfter (slots 1 (image 1)) (λ b. OpensWith reads image (newest a b))) (each.slot 0)
+        (λ a sa. after_one (slots 1 (image 1)) (λ b. OpensWith reads image (newest a b)) (each.slot 1) (λ b sb. newest_one a b sa sb))

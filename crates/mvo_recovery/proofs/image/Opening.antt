@@ -3,7 +3,7 @@ use Rattle.std.proofs.Common.{ℕ, Bool, List, [], ◌∷◌, sym, arith}
 use Rattle.std.specs.List.{AllByRecursion}
 use Rattle.mvo_pair.specs.Loading.{LoadsAs}
 use Rattle.mvo_pair.specs.Reading.{pair_found}
-use Rattle.mvo_format.specs.declared.format.Format.{Format}
+use Rattle.mvo_format.specs.declared.header.TheConstants.{VERSION}
 use Rattle.mvo_pair.specs.declared.pair.Pair.{Pair}
 use Rattle.mvo_pair.proofs.Loads.{Fits, loads}
 use Rattle.mvo_frame.specs.Reading.{segment_found}
@@ -25,32 +25,32 @@ pub pick_exact : PickIsExact
 pick_exact upto first second fits fits_too = (pick_says upto first second fits fits_too, λ z h. sym (pick_alone upto first second fits fits_too z h))
 
 pub segment_exact : SegmentIsExact
-segment_exact f file mark kind bytes fits = (segment_says f.version file mark kind bytes fits, λ z h. sym (segment_alone f.version file mark kind bytes fits z h))
+segment_exact upto file mark kind bytes fits = (segment_says upto file mark kind bytes fits, λ z h. sym (segment_alone upto file mark kind bytes fits z h))
 
-module _ (f : Format) (image : Image) (is : AreFiles image) where
-  slot_one : (n : ℕ) → HasOne (SlotSays f.version n (image n))
-  slot_one n = (slot_found f.version n (image n), slot_exact f.version n (image n) (is n))
+module _ (image : Image) (is : AreFiles image) where
+  slot_one : (n : ℕ) → HasOne (SlotSays VERSION n (image n))
+  slot_one n = (slot_found VERSION n (image n), slot_exact VERSION n (image n) (is n))
 
-  segment_one : (n mark : ℕ) (last : Bool) → HasOne (SegmentSays f n mark last (image n))
-  segment_one n mark last = (segment_found f.version n mark (kind_of last) (image n), segment_exact f n mark (kind_of last) (image n) (is n))
+  segment_one : (upto n mark : ℕ) (last : Bool) → HasOne (SegmentSays upto n mark last (image n))
+  segment_one upto n mark last = (segment_found upto n mark (kind_of last) (image n), segment_exact upto n mark (kind_of last) (image n) (is n))
 
   -- the pairs of a manifest have their words, and so each has one answer
-  pairs_one : (lo hi : ℕ) (ps : List Pair) → PairsRise lo ps hi → AllByRecursion (λ p. HasOne (LoadsAs f.version p (image p.data_file) (image p.delta_file))) ps
-  pairs_one lo hi [] rise = tt
-  pairs_one lo hi (p ∷ ps) rise =
+  pairs_one : (upto lo hi : ℕ) (ps : List Pair) → PairsRise lo ps hi → AllByRecursion (λ p. HasOne (LoadsAs upto p (image p.data_file) (image p.delta_file))) ps
+  pairs_one upto lo hi [] rise = tt
+  pairs_one upto lo hi (p ∷ ps) rise =
       let fits : Fits p = record { hi = omega (arith, rise.0.top); records = omega (arith, rise.0.records) } in
-      ((pair_found f.version p (image p.data_file) (image p.delta_file), loads f.version p (image p.data_file) (image p.delta_file) fits (is p.data_file) (λ es e. is p.delta_file)), pairs_one p.hi.0 hi ps rise.1)
+      ((pair_found upto p (image p.data_file) (image p.delta_file), loads upto p (image p.data_file) (image p.delta_file) fits (is p.data_file) (λ es e. is p.delta_file)), pairs_one upto p.hi.0 hi ps rise.1)
 
 pub one_answer : HasOneAnswer
-one_answer f image is =
-    opens_one (SlotSays f.version) (SegmentSays f) f image (record {
-      slot = slot_one f image is;
-      pair = λ n m has. pairs_one f image is 0 m.checkpoint_mark m.pairs has.0.is.rules.rise;
-      segment = segment_one f image is;
+one_answer image is =
+    opens_one (SlotSays VERSION) SegmentSays image (record {
+      slot = slot_one image is;
+      pair = λ n m has. pairs_one image is m.version 0 m.checkpoint_mark m.pairs has.0.is.rules.rise;
+      segment = segment_one image is;
     })
 
 pub exact : IsExact
-exact f image rows mark = (
-  opens_gives (SlotSays f.version) (SegmentSays f) f image rows mark,
-  gives_opens (SlotSays f.version) (SegmentSays f) f image rows mark,
+exact image rows mark = (
+  opens_gives (SlotSays VERSION) SegmentSays image rows mark,
+  gives_opens (SlotSays VERSION) SegmentSays image rows mark,
 )

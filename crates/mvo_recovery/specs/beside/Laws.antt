@@ -30,10 +30,11 @@ use Rattle.mvo_recovery.specs.beside.Seen.{SeenData, grown, Loads, WasSeen, Coun
 
 -- What is read of two neighbours is seen.
 abbrev pub SeenAtRead : Image → Type 0
-SeenAtRead content = (f : Format) (m : ManifestData) (before behind : List Pair) (p q : Pair)
-    (left right : List Numbered) → m.pairs ≡ before ++ p ∷ q ∷ behind → Loads f content p left →
-    Loads f content q right → AreApart (left ∷ right ∷ []) →
-    WasSeen f content m (record {
+SeenAtRead content = (m : ManifestData) (before behind : List Pair) (p q : Pair)
+    (left right : List Numbered) → m.pairs ≡ before ++ p ∷ q ∷ behind →
+    Loads m.version content p left → Loads m.version content q right →
+    AreApart (left ∷ right ∷ []) →
+    WasSeen content m (record {
       place = length before;
       left = p;
       right = q;
@@ -43,33 +44,35 @@ SeenAtRead content = (f : Format) (m : ManifestData) (before behind : List Pair)
 
 -- It stays where the files of the pairs stay.
 abbrev pub SeenStays : Image → Image → Type 0
-SeenStays old new = (f : Format) (m : ManifestData) (s : SeenData) →
+SeenStays old new = (m : ManifestData) (s : SeenData) →
     ((n : ℕ) → Contains (flat_map pair_files m.pairs) n → new n ≡ old n) →
-    WasSeen f old m s → WasSeen f new m s
+    WasSeen old m s → WasSeen new m s
 
 -- It stays where numbers are written behind those that count in the delta file of some pair.
 abbrev pub SeenBesideNumbers : Image → Image → Type 0
-SeenBesideNumbers old new = (f : Format) (m : ManifestData) (s : SeenData) (r : Pair)
-    (more : List ℕ) (lives : List (List Numbered)) → IsManifest m → HaveLive f old m.pairs lives →
-    Contains m.pairs r →
+SeenBesideNumbers old new = (m : ManifestData) (s : SeenData) (r : Pair)
+    (more : List ℕ) (lives : List (List Numbered)) → IsManifest m →
+    HaveLive m.version old m.pairs lives → Contains m.pairs r →
     ((n : ℕ) → Contains (named m) n → n ≢ r.delta_file → new n ≡ old n) →
     GainsNumbers (old r.delta_file) (new r.delta_file) r.entries more →
-    ((own : Format) → IsFormatUpTo f.version own → (ns : List ℕ) →
+    ((own : Format) → IsFormatUpTo m.version own → (ns : List ℕ) →
     HasDeadNumbers own.version r.records r.entries ns (old r.delta_file) →
     AreNumbers r.records (ns ++ more)) →
-    WasSeen f old m s → WasSeen f new m s
+    WasSeen old m s → WasSeen new m s
 
 -- It stays where the data files of the pairs stay, and the numbers that count in their delta files.
 abbrev pub SeenWhereCountsStay : Image → Image → Type 0
-SeenWhereCountsStay old new = (f : Format) (m : ManifestData) (s : SeenData)
-    (lives : List (List Numbered)) → IsManifest m → HaveLive f old m.pairs lives →
-    CountsStay f old new m.pairs → WasSeen f old m s → WasSeen f new m s
+SeenWhereCountsStay old new = (m : ManifestData) (s : SeenData)
+    (lives : List (List Numbered)) → IsManifest m → HaveLive m.version old m.pairs lives →
+    CountsStay m.version old new m.pairs → WasSeen old m s → WasSeen new m s
 
--- It stays where a manifest is installed that raises the counts of pairs and has one pair more.
+-- It stays where a manifest is installed, of no earlier version, that raises the counts of pairs
+-- and has one pair more.
 abbrev pub SeenBesideInstall : Image → Type 0
-SeenBesideInstall content = (f : Format) (m next : ManifestData) (s : SeenData)
-    (numbers : NewNumbers) (p : Pair) → next.pairs ≡ map (raise numbers) m.pairs ++ p ∷ [] →
-    WasSeen f content m s → WasSeen f content next s
+SeenBesideInstall content = (m next : ManifestData) (s : SeenData) (numbers : NewNumbers)
+    (p : Pair) → m.version ≤ next.version →
+    next.pairs ≡ map (raise numbers) m.pairs ++ p ∷ [] →
+    WasSeen content m s → WasSeen content next s
 
 -- A file that neither the manifest nor a checkpoint names isn't named once that is installed.
 abbrev pub StaysUnnamed : Type 0
@@ -82,9 +85,10 @@ StaysUnnamed = (m : ManifestData) (c : CheckpointData) (n : ℕ) →
 -- The numbers behind those that were counted then are of live records of then, and the other ones
 -- are live now.
 abbrev pub FindsLate : Image → Type 0
-FindsLate content = (f own : Format) (p : Pair) (more : ℕ) (was now : List Numbered)
-    (ns : List ℕ) → IsFormatUpTo f.version own → p.hi.0 < 2 ^ 64 →
-    p.records ≤ MAX_PAIR_RECORDS → Loads f content p was → Loads f content (grown more p) now →
+FindsLate content = (upto : ℕ) (own : Format) (p : Pair) (more : ℕ) (was now : List Numbered)
+    (ns : List ℕ) → IsFormatUpTo upto own → p.hi.0 < 2 ^ 64 →
+    p.records ≤ MAX_PAIR_RECORDS → Loads upto content p was →
+    Loads upto content (grown more p) now →
     HasDeadNumbers own.version p.records (p.entries + more) ns (content p.delta_file) →
     AreLate was (drop p.entries ns) × (now ≡ without (drop p.entries ns) was)
     × (length (drop p.entries ns) ≡ more)
@@ -92,44 +96,44 @@ FindsLate content = (f own : Format) (p : Pair) (more : ℕ) (was now : List Num
 -- ---- one pair for the two
 
 -- the manifest of a merge may be installed, and changes neither rows nor mark
-pub record IsMergedNow (f : Format) (content : Image) (may : ℕ → List ℕ → Type 0)
-    (m : ManifestData) (x : Parts) (c : MergeData) (y : Parts) : Type 0 where
+pub record IsMergedNow (content : Image) (may : ℕ → List ℕ → Type 0) (m : ManifestData)
+    (x : Parts) (c : MergeData) (y : Parts) : Type 0 where
   pub is : IsManifest (merged_manifest m c)
   pub next : IsNext m (merged_manifest m c)
-  pub ready : IsReady f content may (merged_manifest m c) y
+  pub ready : IsReady content may (merged_manifest m c) y
   pub same : MakeUpSame x y
 
--- Where the files of a pair hold the records that were seen, and the numbers that came late,
--- renumbered, it may be installed in the place of the two.
+-- Where the files of a pair, of a version up to the manifest's, hold the records that were seen,
+-- and the numbers that came late, renumbered, it may be installed in the place of the two.
 abbrev pub MergeBesideIsReady : Image → (ℕ → List ℕ → Type 0) → Type 0
 MergeBesideIsReady content may = (f : Format) (m : ManifestData) (x : Parts) (s : SeenData)
-    (pair : Pair) → IsSettled f content may m x → (seen : WasSeen f content m s) →
-    (now : NumbersNow f content m s seen) →
+    (pair : Pair) → IsSettled content may m x → (seen : WasSeen content m s) →
+    (now : NumbersNow content m s seen) →
     let late_left = drop s.left.entries now.left in
     let late_right = drop s.right.entries now.right in
     let late = renumbered (renumbering_of s.live_left s.live_right) late_left late_right in
     MayMergeNow m s pair (records_of s.live_left s.live_right) (length late) →
-    HasRecords f content may pair (records_of s.live_left s.live_right) →
+    IsFormatUpTo m.version f → HasRecords f content may pair (records_of s.live_left s.live_right) →
     HasLate f content may pair late →
-    IsMergedNow f content may m x (pairs_now seen pair)
+    IsMergedNow content may m x (pairs_now seen pair)
     (parts_now s (live_after s.live_left s.live_right late_left late_right) x)
 
 -- Each image in which the other slot is shut, or open with that manifest, gives what the parts of
 -- before make up.
 abbrev pub InstallBesideKeeps : Image → (ℕ → List ℕ → Type 0) → Type 0
-InstallBesideKeeps content may = (f : Format) (m : ManifestData) (x y : Parts) (c : MergeData) →
-    IsSettled f content may m x → IsMergedNow f content may m x c y → (image : Image) →
+InstallBesideKeeps content may = (m : ManifestData) (x y : Parts) (c : MergeData) →
+    IsSettled content may m x → IsMergedNow content may m x c y → (image : Image) →
     Touched (other_slot m) may (IsShutOrOpen (other_slot m) (merged_manifest m c)) image →
-    GivesParts f x image
+    GivesParts x image
 
 -- ---- places
 
 -- Where the places are those of the live records now, moving those of the records that were seen
 -- makes them those of the live records then.
 abbrev pub PlacesBeside : Type 0
-PlacesBeside = (f : Format) (content : Image) (m : ManifestData) (x : Parts) (s : SeenData)
-    (pair : Pair) (seen : WasSeen f content m s) (now : NumbersNow f content m s seen)
-    (at : PlaceMap) → IsManifest m → HaveLive f content m.pairs x.lives →
+PlacesBeside = (content : Image) (m : ManifestData) (x : Parts) (s : SeenData) (pair : Pair)
+    (seen : WasSeen content m s) (now : NumbersNow content m s seen)
+    (at : PlaceMap) → IsManifest m → HaveLive m.version content m.pairs x.lives →
     IsDistinct nat_eq (map file_of (merged_manifest m (pairs_now seen pair)).pairs) →
     ArePlaces m.pairs x.lives at →
     ArePlaces (merged_manifest m (pairs_now seen pair)).pairs

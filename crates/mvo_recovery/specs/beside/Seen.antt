@@ -32,27 +32,27 @@ pub record SeenData : Type 0 where
 abbrev pub grown : ℕ → Pair → Pair
 grown n p = record p { entries = p.entries + n }
 
--- the files of the pair hold these live records
-abbrev pub Loads : Format → Image → Pair → List Numbered → Type 0
-Loads f content p live = LoadsAs f.version p (content p.data_file) (content p.delta_file) (Ok live)
+-- the files of the pair, of versions up to this one, hold these live records
+abbrev pub Loads : ℕ → Image → Pair → List Numbered → Type 0
+Loads upto content p live = LoadsAs upto p (content p.data_file) (content p.delta_file) (Ok live)
 
 -- The two stand in their places, and more of their deltas' numbers may count. With the counts of
 -- then their files hold the live records of then.
-pub record WasSeen (f : Format) (content : Image) (m : ManifestData) (s : SeenData) : Type 0 where
+pub record WasSeen (content : Image) (m : ManifestData) (s : SeenData) : Type 0 where
   pub before : List Pair
   pub behind : List Pair
   pub more_left : ℕ
   pub more_right : ℕ
   pub pairs : m.pairs ≡ before ++ grown more_left s.left ∷ grown more_right s.right ∷ behind
   pub at : length before ≡ s.place
-  pub left : Loads f content s.left s.live_left
-  pub right : Loads f content s.right s.live_right
+  pub left : Loads m.version content s.left s.live_left
+  pub right : Loads m.version content s.right s.live_right
   pub apart : AreApart (s.live_left ∷ s.live_right ∷ [])
 
 -- the two as they are now, those before and behind them, and the pair that they become
-abbrev pub pairs_now : {f : Format} {content : Image} {m : ManifestData} {s : SeenData} →
-    WasSeen f content m s → Pair → MergeData
-pairs_now {f} {content} {m} {s} seen pair = record {
+abbrev pub pairs_now : {content : Image} {m : ManifestData} {s : SeenData} →
+    WasSeen content m s → Pair → MergeData
+pairs_now {content} {m} {s} seen pair = record {
   before = seen.before;
   left = grown seen.more_left s.left;
   right = grown seen.more_right s.right;
@@ -60,10 +60,11 @@ pairs_now {f} {content} {m} {s} seen pair = record {
   pair = pair;
 }
 
--- the data files of these pairs stay, and the numbers that count in their delta files
-abbrev pub CountsStay : Format → Image → Image → List Pair → Type 0
-CountsStay f old new ps = (p : Pair) → Contains ps p →
-    (new p.data_file ≡ old p.data_file) × ((own : Format) → IsFormatUpTo f.version own →
+-- The data files of these pairs, of versions up to this one, stay, and the numbers that count in
+-- their delta files.
+abbrev pub CountsStay : ℕ → Image → Image → List Pair → Type 0
+CountsStay upto old new ps = (p : Pair) → Contains ps p →
+    (new p.data_file ≡ old p.data_file) × ((own : Format) → IsFormatUpTo upto own →
     (ns : List ℕ) → HasDeadNumbers own.version p.records p.entries ns (old p.delta_file) →
     HasDeadNumbers own.version p.records p.entries ns (new p.delta_file))
 
@@ -86,14 +87,14 @@ pub record MayMergeNow (m : ManifestData) (s : SeenData) (pair : Pair) (es : Lis
   pub two_files : pair.data_file ≢ pair.delta_file
 
 -- the numbers that count now in the deltas of the two, and those of them that came late
-pub record NumbersNow (f : Format) (content : Image) (m : ManifestData) (s : SeenData)
-    (seen : WasSeen f content m s) : Type 0 where
+pub record NumbersNow (content : Image) (m : ManifestData) (s : SeenData)
+    (seen : WasSeen content m s) : Type 0 where
   pub left : List ℕ
   pub right : List ℕ
   pub left_own : Format
   pub right_own : Format
-  pub left_known : IsFormatUpTo f.version left_own
-  pub right_known : IsFormatUpTo f.version right_own
+  pub left_known : IsFormatUpTo m.version left_own
+  pub right_known : IsFormatUpTo m.version right_own
   pub left_has : HasDeadNumbers left_own.version s.left.records (s.left.entries + seen.more_left)
       left (content s.left.delta_file)
   pub right_has : HasDeadNumbers right_own.version s.right.records

@@ -8,7 +8,7 @@ use Rattle.mvo_frame.specs.declared.kind.Kind.TheVariants.{Sealed, Last}
 use Rattle.mvo_frame.specs.declared.magic.TheConstants.{MAGIC}
 use Rattle.mvo_frame.specs.Frames.{IsSegment}
 use Rattle.mvo_manifest.specs.Slots.{SlotSays}
-use Rattle.mvo_format.specs.declared.format.Format.{Format}
+use Rattle.mvo_format.specs.declared.header.TheConstants.{VERSION}
 use Rattle.mvo_recovery.specs.image.Opens.{Image, OpeningOutcome, SegmentReading, Opens}
 use Rattle.mvo_recovery.specs.image.Gives.{ImageGives}
 
@@ -16,18 +16,19 @@ abbrev pub kind_of : Bool → Kind
 kind_of true = Last
 kind_of false = Sealed
 
--- what a segment's bytes say: its groups, or another version, or neither
-abbrev pub SegmentIs : Format → ℕ → ℕ → Kind → List ℕ → Found (List GroupData) → Type 0
-SegmentIs f file mark kind bytes =
-    Says file (IsOtherVersion MAGIC f.version bytes) (λ gs. IsSegment f.version mark kind gs bytes)
+-- what a segment's bytes say by versions up to this one: its groups, or another version, or neither
+abbrev pub SegmentIs : ℕ → ℕ → ℕ → Kind → List ℕ → Found (List GroupData) → Type 0
+SegmentIs upto file mark kind bytes =
+    Says file (IsOtherVersion MAGIC upto bytes) (λ gs. IsSegment upto mark kind gs bytes)
 
-abbrev pub SegmentSays : Format → SegmentReading
-SegmentSays f n mark last = SegmentIs f n mark (kind_of last)
+abbrev pub SegmentSays : ℕ → SegmentReading
+SegmentSays upto n mark last = SegmentIs upto n mark (kind_of last)
 
--- what opening an image answers
-abbrev pub OpensAs : Format → Image → OpeningOutcome → Type 0
-OpensAs f = Opens (SlotSays f.version) (SegmentSays f) f
+-- What opening an image answers: a manifest is of a version up to the one that is written, and the
+-- files that it names are of versions up to its own.
+abbrev pub OpensAs : Image → OpeningOutcome → Type 0
+OpensAs = Opens (SlotSays VERSION) SegmentSays
 
 -- The image is well formed, and gives these rows and this mark.
-abbrev pub GivesRows : Format → Image → Map → ℕ → Type 0
-GivesRows f = ImageGives (SlotSays f.version) (SegmentSays f) f
+abbrev pub GivesRows : Image → Map → ℕ → Type 0
+GivesRows = ImageGives (SlotSays VERSION) SegmentSays

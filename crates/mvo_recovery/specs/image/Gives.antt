@@ -4,7 +4,6 @@ use Rattle.mvo_types.specs.Keys.{Map}
 use Rattle.mvo_group.specs.Data.{GroupData}
 use Rattle.mvo_pair.specs.Data.{Numbered, AreApart}
 use Rattle.mvo_pair.specs.Loading.{LoadsAs}
-use Rattle.mvo_format.specs.declared.format.Format.{Format}
 use Rattle.mvo_pair.specs.declared.pair.Pair.{Pair}
 use Rattle.mvo_frame.specs.Frames.{mark_after}
 use Rattle.mvo_places.specs.Rows.{rows_of, after_groups}
@@ -20,13 +19,13 @@ pub record IsInstalledIn (slots : SlotReading) (image : Image) (m : ManifestData
   pub second_has : slots 1 (image 1) (Ok second)
   pub is : newest first second ≡ Some m
 
--- each pair has these live records
-abbrev pub HaveLive : Format → Image → List Pair → List (List Numbered) → Type 0
-HaveLive f image [] [] = Unit {0}
-HaveLive f image [] (l ∷ ls) = ⊥
-HaveLive f image (p ∷ ps) [] = ⊥
-HaveLive f image (p ∷ ps) (l ∷ ls) =
-    LoadsAs f.version p (image p.data_file) (image p.delta_file) (Ok l) × HaveLive f image ps ls
+-- each pair has these live records, by versions up to this one
+abbrev pub HaveLive : ℕ → Image → List Pair → List (List Numbered) → Type 0
+HaveLive upto image [] [] = Unit {0}
+HaveLive upto image [] (l ∷ ls) = ⊥
+HaveLive upto image (p ∷ ps) [] = ⊥
+HaveLive upto image (p ∷ ps) (l ∷ ls) =
+    LoadsAs upto p (image p.data_file) (image p.delta_file) (Ok l) × HaveLive upto image ps ls
 
 -- the segments have these groups, one segment after another, from a mark on to another
 abbrev pub HaveGroups : SegmentReading → Image → List ℕ → ℕ → List GroupData → ℕ → Type 0
@@ -37,13 +36,14 @@ HaveGroups reads image (n ∷ ns) mark gs upto =
     × HaveGroups reads image ns (mark_after mark here) later upto
 
 -- The image is well formed, and gives these rows and this mark.
-pub record ImageGives (slots : SlotReading) (reads : SegmentReading) (f : Format) (image : Image)
+pub record ImageGives (slots : SlotReading) (reads : ℕ → SegmentReading) (image : Image)
     (rows : Map) (mark : ℕ) : Type 0 where
   pub manifest : ManifestData
   pub installed : IsInstalledIn slots image manifest
   pub lives : List (List Numbered)
-  pub live : HaveLive f image manifest.pairs lives
+  pub live : HaveLive manifest.version image manifest.pairs lives
   pub distinct : AreApart lives
   pub groups : List GroupData
-  pub have : HaveGroups reads image manifest.segments manifest.checkpoint_mark groups mark
+  pub have : HaveGroups (reads manifest.version) image manifest.segments manifest.checkpoint_mark
+      groups mark
   pub rows_are : rows ≡ after_groups (rows_of lives) groups

@@ -7,7 +7,6 @@ use Rattle.mvo_types.specs.RowData.{ContentData}
 use Rattle.mvo_types.specs.Keys.{Map}
 use Rattle.mvo_pair.specs.Data.{Numbered, AreApart}
 use Rattle.mvo_pair.specs.Answers.{IsOnly}
-use Rattle.mvo_format.specs.declared.format.Format.{Format}
 use Rattle.mvo_frame.specs.declared.kind.Kind.{Kind}
 use Rattle.mvo_frame.specs.Reading.{segment_found}
 use Rattle.mvo_manifest.specs.Slots.{SlotSays, PickSays}
@@ -35,19 +34,18 @@ PickIsExact = (upto : ℕ) (first second : List ℕ) → AreBytes first → AreB
 
 -- So is what is found of a segment.
 abbrev pub SegmentIsExact : Type 0
-SegmentIsExact = (f : Format) (file mark : ℕ) (kind : Kind) (bytes : List ℕ) →
-    AreBytes bytes →
-    IsOnly (SegmentIs f file mark kind bytes) (segment_found f.version file mark kind bytes)
+SegmentIsExact = (upto file mark : ℕ) (kind : Kind) (bytes : List ℕ) → AreBytes bytes →
+    IsOnly (SegmentIs upto file mark kind bytes) (segment_found upto file mark kind bytes)
 
 -- Opening has one answer.
 abbrev pub HasOneAnswer : Type 0
-HasOneAnswer = (f : Format) (image : Image) → AreFiles image →
-    (out : OpeningOutcome) × IsOnly (OpensAs f image) out
+HasOneAnswer = (image : Image) → AreFiles image →
+    (out : OpeningOutcome) × IsOnly (OpensAs image) out
 
 -- It is rows and a mark exactly where the image is well formed and gives them.
 abbrev pub IsExact : Type 0
-IsExact = (f : Format) (image : Image) (rows : Map) (mark : ℕ) →
-    OpensAs f image (Ok (rows, mark)) ↔ GivesRows f image rows mark
+IsExact = (image : Image) (rows : Map) (mark : ℕ) →
+    OpensAs image (Ok (rows, mark)) ↔ GivesRows image rows mark
 
 -- Where no two live records have one key, the rows of some pairs are those of their live records.
 abbrev pub RowsAreLive : Type 0

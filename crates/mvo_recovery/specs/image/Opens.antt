@@ -9,7 +9,6 @@ use Rattle.mvo_types.specs.declared.refusal.Refusal.TheVariants.{Corrupt, NotFor
 use Rattle.mvo_group.specs.Data.{GroupData}
 use Rattle.mvo_pair.specs.Data.{Numbered, AreApart}
 use Rattle.mvo_pair.specs.Loading.{LoadsAs}
-use Rattle.mvo_format.specs.declared.format.Format.{Format}
 use Rattle.mvo_pair.specs.declared.pair.Pair.{Pair}
 use Rattle.mvo_manifest.specs.Data.{ManifestData}
 use Rattle.mvo_manifest.specs.Slots.{newest}
@@ -50,13 +49,13 @@ abbrev pub Beside : ℕ → List (List Numbered) → (List (List Numbered) → O
 Beside file lives next out =
     (AreApart lives × next lives out) ⊎ ((AreApart lives → ⊥) × (out ≡ Err (Corrupt file)))
 
--- the pairs in order, behind the live records before
-abbrev pub Pairs : Format → Image → (List (List Numbered) → OpeningOutcome → Type 0) → List Pair
+-- the pairs in order, of versions up to this one, behind the live records before
+abbrev pub Pairs : ℕ → Image → (List (List Numbered) → OpeningOutcome → Type 0) → List Pair
     → List (List Numbered) → OpeningOutcome → Type 0
-Pairs f image next [] lives out = next lives out
-Pairs f image next (p ∷ ps) lives out =
-    OpeningAfter (LoadsAs f.version p (image p.data_file) (image p.delta_file)) (λ live.
-    Beside p.data_file (lives ++ live ∷ []) (Pairs f image next ps)) out
+Pairs upto image next [] lives out = next lives out
+Pairs upto image next (p ∷ ps) lives out =
+    OpeningAfter (LoadsAs upto p (image p.data_file) (image p.delta_file)) (λ live.
+    Beside p.data_file (lives ++ live ∷ []) (Pairs upto image next ps)) out
 
 abbrev pub is_empty_list : List ℕ → Bool
 is_empty_list [] = true
@@ -70,15 +69,15 @@ Segments reads image rows (n ∷ ns) mark before out =
     OpeningAfter (reads n mark (is_empty_list ns) (image n)) (λ gs.
     Segments reads image rows ns (mark_after mark gs) (before ++ gs)) out
 
-abbrev pub OpensWith : SegmentReading → Format → Image → Option ManifestData → OpeningOutcome
-    → Type 0
-OpensWith reads f image None out = out ≡ Err NotFormatted
-OpensWith reads f image (Some m) out =
-    Pairs f image (λ lives. Segments reads image (rows_of lives) m.segments m.checkpoint_mark [])
-    m.pairs [] out
+-- the files that a manifest names are of versions up to its own
+abbrev pub OpensWith : (ℕ → SegmentReading) → Image → Option ManifestData → OpeningOutcome → Type 0
+OpensWith reads image None out = out ≡ Err NotFormatted
+OpensWith reads image (Some m) out =
+    Pairs m.version image (λ lives.
+    Segments (reads m.version) image (rows_of lives) m.segments m.checkpoint_mark []) m.pairs [] out
 
 -- both slots are looked at before one is chosen
-abbrev pub Opens : SlotReading → SegmentReading → Format → Image → OpeningOutcome → Type 0
-Opens slots reads f image out =
+abbrev pub Opens : SlotReading → (ℕ → SegmentReading) → Image → OpeningOutcome → Type 0
+Opens slots reads image out =
     OpeningAfter (slots 0 (image 0)) (λ a. OpeningAfter (slots 1 (image 1)) (λ b.
-    OpensWith reads f image (newest a b))) out
+    OpensWith reads image (newest a b))) out

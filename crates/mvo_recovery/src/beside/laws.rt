@@ -1,4 +1,3 @@
-ghost use Rattle.mvo_format.specs.declared.format.Format.{Format};
 ghost use Rattle.mvo_recovery.specs.beside.Laws.{SeenAtRead, SeenStays, SeenBesideNumbers, SeenWhereCountsStay};
 ghost use Rattle.mvo_recovery.specs.beside.Laws.{SeenBesideInstall, StaysUnnamed, FindsLate};
 ghost use Rattle.mvo_recovery.specs.beside.Laws.{MergeBesideIsReady, InstallBesideKeeps, PlacesBeside};
@@ -25,5 +24,5 @@ pub fn laws_of_merge_beside<D: Disk>(old: &D, new: &D)
     ensures ready { MergeBesideIsReady (D.content old.now) (D.may_leave old.now) }
     ensures keeps { InstallBesideKeeps (D.content old.now) (D.may_leave old.now) }
     ensures places { PlacesBeside }
-    ensures runs { (f : Format) → RunsKeepAll D.moment D.left_since D.content D.may_leave f }
+    ensures runs { RunsKeepAll D.moment D.left_since D.content D.may_leave }
 {}

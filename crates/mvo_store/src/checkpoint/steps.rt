@@ -48,11 +48,11 @@ fn read_oldest<D: Disk>(
 ) -> Result<Contents, Refusal>
     requires room { D.fault_count disk.old + 1 < 2 ^ 64 }
     ensures says { IsHonest (D.moment disk.new) → Tells IsStop (λ s. s.groups.items) result
-        (SegmentIs FIRST_FORMAT (slice_index_or manifest.now.segments 0 0)
+        (SegmentIs FIRST_FORMAT.version (slice_index_or manifest.now.segments 0 0)
         manifest.now.checkpoint_mark Sealed
         (D.content disk.old (slice_index_or manifest.now.segments 0 0))) }
     ensures groups { IfOk result (λ s.
-        MayBeGroups FIRST_FORMAT manifest.now.checkpoint_mark Sealed s.groups.items) }
+        MayBeGroups FIRST_FORMAT.version manifest.now.checkpoint_mark Sealed s.groups.items) }
     ensures place { IfOk result (IsAllRead manifest.now.checkpoint_mark) }
     ensures is { OnOk result (IsManifest manifest.now) }
     ensures why { IfErr result (λ e. IsStop e ⊎ IsMisread e) }
@@ -60,7 +60,7 @@ fn read_oldest<D: Disk>(
 {
     let mark = manifest.checkpoint_mark();
     let file = manifest.segments()[0];
-    match segment_on(alloc, disk, FIRST_FORMAT, file, mark, Kind::Sealed) {
+    match segment_on(alloc, disk, FIRST_FORMAT.version, file, mark, Kind::Sealed) {
         Ok(contents) => Ok(contents),
         Err(refusal) => Err(refusal),
     }

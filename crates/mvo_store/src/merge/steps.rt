@@ -50,18 +50,18 @@ fn read_both<D: Disk>(
     ensures has { IsHonest (D.moment disk.new) → IfOk result (λ x.
         HasLive (D.content disk.old) left x.0.items
         × HasLive (D.content disk.old) right x.1.items) }
-    ensures some { IfOk result (λ x. MayBeLive FIRST_FORMAT left x.0.items
-        × MayBeLive FIRST_FORMAT right x.1.items) }
+    ensures some { IfOk result (λ x. MayBeLive FIRST_FORMAT.version left x.0.items
+        × MayBeLive FIRST_FORMAT.version right x.1.items) }
     ensures why { IfErr result (λ e. IsStop e ⊎ IsMisread e) }
     ensures stop { IsHonest (D.moment disk.new) → IfErr result (λ e.
         IsStoppedIn (D.content disk.old) left right e) }
     ensures read { HasRead D.Disk disk.old disk.new result }
 {
-    let first = match pair_on(alloc, disk, FIRST_FORMAT, left) {
+    let first = match pair_on(alloc, disk, FIRST_FORMAT.version, left) {
         Ok(live) => live,
         Err(refusal) => return Err(refusal),
     };
-    match pair_on(alloc, disk, FIRST_FORMAT, right) {
+    match pair_on(alloc, disk, FIRST_FORMAT.version, right) {
         Ok(second) => Ok((first, second)),
         Err(refusal) => Err(refusal),
     }

@@ -18,7 +18,7 @@ pair_in b = b.pair
 pub loop-rest-init : goal.loop-rest-init
 loop-rest-init g c =
     let image = g.D.Disk.content c.args.disk.now in
-    let none = ap (λ (l : List PairBytes). l ++ map (bytes_of c.args.format image) c.args.pairs.now) (sym c.new-files.ensures.items) in (
+    let none = ap (λ (l : List PairBytes). l ++ map (bytes_of c.args.upto image) c.args.pairs.now) (sym c.new-files.ensures.items) in (
       λ _. none,
       recursion_from_All AreFiles c.args.pairs.now c.requires.pairs,
       unchanged_yet g.D.Disk g.met.D.Disk.only_now c.args.disk.now,
@@ -42,9 +42,9 @@ loop-rest-preserved g c =
     let files = c.loop-rest.files.items in
     let whole = first_and_rest rest no_pair c.in-len1-up.len_at_least in
     let same = same_image g.D.Disk c.args.disk.now c.loop-rest.disk c.loop-rest.invariant.2.rest.content in
-    let one = λ (honest : IsHonest (g.D.Disk.moment c.files_of.new.disk)). c.in-Ok.ensures.bytes honest ∙ ap (λ (i : Image). bytes_of c.args.format i p) same in
-    let more = λ (honest : IsHonest (g.D.Disk.moment c.files_of.new.disk)). c.loop-rest.invariant.0 (c.in-Ok.ensures.read.any_moment.later.honest honest) ∙ ap (λ (l : List Pair). files ++ map (bytes_of c.args.format image) l) whole ∙ sym (append_assoc files (bytes_of c.args.format image p ∷ []) (map (bytes_of c.args.format image) ps))
-    ∙ ap (λ (b : PairBytes). (files ++ b ∷ []) ++ map (bytes_of c.args.format image) ps) (sym (one honest)) ∙ ap (λ (l : List PairBytes). l ++ map (bytes_of c.args.format image) ps) (sym c.in_ok-push.ensures.items) in
+    let one = λ (honest : IsHonest (g.D.Disk.moment c.files_of.new.disk)). c.in-Ok.ensures.bytes honest ∙ ap (λ (i : Image). bytes_of c.args.upto i p) same in
+    let more = λ (honest : IsHonest (g.D.Disk.moment c.files_of.new.disk)). c.loop-rest.invariant.0 (c.in-Ok.ensures.read.any_moment.later.honest honest) ∙ ap (λ (l : List Pair). files ++ map (bytes_of c.args.upto image) l) whole ∙ sym (append_assoc files (bytes_of c.args.upto image p ∷ []) (map (bytes_of c.args.upto image) ps))
+    ∙ ap (λ (b : PairBytes). (files ++ b ∷ []) ++ map (bytes_of c.args.upto image) ps) (sym (one honest)) ∙ ap (λ (l : List PairBytes). l ++ map (bytes_of c.args.upto image) ps) (sym c.in_ok-push.ensures.items) in
     let pairs_more : c.args.pairs.now ≡ map pair_in c.push.new.self.items ++ ps =
     c.loop-rest.invariant.3 ∙ ap (λ (l : List Pair). map pair_in files ++ l) whole ∙ sym (append_assoc (map pair_in files) (p ∷ []) ps)
     ∙ ap (λ (q : Pair). (map pair_in files ++ q ∷ []) ++ ps) (sym c.in-Ok.ensures.pair) ∙ ap (λ (l : List Pair). l ++ ps) (sym (map-append pair_in files (c.in-Ok.of_pair ∷ [])))
@@ -59,7 +59,7 @@ loop-rest-preserved g c =
 pub returns-clause-bytes : goal.returns-clause-bytes
 returns-clause-bytes g c = λ honest.
     let image = g.D.Disk.content c.args.disk.now in
-    sym (c.loop-rest.invariant.0 honest ∙ ap (λ (l : List Pair). c.loop-rest.files.items ++ map (bytes_of c.args.format image) l) (no_more c.loop-rest.rest.now c.in_default.len_below) ∙ append-nil c.loop-rest.files.items)
+    sym (c.loop-rest.invariant.0 honest ∙ ap (λ (l : List Pair). c.loop-rest.files.items ++ map (bytes_of c.args.upto image) l) (no_more c.loop-rest.rest.now c.in_default.len_below) ∙ append-nil c.loop-rest.files.items)
 
 pub returns-clause-pairs : goal.returns-clause-pairs
 returns-clause-pairs g c =

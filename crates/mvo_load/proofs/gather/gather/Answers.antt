@@ -26,13 +26,13 @@ more_in before parts all is = sym (ap filed_in is ∙ flat_map-append filed_of b
 
 pub loop-rest-init : goal.loop-rest-init
 loop-rest-init g c =
-    let f = c.args.format in
+    let upto = c.args.upto in
     let image = g.D.Disk.content c.args.disk.now in
     let m = c.args.manifest.now in
-    let none = none_gathered f image m c.pairs-rest.ensures.manifest in
-    let pairs = subst (λ (ps : List Pair). GatheredSoFar f image m ps []) (sym c.pairs-rest.ensures.value) none in
+    let none = none_gathered upto image m c.pairs-rest.ensures.manifest in
+    let pairs = subst (λ (ps : List Pair). GatheredSoFar upto image m ps []) (sym c.pairs-rest.ensures.value) none in
     let no_parts = none_in c.new-all.result.items c.new-all.ensures.items in (
-      λ _. subst (λ (l : List Filed). GatheredSoFar f image m c.pairs-rest.result.now l) no_parts pairs,
+      λ _. subst (λ (l : List Filed). GatheredSoFar upto image m c.pairs-rest.result.now l) no_parts pairs,
       unchanged_yet g.D.Disk g.met.D.Disk.only_now c.args.disk.now,
       subst (λ (ps : List Pair). AllByRecursion HasFiles ps) (sym c.pairs-rest.ensures.value) none.files,
       subst (λ (l : List Filed). All MayLie l) no_parts (All-from_recursion MayLie [] tt),
@@ -40,7 +40,7 @@ loop-rest-init g c =
 
 pub loop-rest-preserved : goal.loop-rest-preserved
 loop-rest-preserved g c =
-    let f = c.args.format in
+    let upto = c.args.upto in
     let image = g.D.Disk.content c.args.disk.now in
     let m = c.args.manifest.now in
     let rest = c.loop-rest.rest.now in
@@ -49,18 +49,18 @@ loop-rest-preserved g c =
     let before : List Part = c.loop-rest.all.items in
     let whole : ps ++ qs ≡ rest = ap (λ (l : List Pair). l ++ qs) c.split_at.ensures.front ∙ ap (λ (l : List Pair). take c.min.result rest ++ l) c.split_at.ensures.back ∙ take-append-drop c.min.result rest in
     let after = c.in-Ok.ensures.read.any_moment.later.honest in
-    let here = λ (honest : IsHonest (g.D.Disk.moment c.read_files.new.disk)). subst (λ (l : List Pair). GatheredSoFar f image m l (filed_in before)) (sym whole) (c.loop-rest.invariant.0 (after honest)) in
+    let here = λ (honest : IsHonest (g.D.Disk.moment c.read_files.new.disk)). subst (λ (l : List Pair). GatheredSoFar upto image m l (filed_in before)) (sym whole) (c.loop-rest.invariant.0 (after honest)) in
     let same = same_image g.D.Disk c.args.disk.now c.loop-rest.disk c.loop-rest.invariant.1.rest.content in
-    let read = λ (honest : IsHonest (g.D.Disk.moment c.read_files.new.disk)). c.deref.ensures.value ∙ c.in-Ok.ensures.bytes honest ∙ ap (λ (i : Image). map (bytes_of f i) ps) same in
+    let read = λ (honest : IsHonest (g.D.Disk.moment c.read_files.new.disk)). c.deref.ensures.value ∙ c.in-Ok.ensures.bytes honest ∙ ap (λ (i : Image). map (bytes_of upto i) ps) same in
     let found = rw c.in-Some.is at c.in-Ok-parts_of.ensures.parts in
     let parts : List Part = c.in-Some.parts.items in
-    let are = λ (honest : IsHonest (g.D.Disk.moment c.read_files.new.disk)). subst (λ (bs : List PairBytes). AllZip (IsPart f) bs parts) (read honest) found in
-    let more = λ (honest : IsHonest (g.D.Disk.moment c.read_files.new.disk)). more_gathered f image m c.pairs-rest.ensures.manifest ps qs parts (filed_in before) (here honest) (are honest) in
+    let are = λ (honest : IsHonest (g.D.Disk.moment c.read_files.new.disk)). subst (λ (bs : List PairBytes). AllZip (IsPart upto) bs parts) (read honest) found in
+    let more = λ (honest : IsHonest (g.D.Disk.moment c.read_files.new.disk)). more_gathered upto image m c.pairs-rest.ensures.manifest ps qs parts (filed_in before) (here honest) (are honest) in
     let all_is = more_in before parts c.add_parts.new.all.items c.in_ok-add_parts.ensures in
     let fit = all_parts HasFiles ps qs (subst (λ (l : List Pair). AllByRecursion HasFiles l) (sym whole) c.loop-rest.invariant.2) in
     let pairs_are = ap (λ (bs : List PairBytes). map (λ b. b.pair) bs) c.deref.ensures.value ∙ c.in-Ok.ensures.pairs in
-    let small = small_parts f c.deref.result.now parts (subst (λ (l : List Pair). AllByRecursion HasFiles l) (sym pairs_are) fit.0) found in (
-      λ honest. subst (λ (l : List Filed). GatheredSoFar f image m qs l) all_is (more honest),
+    let small = small_parts upto c.deref.result.now parts (subst (λ (l : List Pair). AllByRecursion HasFiles l) (sym pairs_are) fit.0) found in (
+      λ honest. subst (λ (l : List Filed). GatheredSoFar upto image m qs l) all_is (more honest),
       then_unchanged g.D.Disk c.args.disk.now c.loop-rest.disk c.read_files.new.disk c.loop-rest.invariant.1
           (record { rest = c.in-Ok.ensures.read.rest; any_moment = c.in-Ok.ensures.read.any_moment; count = c.in-Ok.ensures.read.count }),
       fit.1,
@@ -77,8 +77,8 @@ read_files-requires-clause-pairs g c =
 
 pub returns-clause-gathered : goal.returns-clause-gathered
 returns-clause-gathered g c = λ honest.
-    let f = c.args.format in
+    let upto = c.args.upto in
     let image = g.D.Disk.content c.args.disk.now in
     let m = c.args.manifest.now in
     let all : List Filed = filed_in c.loop-rest.all.items in
-    all_gathered f image m all (subst (λ (l : List Pair). GatheredSoFar f image m l all) (none_left c.loop-rest.rest.now (is_none (length c.loop-rest.rest.now) (sym c.loop-rest-test.false ∙ c.is_empty.ensures))) (c.loop-rest.invariant.0 honest))
+    all_gathered upto image m all (subst (λ (l : List Pair). GatheredSoFar upto image m l all) (none_left c.loop-rest.rest.now (is_none (length c.loop-rest.rest.now) (sym c.loop-rest-test.false ∙ c.is_empty.ensures))) (c.loop-rest.invariant.0 honest))

@@ -35,4 +35,4 @@ pub returns-clause-keeps : goal.returns-clause-keeps
 returns-clause-keeps g c = install_beside (g.D.Disk.content c.args.old.now) (g.D.Disk.may_leave c.args.old.now)
 
 pub returns-clause-runs : goal.returns-clause-runs
-returns-clause-runs g c f = runs_keep g.D.Disk.moment g.D.Disk.left_since g.D.Disk.content g.D.Disk.may_leave f g.met.D.Disk.only_now
+returns-clause-runs g c = runs_keep g.D.Disk.moment g.D.Disk.left_since g.D.Disk.content g.D.Disk.may_leave g.met.D.Disk.only_now
