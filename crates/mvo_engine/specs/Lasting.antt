@@ -36,10 +36,10 @@ pub record WasNotFlushed {D : Type 0} (d : Ghosts D) (e : Refusal) : Type 0 wher
 
 -- what a session is refused that makes its own commits durable, up to the stamp
 pub data IsNotMadeDurable {D : Type 0} (d : Ghosts D) (o : Opening) (stamp : ℕ) (e : Refusal)
-  : Type 0 where
-    AboveClock : e ≡ NothingToDo → WasAboveClock o stamp → IsNotMadeDurable d o stamp e
-    AtClosing : WasNotClosed e → IsNotMadeDurable d o stamp e
-    AtFlushing : WasNotFlushed d e → IsNotMadeDurable d o stamp e
+    : Type 0 where
+  AboveClock : e ≡ NothingToDo → WasAboveClock o stamp → IsNotMadeDurable d o stamp e
+  AtClosing : WasNotClosed e → IsNotMadeDurable d o stamp e
+  AtFlushing : WasNotFlushed d e → IsNotMadeDurable d o stamp e
 
 -- what one is refused that waits, and has seen commits to be durable up to there
 pub data IsNotAwaited {D : Type 0} (d : Ghosts D) (o : Opening) (seen : ℕ) (e : Refusal) : Type 0

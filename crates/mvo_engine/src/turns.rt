@@ -68,7 +68,8 @@ impl Turns {
     pub fn take<R: Wait>(&self, rt: &R) -> Turn<'_> {
         let heard = self.bell.heard();
         if self.waiting.load(Ordering::SeqCst) != 0 {
-            self.bell.sleep_up_to(rt, heard, Duration::from_millis(A_MOMENT));
+            self.bell
+                .sleep_up_to(rt, heard, Duration::from_millis(A_MOMENT));
         }
         Turn::new(self, self.in_group.lock(rt))
     }
@@ -78,7 +79,8 @@ impl Turns {
     pub fn stand_back<R: Wait>(&self, rt: &R) {
         let heard = self.bell.heard();
         if self.taken.load(Ordering::SeqCst) != 0 {
-            self.bell.sleep_up_to(rt, heard, Duration::from_millis(A_MOMENT));
+            self.bell
+                .sleep_up_to(rt, heard, Duration::from_millis(A_MOMENT));
         }
     }
 
@@ -104,7 +106,8 @@ impl Turns {
 
     /// The same, for a moment at most.
     pub fn doze<R: Wait>(&self, rt: &R, heard: u32) {
-        self.bell.sleep_up_to(rt, heard, Duration::from_millis(A_MOMENT));
+        self.bell
+            .sleep_up_to(rt, heard, Duration::from_millis(A_MOMENT));
     }
 
     /// Wakes all who sleep.

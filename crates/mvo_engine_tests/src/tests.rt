@@ -5,6 +5,7 @@ mod counting;
 mod day;
 mod depending;
 mod down;
+mod durable;
 mod ending;
 mod gathering;
 mod held_disk;

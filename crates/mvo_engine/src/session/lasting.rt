@@ -151,12 +151,7 @@ impl<'e, L: Run, D: Disk, G: Gate + Drop> Session<'e, L, D, G> {
 
     // Polls so many times, and looks under the lock of the store. Whether the stamp is durable. So
     // many flushes had been refused when it began to wait.
-    fn wait_some<R: Wait>(
-        &mut self,
-        rt: &R,
-        stamp: Stamp,
-        refusals: u64,
-    ) -> Result<bool, Refusal>
+    fn wait_some<R: Wait>(&mut self, rt: &R, stamp: Stamp, refusals: u64) -> Result<bool, Refusal>
         ensures ok { IfOk result (λ yes. IsTrue yes → stamp.0 ≤ self.new.durable) }
         ensures err { IfErr result (IsNotAwaited D.Disk L.opening self.new.durable) }
         ensures rest { self.new ≡ record self.old { durable = self.new.durable } }
