@@ -28,11 +28,21 @@ impl<L: Run, D: Disk, G: Gate + Drop> Engine<L, D, G> {
         }
     }
 
+    // Waits until nobody has the store, as who flushes by hand: what is committed until then comes
+    // into the group that is closed next.
+    pub(crate) fn await_store<R: Wait>(&self, rt: &R) {
+        drop(self.enter_store(rt));
+    }
+
     // A step of a flush (`StoreGuard::flush_one`), by who has the turn.
     pub(crate) fn flush_next<R: Wait>(&self, rt: &R) -> Result<bool, Refusal>
         ensures { IfErr result (WasNotFlushed D.Disk) }
     {
-        self.guard_store(rt).flush_one()
+        let mut store = self.guard_store(rt);
+        match store.flush_one() {
+            Ok(is_flushed) => Ok(is_flushed),
+            Err(refusal) => Err(refusal),
+        }
     }
 
     // What keeps commits from being durable: the store is down; or, where a flush was refused

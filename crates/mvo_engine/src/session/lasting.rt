@@ -78,6 +78,10 @@ impl<'e, L: Run, D: Disk, G: Gate + Drop> Session<'e, L, D, G> {
             return Ok(true);
         }
         turn.let_others_ask();
+        self.engine.await_store(rt);
+        if self.poll_durable(stamp) {
+            return Ok(true);
+        }
         match self.close_up_to(rt, &mut turn, stamp) {
             Ok(()) => {}
             Err(refusal) => return Err(refusal),
