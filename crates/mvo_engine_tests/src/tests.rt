@@ -1,6 +1,7 @@
 mod asking;
 mod beside;
 mod calls;
+mod counted_disk;
 mod counting;
 mod day;
 mod depending;
@@ -11,6 +12,7 @@ mod gathering;
 mod held_disk;
 mod jobs;
 mod lasting;
+mod letting_by;
 mod meeting;
 mod reads_free;
 mod rows;

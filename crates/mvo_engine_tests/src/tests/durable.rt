@@ -2,10 +2,11 @@
 //! wait together are told.
 ghost use Rattle.mvo_engine.specs.Opened.{IsNamedBy};
 
+use super::counted_disk::Counted;
 use super::turns::has_come;
 use super::{SEED, formatted};
 use crate::equal::{holds, same};
-use mvo_disk::{Disk, DiskFault, MemDisk};
+use mvo_disk::{Disk, MemDisk};
 use mvo_engine::{Engine, Fresh, OpenGate, Run, Session};
 use mvo_types::{Refusal, Row, RowKey, Stamp};
 use std::alloc::{AllocError, Global};
@@ -31,58 +32,6 @@ const SOME: u64 = 500;
 const FIRST: u64 = 1000;
 
 const LAST: u64 = 1_000_000;
-
-/// A disk whose syncs are counted.
-#[derive(Drop)]
-struct Counted<'s, D: Disk> {
-    disk: D,
-    syncs: &'s AtomicU64,
-}
-
-impl<'s, D: Disk> Disk for Counted<'s, D> {
-    ghost content = { λ d. D.content d.disk };
-
-    ghost may_leave = { λ d. D.may_leave d.disk };
-
-    ghost moment = { λ d. D.moment d.disk };
-
-    ghost left_since = { λ d. D.left_since d.disk };
-
-    ghost fault_count = { λ d. D.fault_count d.disk };
-
-    ghost content_may_stay = { λ d n. D.content_may_stay d.disk n };
-
-    ghost counts_now = { λ d t image le all. D.counts_now d.disk t image le all };
-
-    ghost only_now = { λ d image left. D.only_now d.disk image left };
-
-    ghost counts_later = { λ d t u image le left. D.counts_later d.disk t u image le left };
-
-    fn len(&mut self, file: u16) -> Result<usize, DiskFault> {
-        self.disk.len(file)
-    }
-
-    fn read_at(&mut self, file: u16, at: usize, into: &mut [u8]) -> Result<(), DiskFault> {
-        self.disk.read_at(file, at, into)
-    }
-
-    fn write_at(&mut self, file: u16, at: usize, bytes: &[u8]) -> Result<(), DiskFault> {
-        self.disk.write_at(file, at, bytes)
-    }
-
-    fn cut(&mut self, file: u16, len: usize) -> Result<(), DiskFault> {
-        self.disk.cut(file, len)
-    }
-
-    fn sync(&mut self, file: u16) -> Result<(), DiskFault> {
-        self.syncs.fetch_add(1, Ordering::SeqCst);
-        self.disk.sync(file)
-    }
-
-    fn faults(&self) -> u64 {
-        self.disk.faults()
-    }
-}
 
 /// What is done with an engine.
 #[derive(Clone, Copy)]
