@@ -1,5 +1,5 @@
 -- What keeps a session's commits from being durable.
-use Rattle.std.specs.Prelude.{◌≡◌, ◌<◌, ℕ, false, Result, Err}
+use Rattle.std.specs.Prelude.{◌≡◌, ◌<◌, ℕ, false, Err}
 use Rattle.mvo_types.specs.declared.refusal.Refusal.{Refusal}
 use Rattle.mvo_types.specs.declared.refusal.Refusal.TheVariants.{NothingToDo, Down}
 use Rattle.mvo_disk.specs.declared.disk.Disk.{Ghosts}

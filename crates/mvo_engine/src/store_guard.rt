@@ -127,9 +127,7 @@ impl<'e, L: Run, D: Disk> StoreGuard<'e, L, D> {
         ensures flushed { IsFlushOfOne self.old result self.new }
     {
         let came = turn(self);
-        if came.is_err() {
-            self.turns.note_refusal();
-        }
+        self.turns.note(came.is_err());
         came
     }
 }

@@ -27,8 +27,8 @@ pub struct Turns {
     waiting: AtomicU64,
     /// How many turns are taken now: one, or none.
     taken: AtomicU64,
-    /// How many flushes were refused so far.
-    refusals: AtomicU64,
+    /// 1 where the last step of a flush was refused, and else 0.
+    refused: AtomicU64,
     bell: Bell,
 }
 
@@ -39,7 +39,7 @@ impl Turns {
             asked: AtomicU64::new(0),
             waiting: AtomicU64::new(0),
             taken: AtomicU64::new(0),
-            refusals: AtomicU64::new(0),
+            refused: AtomicU64::new(0),
             bell: Bell::new(),
         }
     }
@@ -84,14 +84,14 @@ impl Turns {
         }
     }
 
-    /// A flush was refused.
-    pub fn note_refusal(&self) {
-        self.refusals.fetch_add(1, Ordering::SeqCst);
+    /// A step of a flush was refused, or it wasn't. It is noted with the store's lock held.
+    pub fn note(&self, was_refused: bool) {
+        self.refused.store(u64::from(was_refused), Ordering::SeqCst);
     }
 
-    /// How many flushes were refused so far.
-    pub fn refusals(&self) -> u64 {
-        self.refusals.load(Ordering::SeqCst)
+    /// Whether the last step of a flush was refused.
+    pub fn was_refused(&self) -> bool {
+        self.refused.load(Ordering::SeqCst) != 0
     }
 
     /// What a sleep compares (`Bell::heard`).

@@ -45,14 +45,9 @@ impl<L: Run, D: Disk, G: Gate + Drop> Engine<L, D, G> {
         }
     }
 
-    // What keeps commits from being durable: the store is down; or, where a flush was refused
-    // meanwhile, another is too.
-    pub(crate) fn look<R: Wait>(
-        &self,
-        rt: &R,
-        seat: &mut Seat,
-        was_refused: bool,
-    ) -> Result<(), Refusal>
+    // What keeps commits from being durable: the store is down; or, where the last step of a flush
+    // was refused, another is too.
+    pub(crate) fn look<R: Wait>(&self, rt: &R, seat: &mut Seat) -> Result<(), Refusal>
         requires { seat.old.marks ≡ L.marks }
         ensures err { IfErr result (IsNotAwaited D.Disk L.opening seat.old.known.durable) }
         ensures seat { seat.new ≡ seat.old }
@@ -60,7 +55,7 @@ impl<L: Run, D: Disk, G: Gate + Drop> Engine<L, D, G> {
         if self.is_down(rt, seat) {
             return Err(Refusal::Down);
         }
-        if !was_refused {
+        if !self.turns.was_refused() {
             return Ok(());
         }
         match self.flush_next(rt) {

@@ -135,16 +135,15 @@ impl<'e, L: Run, D: Disk, G: Gate + Drop> Session<'e, L, D, G> {
     /// sleeps, a moment at most, and at each 64th it looks under the lock of the store.
     ///
     /// Refused with Down where the store is down, at a mark at least what the session has seen.
-    /// Where a flush was refused while it waited, it makes a step of one itself, and is refused as
-    /// that is: DiskFault, OutOfMemory, ClockSpent, SegmentsFull, and Busy beside a job.
+    /// Where the last step of a flush was refused, it makes one itself, and is refused as that is:
+    /// DiskFault, OutOfMemory, ClockSpent, SegmentsFull, and Busy beside a job.
     pub fn wait_durable<R: Wait>(&mut self, rt: &R, stamp: Stamp) -> Result<(), Refusal>
         ensures ok { OnOk result (stamp.0 ≤ self.new.durable) }
         ensures err { IfErr result (IsNotAwaited D.Disk L.opening self.new.durable) }
         ensures rest { self.new ≡ record self.old { durable = self.new.durable } }
     {
-        let refusals = self.engine.turns().refusals();
         for _ in rt.forever() {
-            match self.wait_some(rt, stamp, refusals) {
+            match self.wait_some(rt, stamp) {
                 Ok(true) => return Ok(()),
                 Ok(false) => {}
                 Err(refusal) => return Err(refusal),
@@ -153,9 +152,8 @@ impl<'e, L: Run, D: Disk, G: Gate + Drop> Session<'e, L, D, G> {
         unreachable!()
     }
 
-    // Polls so many times, and looks under the lock of the store. Whether the stamp is durable. So
-    // many flushes had been refused when it began to wait.
-    fn wait_some<R: Wait>(&mut self, rt: &R, stamp: Stamp, refusals: u64) -> Result<bool, Refusal>
+    // Polls so many times, and looks under the lock of the store. Whether the stamp is durable.
+    fn wait_some<R: Wait>(&mut self, rt: &R, stamp: Stamp) -> Result<bool, Refusal>
         ensures ok { IfOk result (λ yes. IsTrue yes → stamp.0 ≤ self.new.durable) }
         ensures err { IfErr result (IsNotAwaited D.Disk L.opening self.new.durable) }
         ensures rest { self.new ≡ record self.old { durable = self.new.durable } }
@@ -168,8 +166,7 @@ impl<'e, L: Run, D: Disk, G: Gate + Drop> Session<'e, L, D, G> {
             }
             turns.doze(rt, heard);
         }
-        let was_refused = turns.refusals() != refusals;
-        match self.engine.look(rt, &mut self.seat, was_refused) {
+        match self.engine.look(rt, &mut self.seat) {
             Ok(()) => Ok(false),
             Err(refusal) => Err(refusal),
         }

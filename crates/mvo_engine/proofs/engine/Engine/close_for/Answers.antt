@@ -10,6 +10,6 @@ returns-then-lt g c = AboveClock refl (record {
   above = first_of (grind (arith, c.if-lt.true, c.lt.ensures, c.clock.ensures.value), search rules);
 })
 
-pub returns-in-Err : goal.returns-in-Err
-returns-in-Err g c =
+pub returns : goal.returns
+returns g c =
     AtClosing (not_closed c.deref_mut.result.now c.close_group.new.self c.close_group.result c.in-Err.refusal c.in-Err.is c.close_group.ensures (λ is. grind arith) (λ is. grind arith))
