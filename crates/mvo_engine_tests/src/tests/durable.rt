@@ -15,7 +15,7 @@ use std::process::Abort;
 use std::sync::Wait;
 use std::sync::atomic::{AtomicU64, Ordering};
 use std::test::*;
-use std::thread::{Threads, join, map_indices, yield_now};
+use std::thread::{Threads, map_indices};
 
 /// So many sessions wait together, each in a thread.
 const WAITERS: usize = 8;
@@ -26,11 +26,12 @@ const COMMITS: u64 = 100;
 /// So many commits each of several sessions makes durable beside the jobs.
 const BESIDE: u64 = 20;
 
-/// So many commits at a time fill the log, from a key far above the others.
-const SOME: u64 = 500;
+/// So many rows at a time fill the log, at keys above these.
+const SOME: u64 = 250;
 
 const FIRST: u64 = 1000;
 
+/// A key far above the others.
 const LAST: u64 = 1_000_000;
 
 /// What is done with an engine.
@@ -269,18 +270,18 @@ fn fill_log<L: Run, D: Disk, R: Wait>(
     Err(Refusal::NothingToDo)
 }
 
-/// So many commits at a time, which fill half a megabyte of the log.
+/// So many rows in one transaction, which fill a quarter of a megabyte of the log.
 fn commit_some<L: Run, D: Disk, R: Wait>(
     rt: &R,
     alloc: Global,
     session: &mut Session<'_, L, D, OpenGate>,
     first: u64,
 ) -> Result<Stamp, Refusal> {
-    let mut end = Stamp(0);
-    for number in 0..SOME {
-        end = commit(rt, alloc, session, first.wrapping_add(number), 1024)?;
+    session.begin_tx(rt)?;
+    for number in first..first.saturating_add(SOME) {
+        session.insert(rt, row(alloc, number, 1024)?)?;
     }
-    Ok(end)
+    session.commit_tx(rt)
 }
 
 /// Fills the last segment too.
@@ -289,8 +290,8 @@ fn fill_segment<L: Run, D: Disk, R: Wait>(
     alloc: Global,
     session: &mut Session<'_, L, D, OpenGate>,
 ) -> Result<(), Refusal> {
-    for turn in 1..200u64 {
-        let end = commit_some(rt, alloc, session, FIRST.wrapping_mul(turn))?;
+    for turn in 8..400u64 {
+        let end = commit_some(rt, alloc, session, turn * SOME)?;
         match session.make_durable(rt, end) {
             Ok(()) => {}
             Err(Refusal::SegmentsFull) => return Ok(()),
@@ -300,7 +301,7 @@ fn fill_segment<L: Run, D: Disk, R: Wait>(
     Err(Refusal::NothingToDo)
 }
 
-/// Each who waits is told that the log is full, and so is who leaves the flushes to another.
+/// Each who waits is told that the log is full, and so is who leaves the flushes to others.
 fn full<L: Run + Send + Sync, D: Disk + Send, R: Abort + Threads + Wait + Sync>(
     rt: &R,
     alloc: Global,
@@ -313,51 +314,12 @@ fn full<L: Run + Send + Sync, D: Disk + Send, R: Abort + Threads + Wait + Sync>(
         same(rt, &told, &Err(Refusal::SegmentsFull));
     }
     let end = commit(rt, alloc, &mut session, LAST, 1)?;
-    let told = wait_beside(rt, engine, &mut session, end);
-    same(rt, &told, &Err(Refusal::SegmentsFull));
-    Ok(())
-}
-
-/// What a session is told that waits, beside one that flushes and flushes.
-fn wait_beside<L: Run + Send + Sync, D: Disk + Send, R: Threads + Wait + Sync>(
-    rt: &R,
-    engine: &Engine<L, D, OpenGate>,
-    session: &mut Session<'_, L, D, OpenGate>,
-    end: Stamp,
-) -> Result<(), Refusal> {
-    let ended = AtomicU64::new(0);
-    let (told, _) = join(
+    same(
         rt,
-        || await_end(rt, session, end, &ended),
-        || flush_until(rt, engine, &ended),
+        &session.wait_durable(rt, end),
+        &Err(Refusal::SegmentsFull),
     );
-    told
-}
-
-fn await_end<L: Run, D: Disk, R: Wait>(
-    rt: &R,
-    session: &mut Session<'_, L, D, OpenGate>,
-    end: Stamp,
-    ended: &AtomicU64,
-) -> Result<(), Refusal> {
-    let told = session.wait_durable(rt, end);
-    ended.store(1, Ordering::SeqCst);
-    told
-}
-
-/// Flushes, whatever that is refused, until the other has ended.
-fn flush_until<L: Run, D: Disk, R: Wait>(
-    rt: &R,
-    engine: &Engine<L, D, OpenGate>,
-    ended: &AtomicU64,
-) {
-    for _ in rt.forever() {
-        if ended.load(Ordering::SeqCst) != 0 {
-            return;
-        }
-        let _ = engine.flush(rt);
-        yield_now();
-    }
+    Ok(())
 }
 
 fn go<L: Run + Send + Sync, D: Disk + Drop + Send, R: Abort + Threads + Wait + Sync>(
