@@ -1,4 +1,4 @@
-//! Durable commits of many sessions of one engine, with one thread that flushes.
+//! Durable commits of many sessions of one engine, which flush themselves.
 ghost use Rattle.mvo_engine.specs.Opened.{IsNamedBy};
 
 use anyhow::{Result, bail};
@@ -8,7 +8,6 @@ use mvo_types::{Refusal, Row, RowKey, Stamp};
 use std::alloc::{AllocError, Global};
 use std::marker::Brand;
 use std::sync::Wait;
-use std::sync::atomic::{AtomicUsize, Ordering};
 use std::thread;
 use std::thread::Threads;
 
@@ -16,7 +15,7 @@ use std::thread::Threads;
 const SEED: u64 = 7;
 
 /// So many sessions over the store on the disk, each of which commits a transaction of one row of
-/// 100 bytes and waits until it is durable, so many times. Answers the mark at the end.
+/// 100 bytes and makes it durable, so many times. Answers the mark at the end.
 pub fn run<D: Disk + Drop + Send, R: Threads + Wait + Sync>(
     rt: &R,
     alloc: Global,
@@ -46,55 +45,18 @@ fn run_in<L: Run + Send + Sync, D: Disk + Drop + Send, R: Threads + Wait + Sync>
 {
     let engine = Engine::<L, D, OpenGate>::new(fresh, OpenGate);
     let shared = &engine;
-    let ended = AtomicUsize::new(0);
-    let (flushed, done) = thread::join(
+    for one in thread::map_indices(
         rt,
-        || flush_until(rt, shared, &ended, sessions),
-        || {
-            thread::map_indices(
-                rt,
-                alloc,
-                sessions,
-                &|session| work(rt, alloc, shared, &ended, session, commits),
-            )
-        },
-    );
-    for one in done? {
+        alloc,
+        sessions,
+        &|session| commit_all(rt, alloc, shared, session, commits),
+    )? {
         one?;
     }
-    flushed
-}
-
-/// Flushes until so many sessions have ended.
-fn flush_until<L: Run, D: Disk, R: Wait>(
-    rt: &R,
-    engine: &Engine<L, D, OpenGate>,
-    ended: &AtomicUsize,
-    sessions: usize,
-) -> Result<Stamp, Refusal> {
-    for _ in rt.forever() {
-        let mark = engine.flush(rt)?;
-        if ended.load(Ordering::SeqCst) >= sessions {
-            return Ok(mark);
-        }
-    }
-    unreachable!()
+    engine.flush(rt)
 }
 
 /// The commits of one session.
-fn work<L: Run, D: Disk, R: Wait>(
-    rt: &R,
-    alloc: Global,
-    engine: &Engine<L, D, OpenGate>,
-    ended: &AtomicUsize,
-    session: usize,
-    commits: u64,
-) -> Result<(), Refusal> {
-    let result = commit_all(rt, alloc, engine, session, commits);
-    ended.fetch_add(1, Ordering::SeqCst);
-    result
-}
-
 fn commit_all<L: Run, D: Disk, R: Wait>(
     rt: &R,
     alloc: Global,
@@ -106,7 +68,7 @@ fn commit_all<L: Run, D: Disk, R: Wait>(
     let mut session = engine.session(rt)?;
     for number in 0..commits {
         let end = commit_one(rt, alloc, &mut session, first.wrapping_add(number))?;
-        session.wait_durable(rt, end)?;
+        session.make_durable(rt, end)?;
     }
     Ok(())
 }

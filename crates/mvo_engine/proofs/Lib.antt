@@ -13,5 +13,6 @@ pub mod Flushed
 pub mod Forgetting
 pub mod Pouring
 pub mod Retiring
+pub mod Lasting
 mod Refused
 mod Transacting

@@ -8,6 +8,7 @@ pub mod Calls
 pub mod Legal
 pub mod Jobs
 pub mod Flushing
+pub mod Lasting
 pub mod Collecting
 pub mod Booked
 pub mod Stored

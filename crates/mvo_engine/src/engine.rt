@@ -1,5 +1,6 @@
 mod call_by_call;
 mod jobs;
+mod leading;
 mod retiring;
 
 ghost use Rattle.std.specs.Prelude.{◌≡◌};
@@ -17,6 +18,7 @@ use crate::seen_durable::SeenDurable;
 use crate::sends::Sends;
 use crate::session::Session;
 use crate::store_guard::StoreGuard;
+use crate::turns::Turns;
 use mvo_disk::Disk;
 use mvo_marks::{Marks, Seat};
 use mvo_types::{Refusal, Stamp};
@@ -31,7 +33,7 @@ const TRIES: u32 = 256;
 const AT_ONCE: u64 = 128;
 
 /// A store of rows that many threads share: one lock round the core, one round the store, and the
-/// marks beside them.
+/// marks beside them. The turn (`Turns`) says who flushes next for all who wait.
 ///
 /// No step under the lock of the core touches the disk, and asking what is durable takes no lock.
 /// The locks keep what `LockedCore` and `LockedStore` say. It is made of what `Fresh::open` gives.
@@ -40,6 +42,7 @@ pub struct Engine<L: Run, D: Disk, G: Gate + Drop> {
     marks: Marks,
     core: Mutex<LockedCore<L>>,
     store: Mutex<LockedStore<L, D>>,
+    turns: Turns,
     ghost named: { marks ≡ L.marks },
 }
 
@@ -50,6 +53,7 @@ impl<L: Run, D: Disk + Drop, G: Gate + Drop> Drop for Engine<L, D, G> {
             marks: _,
             core: _,
             store: _,
+            turns: _,
         } = self;
     }
 }
@@ -87,6 +91,7 @@ impl<L: Run, D: Disk, G: Gate + Drop> Engine<L, D, G> {
             marks,
             core: Mutex::new(LockedCore::new(alloc, core, sends, ledger)),
             store: Mutex::new(LockedStore::new(store, consumer, publisher)),
+            turns: Turns::new(),
         }
     }
 
@@ -169,9 +174,16 @@ impl<L: Run, D: Disk, G: Gate + Drop> Engine<L, D, G> {
         CoreGuard::new(self.enter_core(rt))
     }
 
-    /// The lock of the store, taken.
+    /// The lock of the store, taken. Who makes commits durable for others, or makes a step of a job
+    /// (`make_durable`, `checkpoint`), is let by for a moment first.
     pub fn lock_store<R: Wait>(&self, rt: &R) -> StoreGuard<'_, L, D> {
-        StoreGuard::new(self.enter_store(rt), &self.marks)
+        self.turns.stand_back(rt);
+        self.guard_store(rt)
+    }
+
+    // The same, for who has the turn or is let by.
+    fn guard_store<R: Wait>(&self, rt: &R) -> StoreGuard<'_, L, D> {
+        StoreGuard::new(self.enter_store(rt), &self.marks, &self.turns)
     }
 
     /// What is known with both locks: the groups that were received are a beginning of those that
@@ -200,6 +212,7 @@ impl<L: Run, D: Disk, G: Gate + Drop> Engine<L, D, G> {
             marks,
             core,
             store,
+            turns: _,
         } = self;
         let mut store = store.into_inner();
         confirm_all(&marks, &mut store, seen);
@@ -232,6 +245,11 @@ impl<L: Run, D: Disk, G: Gate + Drop> Engine<L, D, G> {
         ensures seat { seat.new ≡ seat.old }
     {
         self.enter_store(rt).is_down(&self.marks, seat)
+    }
+
+    // Who flushes next, and where the others sleep.
+    pub(crate) fn turns(&self) -> &Turns {
+        &self.turns
     }
 
     // The marks.

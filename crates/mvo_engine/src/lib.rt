@@ -2,6 +2,7 @@
 //! groups between them, and marks that are asked without a lock.
 #![tactic(auto)]
 
+mod bell;
 mod chain;
 mod core_guard;
 mod counts;
@@ -19,6 +20,7 @@ mod sends;
 mod session;
 mod store_guard;
 mod transaction;
+mod turns;
 
 pub use chain::Chain;
 pub use core_guard::CoreGuard;

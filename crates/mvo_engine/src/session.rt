@@ -1,5 +1,6 @@
 mod committing;
 mod forgetting;
+mod lasting;
 mod operating;
 mod transacting;
 
@@ -11,10 +12,9 @@ use crate::run::{Receipt, Receipts, Run, Told};
 use crate::seen_durable::SeenDurable;
 use mvo_disk::Disk;
 use mvo_marks::Seat;
-use mvo_types::{Refusal, Stamp, TxId};
+use mvo_types::{Stamp, TxId};
 use std::marker::Model;
 use std::sync::{MutexGuard, Wait};
-use std::thread;
 
 /// One caller of an engine, in one thread at a time. It has one transaction at a time, and keeps a
 /// receipt of each that it committed, until its end isn't above the start of the tale. A session
@@ -61,11 +61,9 @@ impl<'e, L: Run, D: Disk, G: Gate + Drop> Model for Session<'e, L, D, G> {
 }
 
 impl<'e, L: Run, D: Disk, G: Gate + Drop> Session<'e, L, D, G> {
-    ghost use Rattle.std.specs.Prelude.{◌≡◌, ◌≤◌, None, IsTrue, OnOk, IfErr};
+    ghost use Rattle.std.specs.Prelude.{◌≡◌, ◌≤◌, None, IsTrue};
     ghost use Rattle.std.specs.Option.{is_some};
-    ghost use Rattle.mvo_types.specs.declared.refusal.Refusal.{Refusal};
     ghost use Rattle.mvo_store.specs.Seen.{mark_of};
-    ghost use Rattle.mvo_engine.specs.Asked.{WasDown};
     ghost use Rattle.mvo_engine.specs.run.Receiving.{Rises};
 
     pub(crate) fn new(
@@ -142,27 +140,6 @@ impl<'e, L: Run, D: Disk, G: Gate + Drop> Session<'e, L, D, G> {
         ensures session { self.new ≡ self.old }
     {
         SeenDurable::new(self.engine.marks().split(&mut self.seat))
-    }
-
-    /// Waits until all commits that end up to the stamp are on the disk: until another thread, or
-    /// this one before the call, has flushed them. Refused with Down where the store is down, at a
-    /// mark at least what the session has seen.
-    pub fn wait_durable<R: Wait>(&mut self, rt: &R, stamp: Stamp) -> Result<(), Refusal>
-        ensures ok { OnOk result (stamp.0 ≤ self.new.durable) }
-        ensures err { IfErr result (λ r. r ≡ Refusal.Down) }
-        ensures down { IfErr result (λ _. WasDown D.Disk L.opening self.new.durable) }
-        ensures rest { self.new ≡ record self.old { durable = self.new.durable } }
-    {
-        for _ in rt.forever() {
-            if self.poll_durable(stamp) {
-                return Ok(());
-            }
-            if self.engine.is_down(rt, &mut self.seat) {
-                return Err(Refusal::Down);
-            }
-            thread::yield_now();
-        }
-        unreachable!()
     }
 
     // What it has seen of the durable mark is at most the store's mark.

@@ -4,6 +4,7 @@ use crate::gate::Gate;
 use crate::locked_store::LockedStore;
 use crate::run::Run;
 use crate::session::Session;
+use crate::turns::Turns;
 use mvo_disk::Disk;
 use mvo_marks::Marks;
 use mvo_store::{Done, Log, Manifest, StoreCall, StoreCaller, turn};
@@ -12,12 +13,24 @@ use std::marker::Model;
 use std::sync::MutexGuard;
 
 /// The lock of the store, taken. It lends the calls of the store: those of the log, of each job,
-/// and the reclaiming of files.
-#[derive(Drop)]
+/// and the reclaiming of files. Given back, it wakes those who wait for the disk.
 pub struct StoreGuard<'e, L: Run, D: Disk> {
     pub(crate) held: MutexGuard<'e, LockedStore<L, D>>,
     marks: &'e Marks,
+    turns: &'e Turns,
     ghost named: { marks.now ≡ L.marks },
+}
+
+impl<'e, L: Run, D: Disk> Drop for StoreGuard<'e, L, D> {
+    fn drop(self) {
+        let StoreGuard {
+            held,
+            marks: _,
+            turns,
+        } = self;
+        drop(held);
+        turns.ring();
+    }
 }
 
 impl<'e, L: Run, D: Disk> Model for StoreGuard<'e, L, D> {
@@ -45,10 +58,11 @@ impl<'e, L: Run, D: Disk> StoreGuard<'e, L, D> {
     pub(crate) fn new(
         held: MutexGuard<'e, LockedStore<L, D>>,
         marks: &'e Marks,
+        turns: &'e Turns,
     ) -> StoreGuard<'e, L, D>
         requires { marks.now ≡ L.marks }
     {
-        StoreGuard { held, marks }
+        StoreGuard { held, marks, turns }
     }
 
     /// The mark of the last group that is durable, or the one that the store opened at. Each image
@@ -112,7 +126,9 @@ impl<'e, L: Run, D: Disk> StoreGuard<'e, L, D> {
         ensures steps { IsTurn (IsTaking D.Disk) (IsLockedCall D.Disk) self.old result self.new }
         ensures flushed { IsFlushOfOne self.old result self.new }
     {
-        turn(self)
+        let came = turn(self);
+        self.turns.note(came.is_err());
+        came
     }
 }
 

@@ -7,7 +7,8 @@ use mvo_types::Refusal;
 use std::marker::Model;
 use std::sync::Wait;
 
-/// The store of an engine, whose lock is taken anew for each call: others may call in between.
+/// The store of an engine, whose lock is taken anew for each call, in a turn of its own: others may
+/// call in between, and those who wait for their commits are let by.
 /// Contracts see nothing of it.
 #[derive(Drop)]
 pub struct CallByCall<'a, L: Run, D: Disk, G: Gate + Drop, R: Wait> {
@@ -27,6 +28,6 @@ impl<'a, L: Run, D: Disk, G: Gate + Drop, R: Wait> StoreCaller for CallByCall<'a
     ghost comes_to = { IsCallAlone D.Disk };
 
     fn call(&mut self, call: StoreCall) -> Result<Done, Refusal> {
-        self.engine.lock_store(self.rt).call(call)
+        self.engine.call_in_turn(self.rt, call)
     }
 }

@@ -7,7 +7,7 @@ use super::call_by_call::CallByCall;
 use crate::gate::Gate;
 use crate::run::Run;
 use mvo_disk::Disk;
-use mvo_store::{Done, Generation, run_checkpoint, run_merge, run_rotation};
+use mvo_store::{Done, Generation, StoreCall, run_checkpoint, run_merge, run_rotation};
 use mvo_types::Refusal;
 use std::sync::Wait;
 
@@ -16,8 +16,9 @@ impl<L: Run, D: Disk, G: Gate + Drop> Engine<L, D, G> {
     ghost use Rattle.mvo_engine.specs.Jobs.{IsCallAlone, told_of};
 
     /// All steps of a rotation of the log, from the fresh segment to its installing. The lock of
-    /// the store is taken anew for each step, so that others flush in between. Answers the
-    /// generation of the installed manifest.
+    /// the store is taken anew for each step, so that others flush in between: those who wait for
+    /// their commits are let by first. Hold no guard meanwhile. Answers the generation of the
+    /// installed manifest.
     ///
     /// It stops at the first step that is refused, and what its earlier steps did stays done: the
     /// steps that are left may be made under the guard of the store. Refused: Down, Busy where a
@@ -57,6 +58,16 @@ impl<L: Run, D: Disk, G: Gate + Drop> Engine<L, D, G> {
     {
         let mut caller = CallByCall { engine: self, rt };
         generation_of(run_merge(&mut caller, place))
+    }
+
+    // A call of the store in a turn of its own, which is given back behind it.
+    pub(crate) fn call_in_turn<R: Wait>(&self, rt: &R, call: StoreCall) -> Result<Done, Refusal>
+        ensures { IsCallAlone D.Disk tt call result tt }
+    {
+        let turn = self.turns.take(rt);
+        let done = self.guard_store(rt).call(call);
+        drop(turn);
+        done
     }
 }
 
