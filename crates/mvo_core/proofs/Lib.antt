@@ -63,3 +63,4 @@ pub mod Awaiting
 pub mod Waits
 pub mod WaitsOn
 pub mod ToldJust
+pub mod VersionCounts

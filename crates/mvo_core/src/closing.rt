@@ -14,6 +14,7 @@ impl Core {
     ghost use Rattle.std.specs.Prelude.{IfOk};
     ghost use Rattle.mvo_core.specs.Closing.{IsClosing, AllowsNext};
     ghost use Rattle.mvo_core.specs.Trimming.{HasForgotten};
+    ghost use Rattle.mvo_core.specs.Counting.{HasAsMany};
 
     /// Closes the next group and puts it into the ring: the longest beginning of the commits that
     /// wrote with an end above the last group's mark and at most the low-water, which fits into a
@@ -33,6 +34,7 @@ impl Core {
         ensures ring { SameProducer ring.old ring.new }
         ensures forgets { IfOk result (λ c.
             HasForgotten self.old.start c.mark.0 self.old self.new) }
+        ensures count { HasAsMany self.old self.new }
     {
         let prev = self.closed;
         let low_water = self.table.low_water();

@@ -17,6 +17,7 @@ use mvo_work::WordPlace;
 impl Core {
     ghost use Rattle.std.specs.Prelude.{◌≡◌};
     ghost use Rattle.mvo_core.specs.Collecting.{StandsAsBefore, IsTaken, AreFewer, ShowsSame};
+    ghost use Rattle.mvo_core.specs.Counting.{HasTakenOne};
 
     /// Takes one garbage version out of both indexes and its key's chain, if there is one: a
     /// version that nobody has put any more and nobody has ended, or one that was ended up to the
@@ -28,6 +29,7 @@ impl Core {
         ensures stands { StandsAsBefore self.old self.new }
         ensures counts { AreFewer self.old result self.new }
         ensures shows { ShowsSame self.old self.new }
+        ensures count { HasTakenOne self.old result self.new }
     {
         collect_one(&mut self.versions, &mut self.waiting, self.start)
     }

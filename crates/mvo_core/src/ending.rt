@@ -50,6 +50,7 @@ impl Core {
     ghost use Rattle.mvo_core.specs.Steps.{IsStep, IsValidation, IsSettlement};
     ghost use Rattle.mvo_core.specs.Aborting.{MayGiveUp, IsGivenUp, IsAborted};
     ghost use Rattle.mvo_core.specs.Aborting.{IsReaderGivenUp, IsReaderAborted};
+    ghost use Rattle.mvo_core.specs.Counting.{HasAsMany};
 
     /// Makes an Active transaction Preparing, with the next timestamp as its end, and takes all
     /// memory that its end needs. Refused: NoSuchTransaction, Ended, NotActive, DependencyAborted,
@@ -57,6 +58,7 @@ impl Core {
     pub fn precommit(&mut self, tx: TxId) -> Result<Stamp, Refusal>
         ensures step { IsStep self.old (Precommit tx.0) result self.new }
         ensures end { IfOk result (λ e. e.0 ≡ self.old.table.clock + 1) }
+        ensures count { HasAsMany self.old self.new }
     {
         let seat = self.table.seat_of(tx);
         let tx = Located { id: tx, seat };
@@ -88,6 +90,7 @@ impl Core {
     pub fn validate_one(&mut self, tx: TxId) -> Result<Validation, Refusal>
         ensures step { IsStep self.old (Validate tx.0) result self.new }
         ensures answer { IfOk result (IsValidation self.old tx.0) }
+        ensures count { HasAsMany self.old self.new }
     {
         let seat = self.table.seat_of(tx);
         let tx = Located { id: tx, seat };
@@ -104,6 +107,7 @@ impl Core {
     pub fn settle(&mut self, tx: TxId) -> Result<Settlement, Refusal>
         ensures step { IsStep self.old (Settle tx.0) result self.new }
         ensures answer { IfOk result (IsSettlement self.old tx.0) }
+        ensures count { HasAsMany self.old self.new }
     {
         let seat = self.table.seat_of(tx);
         let tx = Located { id: tx, seat };
@@ -131,6 +135,7 @@ impl Core {
     /// Refused: NoSuchTransaction, Ended.
     pub fn rollback_tx(&mut self, tx: TxId) -> Result<(), Refusal>
         ensures step { IsStep self.old (Rollback tx.0) result self.new }
+        ensures count { HasAsMany self.old self.new }
     {
         let seat = self.table.seat_of(tx);
         let tx = Located { id: tx, seat };
@@ -147,6 +152,7 @@ impl Core {
         ensures same { result ≡ refusal }
         ensures left { IsGivenUp self.old tx.id.0 refusal self.new }
         ensures reader { IsReaderGivenUp self.old tx.id.0 refusal self.new }
+        ensures count { HasAsMany self.old self.new }
     {
         if is_failure(refusal) {
             self.abort(tx);
@@ -160,6 +166,7 @@ impl Core {
         requires { IsUnended (state_of self.old.table tx.id.0) }
         ensures others { IsAborted self.old tx.id.0 self.new }
         ensures readers { IsReaderAborted self.old tx.id.0 self.new }
+        ensures count { HasAsMany self.old self.new }
     {
         let reads = leave_tale(&mut self.tale, &self.table, tx);
         self.table.abort(tx);

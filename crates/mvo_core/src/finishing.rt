@@ -24,6 +24,7 @@ impl Core {
     ghost use Rattle.std.specs.Prelude.{◌≡◌, IfOk};
     ghost use Rattle.mvo_theory.specs.Calls.Call.{Finish};
     ghost use Rattle.mvo_core.specs.Steps.{IsStep, IsFinishing};
+    ghost use Rattle.mvo_core.specs.Counting.{HasAsMany};
 
     /// Replaces one word that names a Committed or Aborted transaction, in the order of writing:
     /// with its end after a commit, with infinity after an abort. The call that replaces the last
@@ -32,6 +33,7 @@ impl Core {
     pub fn finish_one(&mut self, tx: TxId) -> Result<Finishing, Refusal>
         ensures step { IsStep self.old (Finish tx.0) result self.new }
         ensures answer { IfOk result (IsFinishing self.old tx.0) }
+        ensures count { HasAsMany self.old self.new }
     {
         let seat = self.table.seat_of(tx);
         let tx = Located { id: tx, seat };

@@ -32,12 +32,14 @@ impl Core {
     ghost use Rattle.std.specs.Prelude.{◌≡◌, IfOk};
     ghost use Rattle.mvo_theory.specs.Calls.Call.{Do};
     ghost use Rattle.mvo_core.specs.Steps.{IsStep, IsAnswered};
+    ghost use Rattle.mvo_core.specs.Counting.{HasPutMore};
 
     /// Reads the row at a key. Refused: NoSuchTransaction, Ended, NotActive, DependencyAborted,
     /// BadTable, TooManyReads, OutOfMemory.
     pub fn read(&mut self, tx: TxId, key: RowKey) -> Result<Answer, Refusal>
         ensures step { IsStep self.old (Do tx.0 (Op.Read key)) result self.new }
         ensures answer { IfOk result (IsAnswered self.old tx.0 (Op.Read key)) }
+        ensures count { HasPutMore self.old result self.new }
     {
         let seat = self.table.seat_of(tx);
         let tx = Located { id: tx, seat };
@@ -57,6 +59,7 @@ impl Core {
     pub fn insert(&mut self, tx: TxId, row: Row) -> Result<Answer, Refusal>
         ensures step { IsStep self.old (Do tx.0 (Op.Insert row)) result self.new }
         ensures answer { IfOk result (IsAnswered self.old tx.0 (Op.Insert row)) }
+        ensures count { HasPutMore self.old result self.new }
     {
         let seat = self.table.seat_of(tx);
         let tx = Located { id: tx, seat };
@@ -83,6 +86,7 @@ impl Core {
     pub fn update(&mut self, tx: TxId, row: Row) -> Result<Answer, Refusal>
         ensures step { IsStep self.old (Do tx.0 (Op.Update row)) result self.new }
         ensures answer { IfOk result (IsAnswered self.old tx.0 (Op.Update row)) }
+        ensures count { HasPutMore self.old result self.new }
     {
         let seat = self.table.seat_of(tx);
         let tx = Located { id: tx, seat };
@@ -113,6 +117,7 @@ impl Core {
     pub fn delete(&mut self, tx: TxId, key: RowKey) -> Result<Answer, Refusal>
         ensures step { IsStep self.old (Do tx.0 (Op.Delete key)) result self.new }
         ensures answer { IfOk result (IsAnswered self.old tx.0 (Op.Delete key)) }
+        ensures count { HasPutMore self.old result self.new }
     {
         let seat = self.table.seat_of(tx);
         let tx = Located { id: tx, seat };

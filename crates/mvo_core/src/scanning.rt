@@ -33,6 +33,7 @@ impl Core {
     ghost use Rattle.std.specs.Prelude.{◌≡◌, IfOk};
     ghost use Rattle.mvo_theory.specs.Calls.Call.{Do};
     ghost use Rattle.mvo_core.specs.Steps.{IsStep, IsAnswered};
+    ghost use Rattle.mvo_core.specs.Counting.{HasPutMore};
 
     /// Reads the rows of a table with `lo <= sort <= hi`, by sort and then by key. Takes time by
     /// the places in the range. Refused: NoSuchTransaction, Ended, NotActive, DependencyAborted,
@@ -40,6 +41,7 @@ impl Core {
     pub fn scan(&mut self, tx: TxId, table: u8, lo: u64, hi: u64) -> Result<Answer, Refusal>
         ensures step { IsStep self.old (Do tx.0 (Op.Scan table lo hi)) result self.new }
         ensures answer { IfOk result (IsAnswered self.old tx.0 (Op.Scan table lo hi)) }
+        ensures count { HasPutMore self.old result self.new }
     {
         let seat = self.table.seat_of(tx);
         let tx = Located { id: tx, seat };

@@ -22,6 +22,7 @@ use Rattle.mvo_versions.specs.Data.{VersionsData}
 use Rattle.mvo_collect.specs.Waiting.{AreWaiting}
 use Rattle.mvo_core.specs.Keeping.{HasDoneAsMuch}
 use Rattle.mvo_core.proofs.Waits.{waits_alike, alike_written, alike_recorded, waits_roomy, waits_removed}
+use Rattle.mvo_core.proofs.VersionCounts.{removed_counts, put_none}
 use Rattle.mvo_core.proofs.event_core.Core.delete.Goals as goal
 
 pub give_up-requires : goal.give_up-requires
@@ -173,3 +174,9 @@ returns-in_err-make_room-clause-step c = λ opening steps s h.
     let old : CoreData = core_data f in
     subst (λ r. LeadsOn opening steps s (Do c.args.tx.0 (Delete c.args.key)) r old) (came_spent c.from_residual-in_err-make_room.result c.from_residual-in_err-make_room.ensures.1)
     (delete_starved no_readers opening steps s old (subst (StandsFor opening steps s) (sym c.self.view_is) h) c.args.tx c.args.key refl (sym c.not_removed.ensures ∙ c.in_default.is) c.shown-found.result c.shown-found.ensures (sym c.in_the_way.ensures ∙ c.in_default-in_the_way.is))
+
+pub returns-clause-count : goal.returns-clause-count
+returns-clause-count c =
+    let f = c.self.inside in
+    put_none (core_data f) c.args.self.now _ c.self.view_is
+    (removed_counts f.versions c.remove.new.versions f.table c.remove.new.table c.args.tx (option_to_list c.shown-found.result.depends_on) c.in-Some-version.old c.args.key c.in_ok-remove.ensures.ok)

@@ -1,4 +1,4 @@
-use Rattle.std.proofs.Common.{sym, subst, refl}
+use Rattle.std.proofs.Common.{sym, ap, ◌∙◌, subst, refl}
 use Rattle.mvo_theory.specs.Calls.Call.{Finish}
 use Rattle.mvo_theory.specs.Calls.Result.{Accepted}
 use Rattle.mvo_core.specs.Readers.{no_readers}
@@ -9,6 +9,8 @@ use Rattle.mvo_core.specs.Standing.{StandsFor, words_in}
 use Rattle.mvo_core.proofs.Begun.{stands_on}
 use Rattle.mvo_core.proofs.Finished.{drawn_end, finish_more, finish_done, replaced_ended}
 use Rattle.mvo_core.proofs.Waits.{owed_for, waits_finished, waits_gone}
+use Rattle.mvo_core.proofs.VersionCounts.{one_replaced_counts}
+use Rattle.mvo_core.specs.Counting.{version_count}
 use Rattle.mvo_core.proofs.event_core.Core.finish_one.Goals as goal
 
 pub final_word-requires : goal.final_word-requires
@@ -85,3 +87,14 @@ pub count_off-requires : goal.count_off-requires
 count_off-requires c =
     let f = c.self.inside in
     owed_for f.table.clock (state_of f.table) f.versions.slots f.waiting c.args.tx.0 (words_in f.table c.args.tx.0) c.replace_next-replaced.result.0 c.replace_next-replaced.ensures.first c.self.invariant.waiting
+
+-- ---- as many versions
+pub returns-then-is_some-clause-count : goal.returns-then-is_some-clause-count
+returns-then-is_some-clause-count c =
+    let f = c.self.inside in
+    one_replaced_counts f.versions c.replace_next-replaced.new.versions f.table c.replace_next-replaced.new.table c.args.tx.0 c.in_ok-word.word c.replace_next-replaced.ensures.replaced ∙ ap version_count c.self.view_is
+
+pub returns-clause-count : goal.returns-clause-count
+returns-clause-count c =
+    let f = c.self.inside in
+    one_replaced_counts f.versions c.replace_next-replaced.new.versions f.table c.replace_next-replaced.new.table c.args.tx.0 c.in_ok-word.word c.replace_next-replaced.ensures.replaced ∙ ap version_count c.self.view_is

@@ -19,6 +19,7 @@ use Rattle.mvo_core.proofs.Refused.{came_spent}
 use Rattle.std.specs.Option.{option_to_list}
 use Rattle.mvo_core.specs.Keeping.{HasDoneAsMuch}
 use Rattle.mvo_core.proofs.Waits.{waits_roomy, waits_alike, alike_written, alike_recorded, waits_spent, waits_inserted}
+use Rattle.mvo_core.proofs.VersionCounts.{same_counts, inserted_counts, put_more, refused_more}
 use Rattle.mvo_core.proofs.event_core.Core.insert.Goals as goal
 
 pub returns-in-Some-clause-step : goal.returns-in-Some-clause-step
@@ -142,3 +143,18 @@ returns-in_err-make_room-clause-step c = λ opening steps s h.
     let old : CoreData = core_data f in
     subst (λ r. LeadsOn opening steps s (Do c.args.tx.0 (Insert c.args.row)) r old) (came_spent c.from_residual-in_err-make_room.result c.from_residual-in_err-make_room.ensures.1)
     (insert_starved no_readers opening steps s old (subst (StandsFor opening steps s) (sym c.self.view_is) h) c.args.tx c.args.row refl (sym c.not_put.ensures ∙ c.in_default.is))
+
+-- ---- how many versions there are then
+pub returns-in_err-insert_row-clause-count : goal.returns-in_err-insert_row-clause-count
+returns-in_err-insert_row-clause-count c =
+    let f = c.self.inside in
+    let old : CoreData = core_data f in
+    let versions = c.insert_row.new.versions in
+    refused_more old c.args.self.now (record old { versions = versions; table = c.insert_row.new.table }) c.from_residual-in_err-insert_row.result c.from_residual-in_err-insert_row.ensures.1 c.self.view_is
+    (same_counts f.versions versions c.in_err-insert_row.ensures.err)
+
+pub returns-clause-count : goal.returns-clause-count
+returns-clause-count c =
+    let f = c.self.inside in
+    put_more (core_data f) c.args.self.now _ 1 c.self.view_is
+    (inserted_counts f.versions c.insert_row.new.versions f.table c.insert_row.new.table c.args.tx (option_to_list c.shown-found.result.depends_on) c.args.row c.in_ok-insert_row.ensures.ok)

@@ -6,9 +6,7 @@ use Rattle.mvo_core.specs.Causes.{why_not_undo}
 use Rattle.mvo_core.proofs.GivenUp.{rolled_back}
 use Rattle.mvo_core.proofs.event_core.Core.rollback_tx.Goals as goal
 
-pub returns : goal.returns
-returns c = record {
-  step = λ opening steps s h.
-      let none = ap (λ (v : CoreData). why_not_undo (state_of v.table c.args.tx.0)) (sym c.self.view_is) ∙ sym c.not_undone.ensures ∙ c.in_default.is in
-      rolled_back no_readers opening steps s c.args.self.now c.abort.new.self h c.args.tx.0 refl none c.abort.ensures.others;
-}
+pub returns-clause-step : goal.returns-clause-step
+returns-clause-step c = λ opening steps s h.
+    let none = ap (λ (v : CoreData). why_not_undo (state_of v.table c.args.tx.0)) (sym c.self.view_is) ∙ sym c.not_undone.ensures ∙ c.in_default.is in
+    rolled_back no_readers opening steps s c.args.self.now c.abort.new.self h c.args.tx.0 refl none c.abort.ensures.others

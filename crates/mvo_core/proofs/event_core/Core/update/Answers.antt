@@ -23,6 +23,7 @@ use Rattle.mvo_core.proofs.Updating.{update_starved, update_refused, update_conf
 use Rattle.std.specs.Option.{option_to_list}
 use Rattle.mvo_core.specs.Keeping.{HasDoneAsMuch}
 use Rattle.mvo_core.proofs.Waits.{waits_roomy, waits_alike, alike_written, alike_recorded, waits_spent, waits_replaced}
+use Rattle.mvo_core.proofs.VersionCounts.{same_counts, replaced_counts, put_more, refused_more}
 use Rattle.mvo_core.proofs.event_core.Core.update.Goals as goal
 
 pub give_up-requires : goal.give_up-requires
@@ -187,3 +188,18 @@ returns-in_err-make_room-clause-step c = λ opening steps s h.
     let is = subst (λ k. AreVersionsInOrder (state_of f.table) c.args.tx.0 c.args.tx.0 (versions_at f.versions.slots f.versions.lists k) → c.shown-found.result ≡ shown_in old c.args.tx.0 k) c.row_key-key.ensures c.shown-found.ensures in
     subst (λ r. LeadsOn opening steps s (Do c.args.tx.0 (Update c.args.row)) r old) (came_spent c.from_residual-in_err-make_room.result c.from_residual-in_err-make_room.ensures.1)
     (update_starved no_readers opening steps s old (subst (StandsFor opening steps s) (sym c.self.view_is) h) c.args.tx c.args.row refl (sym c.not_put.ensures ∙ c.in_default.is) c.shown-found.result is (sym c.in_the_way.ensures ∙ c.in_default-in_the_way.is))
+
+-- ---- how many versions there are then
+pub returns-in_err-put_instead-clause-count : goal.returns-in_err-put_instead-clause-count
+returns-in_err-put_instead-clause-count c =
+    let f = c.self.inside in
+    let old : CoreData = core_data f in
+    let versions = c.put_instead.new.versions in
+    refused_more old c.args.self.now (record old { versions = versions; table = c.put_instead.new.table }) c.from_residual-in_err-put_instead.result c.from_residual-in_err-put_instead.ensures.1 c.self.view_is
+    (same_counts f.versions versions c.in_err-put_instead.ensures.err.versions)
+
+pub returns-clause-count : goal.returns-clause-count
+returns-clause-count c =
+    let f = c.self.inside in
+    put_more (core_data f) c.args.self.now _ 1 c.self.view_is
+    (replaced_counts f.versions c.put_instead.new.versions f.table c.put_instead.new.table c.args.tx (option_to_list c.shown-found.result.depends_on) c.in-Some-version.old c.args.row c.in_ok-put_instead.ensures.ok)
