@@ -64,3 +64,4 @@ pub mod Waits
 pub mod WaitsOn
 pub mod ToldJust
 pub mod VersionCounts
+pub mod RowsHeld

@@ -24,14 +24,14 @@ abbrev pub HasAsMany : CoreData → CoreData → Type 0
 HasAsMany old new = version_count new ≡ version_count old
 
 -- a row that was inserted, or that came in the place of another, is a version of its own
-abbrev pub put_by : AnswerData → ℕ
-put_by Inserted = 1
-put_by Updated = 1
-put_by a = 0
+abbrev pub versions_put : AnswerData → ℕ
+versions_put Inserted = 1
+versions_put Updated = 1
+versions_put a = 0
 
 -- an operation came to this: one that is refused puts none
 abbrev pub HasPutMore : CoreData → Result Answer Refusal → CoreData → Type 0
-HasPutMore old (Ok a) new = version_count new ≡ version_count old + put_by (answer_data a)
+HasPutMore old (Ok a) new = version_count new ≡ version_count old + versions_put (answer_data a)
 HasPutMore old (Err r) new = HasAsMany old new
 
 -- a collection came to this
