@@ -1,5 +1,5 @@
 -- Each row that stands at the start has a version of its own.
-use Rattle.std.proofs.Common.{◌≡◌, ℕ, ◌+◌, ◌≤◌, length, Bool, true, false, cond, ◌||◌, List, [], ◌∷◌, Option, None, Some, map, refl, sym, ap, ◌∙◌, subst, arith}
+use Rattle.std.proofs.Common.{◌≡◌, ℕ, ◌≤◌, length, Bool, true, false, cond, ◌||◌, List, [], ◌∷◌, Option, None, Some, map, refl, sym, ap, ◌∙◌, arith}
 use Rattle.std.specs.Prelude.{◌-◌, ◌&&◌, is_some}
 use Rattle.std.specs.List.{list_any}
 use Rattle.std.specs.Option.{option_map}
@@ -9,7 +9,6 @@ use Rattle.std.proofs.lemmas.Bool.{true≢false}
 use Rattle.mvo_types.specs.declared.row.RowKey.{RowKey}
 use Rattle.mvo_types.specs.RowData.{ContentData, content_of}
 use Rattle.mvo_types.specs.Keys.{Map, key_cmp}
-use Rattle.mvo_types.specs.Write.{Effect}
 use Rattle.mvo_types.specs.Write.Effect.{Put}
 use Rattle.mvo_types.proofs.Maps.{keys_total}
 use Rattle.mvo_model.specs.Trace.{Step}
@@ -21,7 +20,7 @@ use Rattle.mvo_txn.specs.Txns.{state_of}
 use Rattle.mvo_representation.specs.Indexes.{all_versions}
 use Rattle.mvo_representation.specs.Table.{phases_of}
 use Rattle.mvo_representation.specs.Versions.{HoldsRows}
-use Rattle.mvo_representation.specs.Words.{Ends, ends_of, NetEffect, with_effect, as_net_effect, is_standing, standing_effect, standing_effect_of}
+use Rattle.mvo_representation.specs.Words.{Ends, ends_of, with_effect, as_net_effect, is_standing, standing_effect}
 use Rattle.mvo_representation.specs.Words.NetEffect.{Untouched, Puts}
 use Rattle.mvo_core.specs.Counting.{version_count}
 use Rattle.mvo_core.specs.Data.{CoreData}
