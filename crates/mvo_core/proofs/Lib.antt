@@ -80,3 +80,5 @@ pub mod Awaiting
 pub mod Waits
 pub mod WaitsOn
 pub mod ToldJust
+pub mod VersionCounts
+pub mod RowsHeld

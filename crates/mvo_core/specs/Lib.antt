@@ -23,6 +23,7 @@ pub mod Inserting
 pub mod Checking
 pub mod Settling
 pub mod Collecting
+pub mod Counting
 pub mod Scanning
 pub mod Spare
 pub mod Holding

@@ -15,6 +15,7 @@ impl Core {
     ghost use Rattle.mvo_core.specs.Closing.{IsClosing, AllowsNext};
     ghost use Rattle.mvo_core.specs.Trimming.{HasForgotten};
     ghost use Rattle.mvo_core.specs.WholeClosing.{IsWholeClosing};
+    ghost use Rattle.mvo_core.specs.Counting.{HasAsMany};
 
     /// Closes the next group and puts it into the ring: the longest beginning of the commits that
     /// wrote with an end above the last group's mark and at most the low-water, which fits into a
@@ -35,6 +36,7 @@ impl Core {
         ensures forgets { IfOk result (λ c.
             HasForgotten self.old.start c.mark.0 self.old self.new) }
         ensures whole { IsWholeClosing self.old ring.old result self.new ring.new }
+        ensures count { HasAsMany self.old self.new }
     {
         let prev = self.closed;
         let low_water = self.table.low_water();

@@ -19,6 +19,7 @@ impl Core {
     ghost use Rattle.mvo_core.specs.Collecting.{StandsAsBefore, IsTaken, AreFewer, ShowsSame};
     ghost use Rattle.mvo_core.specs.WholeAnswers.{StandsWholeAsBefore};
     ghost use Rattle.mvo_core.specs.WholeAnswers.{AreFewerWhole, ShowsSameWhole};
+    ghost use Rattle.mvo_core.specs.Counting.{HasTakenOne};
 
     /// Takes one garbage version out of both indexes and its key's chain, if there is one: a
     /// version that nobody has put any more and nobody has ended, or one that was ended up to the
@@ -33,6 +34,7 @@ impl Core {
         ensures whole { StandsWholeAsBefore self.old self.new }
         ensures whole_counts { AreFewerWhole self.old result self.new }
         ensures whole_shows { ShowsSameWhole self.old self.new }
+        ensures count { HasTakenOne self.old result self.new }
     {
         collect_one(&mut self.versions, &mut self.waiting, self.start)
     }

@@ -54,6 +54,7 @@ impl Core {
     ghost use Rattle.mvo_core.specs.WholeEnds.{IsReaderSettled, reader_settled_as};
     ghost use Rattle.mvo_core.specs.Aborting.{MayGiveUp, IsGivenUp, IsAborted};
     ghost use Rattle.mvo_core.specs.Aborting.{IsReaderGivenUp, IsReaderAborted};
+    ghost use Rattle.mvo_core.specs.Counting.{HasAsMany};
 
     /// Makes an Active transaction Preparing, with the next timestamp as its end, and takes all
     /// memory that its end needs. Refused: NoSuchTransaction, Ended, NotActive, DependencyAborted,
@@ -63,6 +64,7 @@ impl Core {
         ensures end { IfOk result (λ e. e.0 ≡ self.old.table.clock + 1) }
         ensures whole { IsWholeStep self.old (Precommit tx.0) result self.new }
         ensures whole_end { IfOk result (IsEndWhole self.old tx.0) }
+        ensures count { HasAsMany self.old self.new }
     {
         let seat = self.table.seat_of(tx);
         let tx = Located { id: tx, seat };
@@ -99,6 +101,7 @@ impl Core {
         ensures answer { IfOk result (IsValidation self.old tx.0) }
         ensures whole { IsWholeStep self.old (Validate tx.0) result self.new }
         ensures whole_answer { IfOk result (IsValidationWhole self.old tx.0) }
+        ensures count { HasAsMany self.old self.new }
     {
         let seat = self.table.seat_of(tx);
         let tx = Located { id: tx, seat };
@@ -117,6 +120,7 @@ impl Core {
         ensures answer { IfOk result (IsSettlement self.old tx.0) }
         ensures whole { IsWholeStep self.old (Settle tx.0) result self.new }
         ensures whole_answer { IfOk result (IsSettlementWhole self.old tx.0) }
+        ensures count { HasAsMany self.old self.new }
     {
         let seat = self.table.seat_of(tx);
         let tx = Located { id: tx, seat };
@@ -147,6 +151,7 @@ impl Core {
         requires { IsReadyReader self.old.table reader.id }
         ensures answer { result ≡ reader_settled_as reader.id.0 None }
         ensures settled { IsReaderSettled self.old reader.id.0 self.new }
+        ensures count { HasAsMany self.old self.new }
     {
         // A look at the places: from it the proof knows that their ends rise.
         let _ = self.tale.len();
@@ -172,6 +177,7 @@ impl Core {
     pub fn rollback_tx(&mut self, tx: TxId) -> Result<(), Refusal>
         ensures step { IsStep self.old (Rollback tx.0) result self.new }
         ensures whole { IsWholeStep self.old (Rollback tx.0) result self.new }
+        ensures count { HasAsMany self.old self.new }
     {
         let seat = self.table.seat_of(tx);
         let tx = Located { id: tx, seat };
@@ -188,6 +194,7 @@ impl Core {
         ensures same { result ≡ refusal }
         ensures left { IsGivenUp self.old tx.id.0 refusal self.new }
         ensures reader { IsReaderGivenUp self.old tx.id.0 refusal self.new }
+        ensures count { HasAsMany self.old self.new }
     {
         if is_failure(refusal) {
             self.abort(tx);
@@ -201,6 +208,7 @@ impl Core {
         requires { IsUnended (state_of self.old.table tx.id.0) }
         ensures others { IsAborted self.old tx.id.0 self.new }
         ensures readers { IsReaderAborted self.old tx.id.0 self.new }
+        ensures count { HasAsMany self.old self.new }
     {
         let reads = leave_tale(&mut self.tale, &self.table, tx);
         self.table.abort(tx);

@@ -72,6 +72,7 @@ impl Core {
     ghost use Rattle.mvo_types.specs.declared.limits.TheConstants.{MAX_STAMP as LIMIT};
     ghost use Rattle.mvo_theory.specs.Calls.Call.{Begin};
     ghost use Rattle.mvo_core.specs.Standing.{HasOpenedOver};
+    ghost use Rattle.mvo_core.specs.Counting.{HasOneEach, HasAsMany};
     ghost use Rattle.mvo_core.specs.Steps.{IsStep};
     ghost use Rattle.mvo_core.specs.WholeStanding.{IsWholeStep};
 
@@ -87,6 +88,7 @@ impl Core {
     ) -> Result<Core, Refusal>
         requires { mark.0 ≤ LIMIT }
         ensures ok { IfOk result (λ c. HasOpenedOver rows mark.0 c) }
+        ensures count { IfOk result (HasOneEach rows) }
         ensures err { IfErr result (λ r. r ≡ Refusal.OutOfMemory) }
     {
         let table = TxnTable::new(alloc, mark)?;
@@ -119,6 +121,7 @@ impl Core {
         ensures step { IsStep self.old Begin result self.new }
         ensures id { IfOk result (λ t. t.0 ≡ self.old.table.clock + 1) }
         ensures whole { IsWholeStep self.old Begin result self.new }
+        ensures count { HasAsMany self.old self.new }
     {
         if let Some(refusal) = self.table.why_not_begun() {
             return Err(refusal);

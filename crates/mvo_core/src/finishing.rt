@@ -26,6 +26,7 @@ impl Core {
     ghost use Rattle.mvo_core.specs.Steps.{IsStep, IsFinishing};
     ghost use Rattle.mvo_core.specs.WholeStanding.{IsWholeStep};
     ghost use Rattle.mvo_core.specs.WholeAnswers.{IsFinishingWhole};
+    ghost use Rattle.mvo_core.specs.Counting.{HasAsMany};
 
     /// Replaces one word that names a Committed or Aborted transaction, in the order of writing:
     /// with its end after a commit, with infinity after an abort. The call that replaces the last
@@ -36,6 +37,7 @@ impl Core {
         ensures answer { IfOk result (IsFinishing self.old tx.0) }
         ensures whole { IsWholeStep self.old (Finish tx.0) result self.new }
         ensures whole_answer { IfOk result (IsFinishingWhole self.old tx.0) }
+        ensures count { HasAsMany self.old self.new }
     {
         let seat = self.table.seat_of(tx);
         let tx = Located { id: tx, seat };

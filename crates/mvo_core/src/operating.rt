@@ -34,6 +34,7 @@ impl Core {
     ghost use Rattle.mvo_core.specs.Steps.{IsStep, IsAnswered};
     ghost use Rattle.mvo_core.specs.WholeStanding.{IsWholeStep};
     ghost use Rattle.mvo_core.specs.WholeAnswers.{IsAnsweredWhole};
+    ghost use Rattle.mvo_core.specs.Counting.{HasPutMore};
 
     /// Reads the row at a key. Refused: NoSuchTransaction, Ended, NotActive, DependencyAborted,
     /// BadTable, TooManyReads, OutOfMemory.
@@ -42,6 +43,7 @@ impl Core {
         ensures answer { IfOk result (IsAnswered self.old tx.0 (Op.Read key)) }
         ensures whole { IsWholeStep self.old (Do tx.0 (Op.Read key)) result self.new }
         ensures whole_answer { IfOk result (IsAnsweredWhole self.old tx.0 (Op.Read key)) }
+        ensures count { HasPutMore self.old result self.new }
     {
         let seat = self.table.seat_of(tx);
         let tx = Located { id: tx, seat };
@@ -63,6 +65,7 @@ impl Core {
         ensures answer { IfOk result (IsAnswered self.old tx.0 (Op.Insert row)) }
         ensures whole { IsWholeStep self.old (Do tx.0 (Op.Insert row)) result self.new }
         ensures whole_answer { IfOk result (IsAnsweredWhole self.old tx.0 (Op.Insert row)) }
+        ensures count { HasPutMore self.old result self.new }
     {
         let seat = self.table.seat_of(tx);
         let tx = Located { id: tx, seat };
@@ -91,6 +94,7 @@ impl Core {
         ensures answer { IfOk result (IsAnswered self.old tx.0 (Op.Update row)) }
         ensures whole { IsWholeStep self.old (Do tx.0 (Op.Update row)) result self.new }
         ensures whole_answer { IfOk result (IsAnsweredWhole self.old tx.0 (Op.Update row)) }
+        ensures count { HasPutMore self.old result self.new }
     {
         let seat = self.table.seat_of(tx);
         let tx = Located { id: tx, seat };
@@ -123,6 +127,7 @@ impl Core {
         ensures answer { IfOk result (IsAnswered self.old tx.0 (Op.Delete key)) }
         ensures whole { IsWholeStep self.old (Do tx.0 (Op.Delete key)) result self.new }
         ensures whole_answer { IfOk result (IsAnsweredWhole self.old tx.0 (Op.Delete key)) }
+        ensures count { HasPutMore self.old result self.new }
     {
         let seat = self.table.seat_of(tx);
         let tx = Located { id: tx, seat };

@@ -35,6 +35,7 @@ impl Core {
     ghost use Rattle.mvo_core.specs.Steps.{IsStep, IsAnswered};
     ghost use Rattle.mvo_core.specs.WholeStanding.{IsWholeStep};
     ghost use Rattle.mvo_core.specs.WholeAnswers.{IsAnsweredWhole};
+    ghost use Rattle.mvo_core.specs.Counting.{HasPutMore};
 
     /// Reads the rows of a table with `lo <= sort <= hi`, by sort and then by key. Takes time by
     /// the places in the range. Refused: NoSuchTransaction, Ended, NotActive, DependencyAborted,
@@ -44,6 +45,7 @@ impl Core {
         ensures answer { IfOk result (IsAnswered self.old tx.0 (Op.Scan table lo hi)) }
         ensures whole { IsWholeStep self.old (Do tx.0 (Op.Scan table lo hi)) result self.new }
         ensures whole_answer { IfOk result (IsAnsweredWhole self.old tx.0 (Op.Scan table lo hi)) }
+        ensures count { HasPutMore self.old result self.new }
     {
         let seat = self.table.seat_of(tx);
         let tx = Located { id: tx, seat };

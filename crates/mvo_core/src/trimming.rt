@@ -20,6 +20,7 @@ impl Core {
     ghost use Rattle.mvo_core.specs.WholeStanding.{IsWholeStep};
     ghost use Rattle.mvo_core.specs.WholeAnswers.{InEachWhole};
     ghost use Rattle.mvo_core.specs.WholeTales.{IsWholeTaleOf};
+    ghost use Rattle.mvo_core.specs.Counting.{HasAsMany};
 
     /// The stored commits, by end timestamp: all that end above the start of the tale, and of those
     /// up to it the ones at the back that are in no closed group yet, which stay for theirs.
@@ -53,6 +54,7 @@ impl Core {
         ensures forgets { IfOk result (λ _. HasForgotten upto.0 self.old.closed self.old self.new) }
         ensures err { IfErr result (λ r. r ≡ Refusal.NothingToDo) }
         ensures whole { IsWholeStep self.old (Trim upto.0) result self.new }
+        ensures count { HasAsMany self.old self.new }
     {
         let oldest = self.table.oldest_begin();
         let low_water = self.table.low_water();

@@ -41,7 +41,7 @@ use Rattle.mvo_world.proofs.Order.{first_cause_stands}
 use Rattle.mvo_world.proofs.Finishing.{mores_with, more_is_left, none_is_left}
 use Rattle.mvo_world.specs.Replies.{IsAsked, IsOpAnswered, IsDrawn, IsReplyTo}
 use Rattle.mvo_world.specs.declared.event.Event.{Event}
-use Rattle.mvo_world.specs.declared.event.Event.TheVariants.{Begin, Do, Precommit, Validate, Settle, Rollback, Finish, Trim, CloseGroup}
+use Rattle.mvo_world.specs.declared.event.Event.TheVariants.{Begin, Do, Precommit, Validate, Settle, Rollback, Finish, Collect, Trim, CloseGroup}
 use Rattle.mvo_world.specs.declared.reply.Reply.{Reply}
 use Rattle.mvo_world.specs.declared.reply.Reply.TheVariants.{Began, Answered, Prepared, Validated, Settled, RolledBack, Finished, Trimmed, Refused}
 use Rattle.mvo_model.specs.Trace.Step.{Answers, Terminates}
@@ -62,8 +62,9 @@ outcome_is None None u e q = go u.outcome q
     go (WasCommitted n) f = ap WasCommitted (same n e f)
     go WasAborted f = absurd cc
 
--- not the closing of a group
+-- neither a collection nor the closing of a group
 abbrev pub IsNoClosing : Event → Type 0
+IsNoClosing Collect = ⊥
 IsNoClosing CloseGroup = ⊥
 IsNoClosing e = ⊤
 
@@ -131,7 +132,7 @@ module _ {D : Type 0} (d : Ghosts D) (p : Past) (w : WorldData D) (h : IsAfter d
   no_trim : (m : ℕ) (w' : WorldData D) → IsAsked w (TrimCall m) (RefusedCall NothingToDo) w' → MayBeTrimmed p m → ⊥
   no_trim m w' asked = nothing_so p h.state h.core.versions.kept h.counted h.rests m (asked.leads p.rows p.steps h.state h.core).may
 
-  -- of each event but the closing of a group
+  -- of each event but a collection and the closing of a group
   pub justified_reply : (e : Event) (r : Reply) (w' : WorldData D) → IsNoClosing e → IsReplyTo d w e r w' → IsJustifiedBy p e r
   justified_reply Begin (Began t) w' o q = (just BeginCall Accepted w' q.0, drawn t.0 q.1)
   justified_reply Begin (Refused r) w' o q = just BeginCall (RefusedCall r) w' q
@@ -149,6 +150,7 @@ module _ {D : Type 0} (d : Ghosts D) (p : Past) (w : WorldData D) (h : IsAfter d
   justified_reply (Finish t) (Refused r) w' o q = just (FinishCall t.0) (RefusedCall r) w' q
   justified_reply (Trim upto) (Trimmed stamp) w' o q = trim upto.0 w' q.1.asked
   justified_reply (Trim upto) (Refused r) w' o q = subst (λ (v : Refusal). IsJustTrim p upto.0 (Refused v)) (sym q.0) (no_trim upto.0 w' (subst (λ (v : Refusal). IsAsked w (TrimCall upto.0) (RefusedCall v) w') q.0 q.1))
+  justified_reply Collect r w' o q = absurd o
   justified_reply CloseGroup r w' o q = absurd o
   justified_reply e r w' o q = search
 

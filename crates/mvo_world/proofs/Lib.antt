@@ -4,6 +4,7 @@ pub mod Standing
 mod Forgetting
 mod Closing
 mod Finishing
+pub mod Collecting
 mod Order
 pub mod Justified
 pub mod Moves

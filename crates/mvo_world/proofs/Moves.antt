@@ -3,6 +3,7 @@ use Rattle.std.proofs.Common.{◌≡◌, ℕ, ◌+◌, ◌≤◌, length, Bool, 
 use Rattle.std.specs.Prelude.{IfOk, is_some, nat_le}
 use Rattle.std.specs.Option.{option_to_list}
 use Rattle.std.specs.List.{AllByRecursion}
+use Rattle.std.specs.FinMap as fin
 use Rattle.std.proofs.lemmas.Bool.{leb-true}
 use Rattle.std.proofs.lemmas.List.{length-append, map-append}
 use Rattle.mvo_types.specs.declared.refusal.Refusal.{Refusal}
@@ -21,6 +22,7 @@ use Rattle.mvo_group.specs.Data.{GroupData}
 use Rattle.mvo_theory.specs.State.{State, Marks, opened}
 use Rattle.mvo_theory.specs.Marks.{IsClosedAt, StaysBelow}
 use Rattle.mvo_theory.specs.Changes.{after_close}
+use Rattle.mvo_theory.specs.Steps.{steps_of_refusal}
 use Rattle.mvo_theory.specs.Calls.{Call, Result as CallResult, after_call, steps_of}
 use Rattle.mvo_theory.specs.Calls.Call.{Do as DoCall, Trim}
 use Rattle.mvo_theory.specs.Calls.Result.{Accepted}
@@ -30,6 +32,7 @@ use Rattle.mvo_theory.proofs.Stays.{stays_after_call}
 use Rattle.mvo_theory.proofs.Counting.{counted_after_call, counted_closed, counted_opened}
 use Rattle.mvo_core.specs.Collection.{Collection}
 use Rattle.mvo_core.specs.declared.answers.Closed as closing
+use Rattle.mvo_core.specs.Counting.{version_count, HasAsMany, HasPutMore, HasTakenOne}
 use Rattle.mvo_core.specs.Data.{CoreData}
 use Rattle.mvo_core.specs.Seen.{closed_mark_of, HasNewVersions}
 use Rattle.mvo_core.specs.Collecting.{StandsAsBefore, AreFewer}
@@ -56,8 +59,9 @@ use Rattle.mvo_world.specs.WorldData.{WorldData, waiting, Follow, IsLinked, IsSo
 use Rattle.mvo_theory.specs.rests.Course.{trims_after}
 use Rattle.mvo_theory.specs.rests.Known.{KnowsRests}
 use Rattle.mvo_theory.proofs.rests.Knowing.{known_opened, known_after_call, known_closed}
-use Rattle.mvo_world.specs.Past.{Past, course_of, happened, trimmed_by, acknowledged_by, closed_by, taken_by, mores_after, with_event, opened_over}
+use Rattle.mvo_world.specs.Past.{Past, course_of, happened, trimmed_by, acknowledged_by, closed_by, taken_by, mores_after, collected_by, with_event, opened_over}
 use Rattle.mvo_world.specs.Finishing.{HaveCountedWords}
+use Rattle.mvo_world.specs.Collecting.{put_in}
 use Rattle.mvo_core.specs.Groups.{HaveRecordsOf}
 use Rattle.mvo_world.specs.Standing.{IsAfter, HasHonestDisk, RecoversPrefix}
 use Rattle.mvo_world.specs.Ring.{oldest, IsClosingInto}
@@ -72,6 +76,7 @@ use Rattle.mvo_world.specs.declared.reply.Reply.TheVariants.{Answered, Collected
 use Rattle.mvo_world.proofs.Chain.{groups_stay, group_of_next}
 use Rattle.mvo_world.proofs.Closing.{closed_so, unclosed_so}
 use Rattle.mvo_world.proofs.Finishing.{mores_with, counted_words_after_call}
+use Rattle.mvo_world.proofs.Collecting.{HasPutIn, none_refused, none_put, answer_put, versions_then, versions_less, opened_versions, rows_held, collected_so}
 use Rattle.mvo_world.proofs.Justified.{IsNoClosing, answered, justified_reply}
 use Rattle.mvo_world.proofs.Standing.{mark_after-append, groups_front, groups_back, groups_push, marks_rise, follow_to, prefix_image}
 
@@ -100,16 +105,17 @@ nothing_taken s e = go _ _ e
 abbrev trims_with : Past → List ℕ → List (ℕ × ℕ)
 trims_with p ms = p.trims ++ map (λ m. (length p.steps, m)) ms
 
-past_is : (p : Past) (e : Event) (r : Reply) (steps : List Step) (trims : List (ℕ × ℕ)) (acked closed : List ℕ) (took : ℕ) (mores : List ℕ) → p.steps ++ happened e r ≡ steps → trims_with p (trimmed_by e r) ≡ trims → p.acknowledged ++ acknowledged_by e r ≡ acked → p.closed ++ closed_by e r ≡ closed → p.taken + taken_by e r ≡ took → mores_after e r p.mores ≡ mores
-    → record { rows = p.rows; mark = p.mark; steps = steps; trims = trims; acknowledged = acked; closed = closed; taken = took; mores = mores } ≡ with_event p e r
-past_is p e r steps trims acked closed took mores a t b c n m = cc
+past_is : (p : Past) (e : Event) (r : Reply) (steps : List Step) (trims : List (ℕ × ℕ)) (acked closed : List ℕ) (took : ℕ) (mores : List ℕ) (gone : ℕ) → p.steps ++ happened e r ≡ steps → trims_with p (trimmed_by e r) ≡ trims → p.acknowledged ++ acknowledged_by e r ≡ acked → p.closed ++ closed_by e r ≡ closed → p.taken + taken_by e r ≡ took → mores_after e r p.mores ≡ mores → p.collected + collected_by e r ≡ gone
+    → record { rows = p.rows; mark = p.mark; steps = steps; trims = trims; acknowledged = acked; closed = closed; taken = took; mores = mores; collected = gone } ≡ with_event p e r
+past_is p e r steps trims acked closed took mores gone a t b c n m g = cc
 
 none_more : (n : ℕ) → n + 0 ≡ n
 none_more n = omega arith
 
--- the mark of a group that was closed, how many the store took, and up to where it was trimmed
-abbrev pub groups_by : Event → Reply → List ℕ × ℕ × List ℕ
-groups_by e r = (closed_by e r, taken_by e r, trimmed_by e r)
+-- the mark of a group that was closed, how many the store took, up to where it was trimmed, and how
+-- many versions were collected
+abbrev pub groups_by : Event → Reply → List ℕ × ℕ × List ℕ × ℕ
+groups_by e r = (closed_by e r, taken_by e r, trimmed_by e r, collected_by e r)
 
 abbrev trimmed_to : Call → CallResult → List ℕ
 trimmed_to (Trim m) Accepted = m ∷ []
@@ -121,7 +127,7 @@ trims_are p c r = append-nil p.trims
 
 -- nothing that a past remembers
 abbrev pub IsSilent : Event → Reply → Type 0
-IsSilent e r = (happened e r ≡ []) × (acknowledged_by e r ≡ []) × (groups_by e r ≡ ([], 0, [])) × ((ms : List ℕ) → mores_after e r ms ≡ ms)
+IsSilent e r = (happened e r ≡ []) × (acknowledged_by e r ≡ []) × (groups_by e r ≡ ([], 0, [], 0)) × ((ms : List ℕ) → mores_after e r ms ≡ ms)
 
 -- what an event with its reply is of a call
 abbrev pub IsOfCall : Event → Reply → State → Call → CallResult → Type 0
@@ -135,7 +141,7 @@ silent_copy (Do t op) h = absurd h
 silent_copy e h = absurd h
 
 silent_past : (p : Past) (e : Event) (r : Reply) → IsSilent e r → p ≡ with_event p e r
-silent_past p e r s = simp (s.0, s.1, s.3 p.mores, ap (λ (g : List ℕ × ℕ × List ℕ). g.0) s.2, ap (λ (g : List ℕ × ℕ × List ℕ). g.1) s.2, ap (λ (g : List ℕ × ℕ × List ℕ). g.2) s.2, append-nil, none_more)
+silent_past p e r s = simp (s.0, s.1, s.3 p.mores, ap (λ (g : List ℕ × ℕ × List ℕ × ℕ). g.0) s.2, ap (λ (g : List ℕ × ℕ × List ℕ × ℕ). g.1) s.2, ap (λ (g : List ℕ × ℕ × List ℕ × ℕ). g.2) s.2, ap (λ (g : List ℕ × ℕ × List ℕ × ℕ). g.3) s.2, append-nil, none_more)
 
 -- a state stays as it is
 unchanged : (s : State) → StaysBelow s s
@@ -160,15 +166,16 @@ module _ {D : Type 0} (d : Ghosts D) where
   }
 
   -- no group becomes durable and none is closed
-  goes_on : (p : Past) (w w' : WorldData D) (h : IsAfter d p w) (steps : List Step) (trims : List (ℕ × ℕ)) (s : State) → StandsFor p.rows steps s w'.core → HasCounts p.mark steps s → (mores : List ℕ) → HaveCountedWords mores steps s → KnowsRests (record { rows = p.rows; mark = p.mark; steps = steps; trims = trims }) s → IsClosedAt s.marks.closed s → StaysBelow h.state s
+  goes_on : (p : Past) (w w' : WorldData D) (h : IsAfter d p w) (steps : List Step) (trims : List (ℕ × ℕ)) (s : State) → StandsFor p.rows steps s w'.core → HasCounts p.mark steps s → (mores : List ℕ) → HaveCountedWords mores steps s → (gone : ℕ) → version_count w'.core + gone ≡ fin.len p.rows + put_in steps → KnowsRests (record { rows = p.rows; mark = p.mark; steps = steps; trims = trims }) s → IsClosedAt s.marks.closed s → StaysBelow h.state s
       → waiting w' ≡ waiting w → mark_of w'.store ≡ mark_of w.store → (HasHonestDisk d w' → KeepsRows d w'.store (after_groups p.rows h.sent))
-      → (acked : List ℕ) → AllByRecursion (λ n. n ≤ mark_of w'.store) acked → (took : ℕ) → HasRoomFor took p.closed w'.ring → IsAfter d (record p { steps = steps; trims = trims; acknowledged = acked; taken = took; mores = mores }) w'
-  goes_on p w w' h steps trims s core counted mores words rests closed stays wait mark store acked covers took room = record {
+      → (acked : List ℕ) → AllByRecursion (λ n. n ≤ mark_of w'.store) acked → (took : ℕ) → HasRoomFor took p.closed w'.ring → IsAfter d (record p { steps = steps; trims = trims; acknowledged = acked; taken = took; mores = mores; collected = gone }) w'
+  goes_on p w w' h steps trims s core counted mores words gone versions rests closed stays wait mark store acked covers took room = record {
     sent = h.sent;
     state = s;
     core = core;
     counted = counted;
     words = words;
+    versions = versions;
     rests = rests;
     closed = closed;
     before = (stays p.mark h.before).0;
@@ -184,15 +191,15 @@ module _ {D : Type 0} (d : Ghosts D) where
 
   -- nothing that the past remembers, over which the state stays
   pub moved : (IsReply : WorldData D → Event → Reply → WorldData D → Type 0) (Justifies : Past → Event → Reply → Type 0) (w w' : WorldData D) (e : Event) (r : Reply) → IsSilent e r → IsReply w e r w' → ((p : Past) → IsAfter d p w → Justifies p e r)
-      → ((p : Past) (h : IsAfter d p w) → StandsFor p.rows p.steps h.state w'.core) → w'.ring ≡ w.ring → waiting w' ≡ waiting w → mark_of w'.store ≡ mark_of w.store → (HasHonestDisk d w' → HasHonestDisk d w) → (HasHonestDisk d w' → KeepsAllRows d w.store w'.store) → IsStepBy IsReply Justifies d w e r w'
-  moved IsReply Justifies w w' e r silent reply just core ring wait mark was keeps =
+      → ((p : Past) (h : IsAfter d p w) → StandsFor p.rows p.steps h.state w'.core) → HasAsMany w.core w'.core → w'.ring ≡ w.ring → waiting w' ≡ waiting w → mark_of w'.store ≡ mark_of w.store → (HasHonestDisk d w' → HasHonestDisk d w) → (HasHonestDisk d w' → KeepsAllRows d w.store w'.store) → IsStepBy IsReply Justifies d w e r w'
+  moved IsReply Justifies w w' e r silent reply just core same ring wait mark was keeps =
       stepped IsReply Justifies w w' e r (λ rows. rows) reply just was keeps (λ p h store.
-      subst (λ (q : Past). IsAfter d q w') (silent_past p e r silent) (goes_on p w w' h p.steps p.trims h.state (core p h) h.counted p.mores h.words h.rests h.closed (unchanged h.state) wait mark store p.acknowledged (subst (λ m. AllByRecursion (λ n. n ≤ m) p.acknowledged) (sym mark) h.covers) p.taken (subst (HasRoomFor p.taken p.closed) (sym ring) (h.untaken, h.room))))
+      subst (λ (q : Past). IsAfter d q w') (silent_past p e r silent) (goes_on p w w' h p.steps p.trims h.state (core p h) h.counted p.mores h.words p.collected (ap (λ (n : ℕ). n + p.collected) same ∙ h.versions) h.rests h.closed (unchanged h.state) wait mark store p.acknowledged (subst (λ m. AllByRecursion (λ n. n ≤ m) p.acknowledged) (sym mark) h.covers) p.taken (subst (HasRoomFor p.taken p.closed) (sym ring) (h.untaken, h.room))))
 
   -- ---- a call of the store that takes no group and makes none durable
   store_moved : (w : WorldData D) (store : StoreData D) (e : Event) (r : Reply) → IsNoClosing e → IsSilent e r → IsReplyTo d w e r (record w { store = store }) → KeepsTaken w.store store → (IsHonest (d.moment (disk_of store)) → HasHonestDisk d w) → (IsHonest (d.moment (disk_of store)) → KeepsAllRows d w.store store) → IsWorldStep d w e r (record w { store = store })
   store_moved w store e r other silent reply taken was keeps =
-      moved (IsReplyTo d) IsJustifiedBy w (record w { store = store }) e r silent reply (λ p h. justified_reply d p w h e r (record w { store = store }) other reply) (λ p h. h.core) refl (ap (λ (q : Option GroupData). option_to_list q ++ w.ring) taken.pending) taken.mark was keeps
+      moved (IsReplyTo d) IsJustifiedBy w (record w { store = store }) e r silent reply (λ p h. justified_reply d p w h e r (record w { store = store }) other reply) (λ p h. h.core) refl refl (ap (λ (q : Option GroupData). option_to_list q ++ w.ring) taken.pending) taken.mark was keeps
 
   -- so of an accepted call, but for the one that opens a gate
   done : (w : WorldData D) {store : StoreData D} (call : StoreCall) (answer : Done) → IsStoreStep d w.store (CallOf call) (Ok answer) store → IsQuiet (CallOf call) → IsSilent (Store call) (reply_of (Ok answer)) → AnswersCall d w.store call answer store → IsWorldStep d w (Store call) (reply_of (Ok answer)) (record w { store = store })
@@ -227,8 +234,8 @@ module _ {D : Type 0} (d : Ghosts D) where
       let mark = ap (λ (s : StoreData D). mark_of s) made in
       let untaken = a.untaken in
       let room = a.room in
-      subst (λ (q : Past). IsAfter d q (record w { ring = ring; store = store })) (past_is p TakeGroup Taken p.steps p.trims p.acknowledged p.closed (p.taken + 1) p.mores (append-nil p.steps) (append-nil p.trims) (append-nil p.acknowledged) (append-nil p.closed) refl refl)
-      (goes_on p w (record w { ring = ring; store = store }) a p.steps p.trims a.state a.core a.counted p.mores a.words a.rests a.closed (unchanged a.state) (later ∙ sym before) mark rows p.acknowledged
+      subst (λ (q : Past). IsAfter d q (record w { ring = ring; store = store })) (past_is p TakeGroup Taken p.steps p.trims p.acknowledged p.closed (p.taken + 1) p.mores p.collected (append-nil p.steps) (append-nil p.trims) (append-nil p.acknowledged) (append-nil p.closed) refl refl (none_more p.collected))
+      (goes_on p w (record w { ring = ring; store = store }) a p.steps p.trims a.state a.core a.counted p.mores a.words p.collected a.versions a.rests a.closed (unchanged a.state) (later ∙ sym before) mark rows p.acknowledged
       (subst (λ m. AllByRecursion (λ n. n ≤ m) p.acknowledged) (sym mark) a.covers) (p.taken + 1) ((omega (arith, ends, untaken)), (omega (arith, ends, room)))))
 
   -- ---- a group becomes durable
@@ -255,12 +262,13 @@ module _ {D : Type 0} (d : Ghosts D) where
           let list : b.sent ++ waiting w ≡ (b.sent ++ g ∷ []) ++ waiting w' = ap (λ gs. b.sent ++ gs) before ∙ sym (append_assoc b.sent (g ∷ []) w.ring) ∙ ap (λ gs. (b.sent ++ g ∷ []) ++ gs) (sym later) in
           let groups = subst (HaveRecordsOf b.state first) list b.groups in
           let up : mark_after first b.sent ≤ g.mark = marks_rise b.state (mark_after first b.sent) (g ∷ []) (groups_back b.state first b.sent (g ∷ []) (groups_front b.state first (b.sent ++ g ∷ []) (waiting w') groups)) in
-          subst (λ (q : Past). IsAfter d q w') (past_is p (Store AppendOpen) (Durable mark) p.steps p.trims (p.acknowledged ++ mark.0 ∷ []) p.closed p.taken p.mores (append-nil p.steps) (append-nil p.trims) refl (append-nil p.closed) (none_more p.taken) refl) (record {
+          subst (λ (q : Past). IsAfter d q w') (past_is p (Store AppendOpen) (Durable mark) p.steps p.trims (p.acknowledged ++ mark.0 ∷ []) p.closed p.taken p.mores p.collected (append-nil p.steps) (append-nil p.trims) refl (append-nil p.closed) (none_more p.taken) refl (none_more p.collected)) (record {
             sent = b.sent ++ g ∷ [];
             state = b.state;
             core = b.core;
             counted = b.counted;
             words = b.words;
+            versions = b.versions;
             rests = b.rests;
             closed = b.closed;
             before = b.before;
@@ -284,44 +292,48 @@ module _ {D : Type 0} (d : Ghosts D) where
   module _ (only_now : OnlyNow d) where
     -- nothing happens
     pub still : (IsReply : WorldData D → Event → Reply → WorldData D → Type 0) (Justifies : Past → Event → Reply → Type 0) (w : WorldData D) (e : Event) (r : Reply) → IsSilent e r → IsReply w e r w → ((p : Past) → IsAfter d p w → Justifies p e r) → IsStepBy IsReply Justifies d w e r w
-    still IsReply Justifies w e r silent reply just = moved IsReply Justifies w w e r silent reply just (λ p h. h.core) refl refl refl (λ now. now) (λ now. refused_keeps d only_now w.store)
+    still IsReply Justifies w e r silent reply just = moved IsReply Justifies w w e r silent reply just (λ p h. h.core) refl refl refl refl (λ now. now) (λ now. refused_keeps d only_now w.store)
 
     -- a call of the core that closes no group
     pub told : (w : WorldData D) {core : CoreData} {c : Call} {result : CallResult} {e : Event} {r : Reply}
         → ((opening : Map) (steps : List Step) (s : State) → StandsFor opening steps s w.core → LeadsOn opening steps s c result core)
         → (IsAsked w c result (record w { core = core }) → IsReplyTo d w e r (record w { core = core }))
         → ((opening : Map) (steps : List Step) (s : State) → StandsFor opening steps s w.core → IsOfCall e r s c result)
-        → (acknowledged_by e r ≡ []) × (groups_by e r ≡ ([], 0, trimmed_to c result)) × IsNoClosing e → IsWorldStep d w e r (record w { core = core })
-    told w {core} {c} {result} {e} {r} leads reply is silent =
+        → HasPutIn w.core (happened e r) core → (acknowledged_by e r ≡ []) × (groups_by e r ≡ ([], 0, trimmed_to c result, 0)) × IsNoClosing e → IsWorldStep d w e r (record w { core = core })
+    told w {core} {c} {result} {e} {r} leads reply is put silent =
         stepped (IsReplyTo d) IsJustifiedBy w w' e r (λ rows. rows) (reply (record { leads = leads; rest = refl })) (λ p h. justified_reply d p w h e r w' silent.2 (reply (record { leads = leads; rest = refl }))) (λ now. now) (λ now. refused_keeps d only_now w.store) (λ p h store.
         let l = leads p.rows p.steps h.state h.core in
         let kept = h.core.versions.kept in
         let next = after_call h.state c result in
         subst (λ (q : Past). IsAfter d q w')
-        (past_is p e r (p.steps ++ steps_of h.state c result) (trims_after (course_of p) c result) p.acknowledged p.closed p.taken (mores_with h.state c result p.mores) (ap (λ xs. p.steps ++ xs) (is p.rows p.steps h.state h.core).0) (ap (λ (g : List ℕ × ℕ × List ℕ). trims_with p g.2) silent.1 ∙ trims_are p c result) (ap (λ ms. p.acknowledged ++ ms) silent.0 ∙ append-nil p.acknowledged) (ap (λ (g : List ℕ × ℕ × List ℕ). p.closed ++ g.0) silent.1 ∙ append-nil p.closed) (ap (λ (g : List ℕ × ℕ × List ℕ). p.taken + g.1) silent.1 ∙ none_more p.taken) ((is p.rows p.steps h.state h.core).1 p.mores))
-        (goes_on p w w' h (p.steps ++ steps_of h.state c result) (trims_after (course_of p) c result) next l.stands (counted_after_call p.rows p.mark p.steps h.state c result l.may kept h.counted) (mores_with h.state c result p.mores) (counted_words_after_call p.rows p.steps h.state kept p.mores h.words c result l.may) (known_after_call (course_of p) h.state c result l.may kept h.rests) (still_closed p.rows p.steps h.state c result l.may kept h.closed) (stays_after_call h.state c result kept.sound) refl refl store p.acknowledged h.covers p.taken (h.untaken, h.room)))
+        (past_is p e r (p.steps ++ steps_of h.state c result) (trims_after (course_of p) c result) p.acknowledged p.closed p.taken (mores_with h.state c result p.mores) p.collected (ap (λ xs. p.steps ++ xs) (is p.rows p.steps h.state h.core).0) (ap (λ (g : List ℕ × ℕ × List ℕ × ℕ). trims_with p g.2) silent.1 ∙ trims_are p c result) (ap (λ ms. p.acknowledged ++ ms) silent.0 ∙ append-nil p.acknowledged) (ap (λ (g : List ℕ × ℕ × List ℕ × ℕ). p.closed ++ g.0) silent.1 ∙ append-nil p.closed) (ap (λ (g : List ℕ × ℕ × List ℕ × ℕ). p.taken + g.1) silent.1 ∙ none_more p.taken) ((is p.rows p.steps h.state h.core).1 p.mores) (ap (λ (g : List ℕ × ℕ × List ℕ × ℕ). p.collected + g.3) silent.1 ∙ none_more p.collected))
+        (goes_on p w w' h (p.steps ++ steps_of h.state c result) (trims_after (course_of p) c result) next l.stands (counted_after_call p.rows p.mark p.steps h.state c result l.may kept h.counted) (mores_with h.state c result p.mores) (counted_words_after_call p.rows p.steps h.state kept p.mores h.words c result l.may) p.collected (versions_then p.rows p.steps (steps_of h.state c result) p.collected w.core core h.versions (subst (λ xs. HasPutIn w.core xs core) (is p.rows p.steps h.state h.core).0 put)) (known_after_call (course_of p) h.state c result l.may kept h.rests) (still_closed p.rows p.steps h.state c result l.may kept h.closed) (stays_after_call h.state c result kept.sound) refl refl store p.acknowledged h.covers p.taken (h.untaken, h.room)))
       where
         w' : WorldData D
         w' = record w { core = core }
 
     -- an operation is answered
-    pub answered_step : (w : WorldData D) {core : CoreData} (t : TxId) (o : Op) (a : Answer) → IsStep {A = Answer} w.core (DoCall t.0 o) (Ok a) core → IsAnswered w.core t.0 o a → IsWorldStep d w (Do t o) (Answered a) (record w { core = core })
-    answered_step w t o a step answer = told w step (λ asked. (asked, answer)) (λ opening xs s h. (answered s a (answer opening xs s h), λ ms. refl)) (refl, refl, tt)
+    pub answered_step : (w : WorldData D) {core : CoreData} (t : TxId) (o : Op) (a : Answer) → IsStep {A = Answer} w.core (DoCall t.0 o) (Ok a) core → IsAnswered w.core t.0 o a → HasPutMore w.core (Ok a) core → IsWorldStep d w (Do t o) (Answered a) (record w { core = core })
+    answered_step w {core} t o a step answer put = told w step (λ asked. (asked, answer)) (λ opening xs s h. (answered s a (answer opening xs s h), λ ms. refl)) (answer_put w.core core t.0 o a put) (refl, refl, tt)
 
     -- or refused
-    pub unanswered_step : (w : WorldData D) {core : CoreData} (t : TxId) (o : Op) {r : Refusal} → IsStep {A = Answer} w.core (DoCall t.0 o) (Err r) core → IsWorldStep d w (Do t o) (Refused r) (record w { core = core })
-    unanswered_step w t o step = told w step (λ asked. asked) (λ opening xs s h. (refl, λ ms. refl)) (refl, refl, tt)
+    pub unanswered_step : (w : WorldData D) {core : CoreData} (t : TxId) (o : Op) {r : Refusal} → IsStep {A = Answer} w.core (DoCall t.0 o) (Err r) core → HasAsMany w.core core → IsWorldStep d w (Do t o) (Refused r) (record w { core = core })
+    unanswered_step w {core} t o {r} step same = told w step (λ asked. asked) (λ opening xs s h. (refl, λ ms. refl)) (none_put w.core core (steps_of_refusal t.0 r) same (none_refused t.0 r)) (refl, refl, tt)
 
     -- a collection, over which the state stays
-    pub collected : (w : WorldData D) {core : CoreData} (c : Collection) → AreFewer w.core c core → StandsAsBefore w.core core → HasNewVersions w.core core → IsWorldStep d w Collect (Collected c) (record w { core = core })
-    collected w {core} c counts stands versions =
-        moved (IsReplyTo d) IsJustifiedBy w (record w { core = core }) Collect (Collected c) (refl, refl, refl, λ ms. refl)
-        (record { counts = counts; stands = stands; versions = versions; rest = refl }) (λ p h. tt)
-        (λ p h. stands p.rows p.steps h.state h.core) refl refl refl (λ now. now) (λ now. refused_keeps d only_now w.store)
+    pub collected : (w : WorldData D) {core : CoreData} (c : Collection) → AreFewer w.core c core → StandsAsBefore w.core core → HasNewVersions w.core core → HasTakenOne w.core c core → IsWorldStep d w Collect (Collected c) (record w { core = core })
+    collected w {core} c counts stands versions one =
+        stepped (IsReplyTo d) IsJustifiedBy w w' Collect (Collected c) (λ rows. rows)
+        (record { counts = counts; stands = stands; versions = versions; rest = refl }) (λ p h. collected_so p w.core core c h.versions one (rows_held p h.state core (stands p.rows p.steps h.state h.core) h.rests.start)) (λ now. now) (λ now. refused_keeps d only_now w.store) (λ p h store.
+        subst (λ (q : Past). IsAfter d q w') (past_is p Collect (Collected c) p.steps p.trims p.acknowledged p.closed p.taken p.mores (p.collected + collected_by Collect (Collected c)) (append-nil p.steps) (append-nil p.trims) (append-nil p.acknowledged) (append-nil p.closed) (none_more p.taken) refl refl)
+        (goes_on p w w' h p.steps p.trims h.state (stands p.rows p.steps h.state h.core) h.counted p.mores h.words (p.collected + collected_by Collect (Collected c)) (versions_less p w.core core c h.versions one) h.rests h.closed (unchanged h.state) refl refl store p.acknowledged h.covers p.taken (h.untaken, h.room)))
+      where
+        w' : WorldData D
+        w' = record w { core = core }
 
     -- a group is closed
-    pub closed_step : (w : WorldData D) {core : CoreData} {ring : List GroupData} (c : closing.Closed) → IsLinked w → IsClosingInto w.core w.ring (Ok c) core ring → IsWorldStep d w CloseGroup (Closed c) (record w { core = core; ring = ring })
-    closed_step w {core} {ring} c linked step =
+    pub closed_step : (w : WorldData D) {core : CoreData} {ring : List GroupData} (c : closing.Closed) → IsLinked w → IsClosingInto w.core w.ring (Ok c) core ring → HasAsMany w.core core → IsWorldStep d w CloseGroup (Closed c) (record w { core = core; ring = ring })
+    closed_step w {core} {ring} c linked step same =
         stepped (IsReplyTo d) IsJustifiedBy w w' CloseGroup (Closed c) (λ rows. rows) (record { closing = step; store = refl }) (λ p h. closed_so d p w h linked c w' (record { closing = step; store = refl })) (λ now. now) (λ now. refused_keeps d only_now w.store) after
       where
         w' : WorldData D
@@ -348,12 +360,13 @@ module _ {D : Type 0} (d : Ghosts D) where
             ∙ sym (follow_to (mark_of w.store) (closed_mark_of w.core) (waiting w) linked)
             ∙ ap (λ (m : ℕ). mark_after m (waiting w)) h.mark
             ∙ sym (mark_after-append first h.sent (waiting w)) in
-            subst (λ (q : Past). IsAfter d q w') (past_is p CloseGroup (Closed c) p.steps p.trims p.acknowledged (p.closed ++ g.mark ∷ []) p.taken p.mores (append-nil p.steps) (append-nil p.trims) (append-nil p.acknowledged) (ap (λ n. p.closed ++ n ∷ []) (sym now.mark)) (none_more p.taken) refl) (record {
+            subst (λ (q : Past). IsAfter d q w') (past_is p CloseGroup (Closed c) p.steps p.trims p.acknowledged (p.closed ++ g.mark ∷ []) p.taken p.mores p.collected (append-nil p.steps) (append-nil p.trims) (append-nil p.acknowledged) (ap (λ n. p.closed ++ n ∷ []) (sym now.mark)) (none_more p.taken) refl (none_more p.collected)) (record {
               sent = h.sent;
               state = after_close s c.mark.0;
               core = now.stands;
               counted = counted_closed p.mark p.steps s c.mark.0 h.counted;
               words = h.words;
+              versions = ap (λ (n : ℕ). n + p.collected) same ∙ h.versions;
               rests = known_closed (course_of p) s c.mark.0 h.rests;
               closed = record { drawn = up.drawn; above = up.above };
               before = record { drawn = h.before.drawn; above = h.before.above };
@@ -368,12 +381,12 @@ module _ {D : Type 0} (d : Ghosts D) where
             })
 
     -- closing a group is refused
-    pub unclosed_step : (w : WorldData D) {core : CoreData} {ring : List GroupData} (r : Refusal) → IsSoundWorld w → IsClosingInto w.core w.ring (Err r) core ring → IsWorldStep d w CloseGroup (Refused r) (record w { core = core; ring = ring })
-    unclosed_step w {core} {ring} r i step =
+    pub unclosed_step : (w : WorldData D) {core : CoreData} {ring : List GroupData} (r : Refusal) → IsSoundWorld w → IsClosingInto w.core w.ring (Err r) core ring → HasAsMany w.core core → IsWorldStep d w CloseGroup (Refused r) (record w { core = core; ring = ring })
+    unclosed_step w {core} {ring} r i step as_many =
         let same = (step i.core.opening i.core.steps i.core.state i.core.stands).1 in
         moved (IsReplyTo d) IsJustifiedBy w (record w { core = core; ring = ring }) CloseGroup (Refused r) (refl, refl, refl, λ ms. refl) (record { closing = step; store = refl })
         (λ p h. unclosed_so d p w h i.linked r (record w { core = core; ring = ring }) (record { closing = step; store = refl }))
-        (λ p h. (step p.rows p.steps h.state h.core).0.stands) same (ap (λ (gs : List GroupData). option_to_list (pending_of w.store) ++ gs) same) refl (λ now. now) (λ now. refused_keeps d only_now w.store)
+        (λ p h. (step p.rows p.steps h.state h.core).0.stands) as_many same (ap (λ (gs : List GroupData). option_to_list (pending_of w.store) ++ gs) same) refl (λ now. now) (λ now. refused_keeps d only_now w.store)
 
     -- a poll
     pub polled_step : (w : WorldData D) (stamp : Stamp) (answer : Bool) → answer ≡ nat_le stamp.0 (mark_of w.store) → IsWorldStep d w (Poll stamp) (Polled answer) w
@@ -381,8 +394,8 @@ module _ {D : Type 0} (d : Ghosts D) where
     polled_step w stamp true is =
         stepped (IsReplyTo d) IsJustifiedBy w w (Poll stamp) (Polled true) (λ rows. rows) (is, refl) (λ p h. tt) (λ now. now) (λ now. refused_keeps d only_now w.store) (λ p h store.
         let acked = p.acknowledged ++ stamp.0 ∷ [] in
-        subst (λ (q : Past). IsAfter d q w) (past_is p (Poll stamp) (Polled true) p.steps p.trims acked p.closed p.taken p.mores (append-nil p.steps) (append-nil p.trims) refl (append-nil p.closed) (none_more p.taken) refl)
-        (goes_on p w w h p.steps p.trims h.state h.core h.counted p.mores h.words h.rests h.closed (unchanged h.state) refl refl store acked (each_append (λ m. m ≤ mark_of w.store) p.acknowledged (stamp.0 ∷ []) h.covers (leb-true stamp.0 (mark_of w.store) (sym is), tt)) p.taken (h.untaken, h.room)))
+        subst (λ (q : Past). IsAfter d q w) (past_is p (Poll stamp) (Polled true) p.steps p.trims acked p.closed p.taken p.mores p.collected (append-nil p.steps) (append-nil p.trims) refl (append-nil p.closed) (none_more p.taken) refl (none_more p.collected))
+        (goes_on p w w h p.steps p.trims h.state h.core h.counted p.mores h.words p.collected h.versions h.rests h.closed (unchanged h.state) refl refl store acked (each_append (λ m. m ≤ mark_of w.store) p.acknowledged (stamp.0 ∷ []) h.covers (leb-true stamp.0 (mark_of w.store) (sym is), tt)) p.taken (h.untaken, h.room)))
 
   -- ---- a world that was just opened
   pub begun : (rows : Map) (w : WorldData D) → IsJustOpened rows w → (HasHonestDisk d w → KeepsRows d w.store rows) → IsAfter d (opened_over rows (mark_of w.store)) w
@@ -395,6 +408,7 @@ module _ {D : Type 0} (d : Ghosts D) where
         core = is.core;
         counted = counted_opened rows (mark_of w.store);
         words = λ t. refl;
+        versions = opened_versions rows w.core is.versions;
         rests = known_opened rows (mark_of w.store);
         closed = record { drawn = omega arith; above = tt };
         before = record { drawn = omega arith; above = tt };

@@ -15,6 +15,7 @@ use Rattle.mvo_types.specs.Keys.{Map}
 use Rattle.mvo_store.specs.Standing.{Gives, HasSlots, KeepsRows}
 use Rattle.mvo_store.specs.Opening.{IsAnswer, HasBegun, LeavesAsBefore}
 use Rattle.mvo_store.proofs.Marked.{same_answer, same_rows}
+use Rattle.mvo_core.specs.Counting.{HasOneEach}
 use Rattle.mvo_core.specs.Standing.{HasOpenedOver}
 use Rattle.mvo_world.proofs.Moves.{begun}
 
@@ -43,7 +44,7 @@ module _ {D : Type 0} (d : Ghosts D) where
       (disk_of steps.0.store, steps.1.any_moment p after, leave_prefixes (with_event p e r) steps.0 es rs w' (steps.1.after p after) steps.2)
 
   -- the rows that the store answered are those that the world is opened over
-  module _ (old : D) (w : WorldData D) (rows : Map) (mark : ℕ) (begins : HasBegun d old w.store mark) (core : HasOpenedOver rows mark w.core) (none : w.ring ≡ []) where
+  module _ (old : D) (w : WorldData D) (rows : Map) (mark : ℕ) (begins : HasBegun d old w.store mark) (core : HasOpenedOver rows mark w.core) (count : HasOneEach rows w.core) (none : w.ring ≡ []) where
     pub answer_here : IsAnswer (d.content old) (Ok (rows, mark)) → IsAnswer (d.content old) (Ok (rows, mark_of w.store))
     answer_here answer = subst (λ (m : ℕ). IsAnswer (d.content old) (Ok (rows, m))) (sym begins.mark_is) answer
 
@@ -53,6 +54,7 @@ module _ {D : Type 0} (d : Ghosts D) where
     begins_here : IsJustOpened rows w
     begins_here = record {
       core = subst (λ (m : ℕ). HasOpenedOver rows m w.core) (sym begins.mark_is) core;
+      versions = count;
       ring = none;
       store = record { pending = begins.pending; written = begins.written; jobs = begins.jobs; down = begins.down };
     }

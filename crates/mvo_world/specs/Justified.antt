@@ -24,14 +24,15 @@ use Rattle.mvo_core.specs.declared.answers.Settlement.{Settlement}
 use Rattle.mvo_core.specs.declared.answers.Settlement.TheVariants.{Committed, Waiting}
 use Rattle.mvo_world.specs.Past.{Past, course_of}
 use Rattle.mvo_world.specs.Finishing.{mores_of}
+use Rattle.mvo_world.specs.Collecting.{IsJustCollection}
 use Rattle.mvo_world.specs.Replies.{HasRow}
 use Rattle.mvo_world.specs.Forgetting.{IsJustTrim}
 use Rattle.mvo_world.specs.Closing.{IsJustClosing}
 use Rattle.mvo_world.specs.Order.{NoneBefore}
 use Rattle.mvo_world.specs.declared.event.Event.{Event}
-use Rattle.mvo_world.specs.declared.event.Event.TheVariants.{Begin, Do, Precommit, Validate, Settle, Rollback, Finish, Trim, CloseGroup}
+use Rattle.mvo_world.specs.declared.event.Event.TheVariants.{Begin, Do, Precommit, Validate, Settle, Rollback, Finish, Collect, Trim, CloseGroup}
 use Rattle.mvo_world.specs.declared.reply.Reply.{Reply}
-use Rattle.mvo_world.specs.declared.reply.Reply.TheVariants.{Began, Answered, Prepared, Validated, Settled, RolledBack, Finished, Refused}
+use Rattle.mvo_world.specs.declared.reply.Reply.TheVariants.{Began, Answered, Prepared, Validated, Settled, RolledBack, Finished, Collected, Refused}
 
 -- what the call came to: with the first cause that stands where it is refused, and else with none;
 -- and 22 just where one on whom its transaction rests was aborted
@@ -70,8 +71,8 @@ IsJustFinishing p t More = mores_of t p.mores + 1 < word_count (history_of t p.s
 IsJustFinishing p t Done = (e : ℕ) → phase_of t p.steps ≡ Commits e →
     word_count (history_of t p.steps) ≤ mores_of t p.mores + 1
 
--- The reply is justified by the past. Of events that are of no transaction it says when a trim has
--- nothing to do, and a group that is closed.
+-- The reply is justified by the past. Of events that are of no transaction it says when a version
+-- may be collected, when a trim has nothing to do, and a group that is closed.
 abbrev pub IsJustifiedBy : Past → Event → Reply → Type 0
 IsJustifiedBy p Begin (Began t) = IsJust p BeginCall Accepted × IsNextStamp p t.0
 IsJustifiedBy p Begin (Refused r) = IsJust p BeginCall (RefusedCall r)
@@ -96,6 +97,8 @@ IsJustifiedBy p (Finish t) (Finished a) =
     IsJust p (FinishCall t.0) Accepted × IsJustFinishing p t.0 a
 IsJustifiedBy p (Finish t) (Refused r) = IsJust p (FinishCall t.0) (RefusedCall r)
 IsJustifiedBy p (Finish t) r = ⊥
+IsJustifiedBy p Collect (Collected c) = IsJustCollection p c
+IsJustifiedBy p Collect r = ⊥
 IsJustifiedBy p (Trim upto) r = IsJustTrim p upto.0 r
 IsJustifiedBy p CloseGroup r = IsJustClosing p r
 IsJustifiedBy p e r = ⊤

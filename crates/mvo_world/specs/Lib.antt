@@ -6,6 +6,7 @@ pub mod Past
 pub mod Standing
 pub mod Replies
 pub mod Finishing
+pub mod Collecting
 pub mod Forgetting
 pub mod Closing
 pub mod Order

@@ -8,11 +8,12 @@ use Rattle.mvo_theory.specs.Steps.{steps_of_refusal}
 use Rattle.mvo_theory.specs.rests.Course.{Course}
 use Rattle.mvo_core.specs.declared.answers.Settlement.TheVariants.{Committed}
 use Rattle.mvo_core.specs.declared.answers.Finishing.TheVariants.{More, Done}
+use Rattle.mvo_core.specs.Collection.TheVariants as collection
 use Rattle.mvo_store.specs.declared.call.StoreCall.TheVariants.{AppendOpen}
 use Rattle.mvo_world.specs.declared.event.Event.{Event}
-use Rattle.mvo_world.specs.declared.event.Event.TheVariants.{Begin, Do, Precommit, Validate, Settle, Rollback, Finish, Trim, CloseGroup, TakeGroup, Store, Poll}
+use Rattle.mvo_world.specs.declared.event.Event.TheVariants.{Begin, Do, Precommit, Validate, Settle, Rollback, Finish, Collect, Trim, CloseGroup, TakeGroup, Store, Poll}
 use Rattle.mvo_world.specs.declared.reply.Reply.{Reply}
-use Rattle.mvo_world.specs.declared.reply.Reply.TheVariants.{Began, Answered, Prepared, Validated, Settled, RolledBack, Finished, Trimmed, Closed, Taken, Durable, Polled, Refused}
+use Rattle.mvo_world.specs.declared.reply.Reply.TheVariants.{Began, Answered, Prepared, Validated, Settled, RolledBack, Finished, Collected, Trimmed, Closed, Taken, Durable, Polled, Refused}
 
 pub record Past : Type 0 where
   -- the rows and the mark that it was opened with
@@ -29,6 +30,8 @@ pub record Past : Type 0 where
   pub taken : ℕ
   -- of the transactions that are being finished, whose each More was
   pub mores : List ℕ
+  -- how many versions were collected
+  pub collected : ℕ
 
 -- just opened over these rows at this mark
 abbrev pub opened_over : Map → ℕ → Past
@@ -41,6 +44,7 @@ opened_over rows mark = record {
   closed = [];
   taken = 0;
   mores = [];
+  collected = 0;
 }
 
 -- what happened to its transactions, and the trims
@@ -95,6 +99,11 @@ mores_after (Finish t) (Finished More) mores = mores ++ t.0 ∷ []
 mores_after (Finish t) (Finished Done) mores = filter (λ u. not (u == t.0)) mores
 mores_after e r mores = mores
 
+-- how many versions were collected
+abbrev pub collected_by : Event → Reply → ℕ
+collected_by Collect (Collected collection.Collected) = 1
+collected_by e r = 0
+
 abbrev pub with_event : Past → Event → Reply → Past
 with_event p e r = record {
   rows = p.rows;
@@ -105,6 +114,7 @@ with_event p e r = record {
   closed = p.closed ++ closed_by e r;
   taken = p.taken + taken_by e r;
   mores = mores_after e r p.mores;
+  collected = p.collected + collected_by e r;
 }
 
 -- one event with its reply after another

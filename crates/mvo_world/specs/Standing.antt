@@ -10,6 +10,7 @@ use Rattle.mvo_theory.specs.State.{State, timeline}
 use Rattle.mvo_theory.specs.Marks.{IsClosedAt, settled_to}
 use Rattle.mvo_theory.specs.Counted.{HasCounts}
 use Rattle.mvo_theory.specs.rests.Known.{KnowsRests}
+use Rattle.mvo_core.specs.Counting.{version_count}
 use Rattle.mvo_core.specs.Standing.{StandsFor}
 use Rattle.mvo_store.specs.Frames.{mark_after}
 use Rattle.mvo_store.specs.Rows.{after_groups}
@@ -17,6 +18,7 @@ use Rattle.mvo_store.specs.Seen.{disk_of, mark_of}
 use Rattle.mvo_store.specs.Standing.{Gives, KeepsRows, HasSlots}
 use Rattle.mvo_world.specs.Past.{Past, course_of}
 use Rattle.mvo_world.specs.Finishing.{HaveCountedWords}
+use Rattle.mvo_world.specs.Collecting.{versions_ever}
 use Rattle.mvo_types.specs.declared.limits.TheConstants.{RING_GROUPS}
 use Rattle.mvo_world.specs.WorldData.{WorldData, waiting}
 use Rattle.mvo_core.specs.Groups.{HaveRecordsOf}
@@ -56,6 +58,8 @@ pub record IsAfter {D : Type 0} (d : Ghosts D) (p : Past) (w : WorldData D) : Ty
   pub counted : HasCounts p.mark p.steps state
   -- of those that ended, the words that are left are those that no More took
   pub words : HaveCountedWords p.mores p.steps state
+  -- of the versions that there ever were it has those that weren't collected
+  pub versions : version_count w.core + p.collected ≡ versions_ever p
   -- it knows on whom its transactions rest
   pub rests : KnowsRests (course_of p) state
   -- up to the mark of the group that was closed last all are settled

@@ -3,6 +3,7 @@ use Rattle.std.specs.Prelude.{◌≡◌, ℕ, List, [], ◌∷◌, ◌++◌}
 use Rattle.std.specs.Option.{option_to_list}
 use Rattle.mvo_types.specs.Keys.{Map}
 use Rattle.mvo_group.specs.Data.{GroupData}
+use Rattle.mvo_core.specs.Counting.{HasOneEach}
 use Rattle.mvo_core.specs.Data.{CoreData}
 use Rattle.mvo_core.specs.Seen.{closed_mark_of}
 use Rattle.mvo_core.specs.Standing.{Stands, HasOpenedOver}
@@ -36,5 +37,6 @@ pub record IsSoundWorld {D : Type 0} (w : WorldData D) : Type 0 where
 -- nothing happened since the opening over these rows
 pub record IsJustOpened {D : Type 0} (rows : Map) (w : WorldData D) : Type 0 where
   pub core : HasOpenedOver rows (mark_of w.store) w.core
+  pub versions : HasOneEach rows w.core
   pub ring : w.ring ≡ []
   pub store : IsAtRest w.store

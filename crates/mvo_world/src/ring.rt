@@ -28,6 +28,7 @@ impl Model for Ring {
 }
 
 impl Ring {
+    ghost use Rattle.mvo_core.specs.Counting.{HasAsMany};
     ghost use Rattle.mvo_world.specs.Ring.{IsClosingInto, IsOldestTaken};
 
     /// A ring with no group.
@@ -41,7 +42,8 @@ impl Ring {
     /// Has the core close the next group into the ring. Refused as `Core::close_group` is, with
     /// RingFull exactly where so many groups wait as the ring has room for.
     pub fn close(&mut self, core: &mut Core) -> Result<Closed, Refusal>
-        ensures { IsClosingInto core.old self.old result core.new self.new }
+        ensures closing { IsClosingInto core.old self.old result core.new self.new }
+        ensures count { HasAsMany core.old core.new }
     {
         // Looks at both ends, by which the proof knows which groups are in the ring.
         self.producer.slots_beside(&mut self.consumer);

@@ -177,7 +177,8 @@ impl<D: Disk> World<D> {
     /// the disk, or, where it reads for a checkpoint or a merge, a file that breaks a rule.
     ///
     /// The answer or the refusal of an event of a transaction is justified by what was asked and
-    /// answered before it, whatever that was (`IsWorldStep`: `justified`).
+    /// answered before it, whatever that was (`IsWorldStep`: `justified`). A version is collected
+    /// only where one was left of those that were put.
     pub fn step(&mut self, event: Event) -> Reply
         ensures { IsWorldStep D.Disk self.old event result self.new }
     {

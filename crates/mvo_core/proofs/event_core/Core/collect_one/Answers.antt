@@ -5,10 +5,12 @@ use Rattle.mvo_core.specs.Readers.{no_readers}
 use Rattle.mvo_core.specs.Data.{CoreData}
 use Rattle.mvo_core.specs.View.{core_data}
 use Rattle.mvo_core.specs.Collecting.{ShowsSame}
+use Rattle.mvo_core.specs.Counting.{HasTakenOne}
 use Rattle.mvo_core.specs.Standing.{StandsFor}
-use Rattle.mvo_core.proofs.WaitsOn.{collected_stands, collected_waits, collected_counts, collected_shows}
+use Rattle.mvo_core.proofs.WaitsOn.{collected_stands, collected_waits, collected_counts, collected_shows, taken_so}
 use Rattle.mvo_core.specs.WholeStanding.{readers_of, StandsWhole}
 use Rattle.mvo_core.specs.WholeAnswers.{ShowsSameWhole}
+use Rattle.mvo_core.proofs.VersionCounts.{taken_counts}
 use Rattle.mvo_core.proofs.event_core.Core.collect_one.Goals as goal
 
 pub invariant_of-self : goal.invariant_of-self
@@ -72,3 +74,11 @@ returns-clause-whole_shows c =
     let old : CoreData = core_data f in
     subst (λ (x : CoreData). ShowsSameWhole x (record old { versions = c.collect_one.new.versions })) c.self.view_is
     (λ opening steps own w h. collected_shows (readers_of w) opening own w.core old h.core f.waiting c.self.invariant.waiting c.collect_one.result c.collect_one.new.versions c.collect_one.new.waiting c.collect_one.ensures)
+
+pub returns-clause-count : goal.returns-clause-count
+returns-clause-count c =
+    let f = c.self.inside in
+    let old : CoreData = core_data f in
+    let one = c.collect_one in
+    subst (λ (x : CoreData). HasTakenOne x one.result (record old { versions = one.new.versions })) c.self.view_is
+    (taken_counts f.start.0 old one.result one.new.versions (taken_so f.start.0 f.versions one.new.versions f.waiting one.new.waiting one.result one.ensures))

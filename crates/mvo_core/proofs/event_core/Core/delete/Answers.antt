@@ -27,6 +27,7 @@ use Rattle.mvo_readonly.specs.WholeCauses.WholeCall.{CoreCall}
 use Rattle.mvo_core.proofs.OthersLead.{others_lead}
 use Rattle.mvo_core.proofs.WholeCalled.{stage_none}
 use Rattle.mvo_core.proofs.WholeReads.{remove_not_reading, remove_refused_whole}
+use Rattle.mvo_core.proofs.VersionCounts.{removed_counts, put_none}
 use Rattle.mvo_core.proofs.event_core.Core.delete.Goals as goal
 
 pub give_up-requires : goal.give_up-requires
@@ -264,3 +265,9 @@ returns-in_err-make_room-clause-whole c = λ opening steps own w h.
     subst (λ r. LeadsWhole opening steps own w (CoreCall (Do c.args.tx.0 (Delete c.args.key))) r old) (came_spent c.from_residual-in_err-make_room.result c.from_residual-in_err-make_room.ensures.1)
     (others_lead opening steps own w (Do c.args.tx.0 (Delete c.args.key)) _ old _ g other tt
     (delete_starved (readers_of w) opening own w.core old g.core c.args.tx c.args.key other (sym c.not_removed.ensures ∙ c.in_default.is) c.shown-found.result c.shown-found.ensures (sym c.in_the_way.ensures ∙ c.in_default-in_the_way.is)))
+
+pub returns-clause-count : goal.returns-clause-count
+returns-clause-count c =
+    let f = c.self.inside in
+    put_none (core_data f) c.args.self.now _ c.self.view_is
+    (removed_counts f.versions c.remove.new.versions f.table c.remove.new.table c.args.tx (option_to_list c.shown-found.result.depends_on) c.in-Some-version.old c.args.key c.in_ok-remove.ensures.ok)

@@ -13,6 +13,8 @@ use Rattle.mvo_readonly.specs.WholeCauses.WholeCall.{CoreCall}
 use Rattle.mvo_core.specs.Finishing.{why_not_finished}
 use Rattle.mvo_core.proofs.WholeFinished.{came_refused, finish_refused_whole, finish_more_whole, finish_done_whole}
 use Rattle.mvo_core.proofs.Waits.{owed_for, waits_finished, waits_gone}
+use Rattle.mvo_core.proofs.VersionCounts.{one_replaced_counts}
+use Rattle.mvo_core.specs.Counting.{version_count}
 use Rattle.mvo_core.proofs.event_core.Core.finish_one.Goals as goal
 
 pub final_word-requires : goal.final_word-requires
@@ -128,3 +130,14 @@ returns-in_err-word-clause-whole c = λ opening steps own w h.
     subst (λ r. LeadsWhole opening steps own w (CoreCall (Finish c.args.tx.0)) r c.args.self.now) (came_refused c.from_residual.result c.in_err-word.field-0.0 c.from_residual.ensures.1)
     (finish_refused_whole opening steps own w c.args.self.now h c.args.tx.0 c.in_err-word.field-0.0
     (ap (λ (v : CoreData). why_not_finished (state_of v.table c.args.tx.0)) (sym c.self.view_is) ∙ c.in_err-word.ensures.err))
+
+-- ---- as many versions
+pub returns-then-is_some-clause-count : goal.returns-then-is_some-clause-count
+returns-then-is_some-clause-count c =
+    let f = c.self.inside in
+    one_replaced_counts f.versions c.replace_next-replaced.new.versions f.table c.replace_next-replaced.new.table c.args.tx.0 c.in_ok-word.word c.replace_next-replaced.ensures.replaced ∙ ap version_count c.self.view_is
+
+pub returns-clause-count : goal.returns-clause-count
+returns-clause-count c =
+    let f = c.self.inside in
+    one_replaced_counts f.versions c.replace_next-replaced.new.versions f.table c.replace_next-replaced.new.table c.args.tx.0 c.in_ok-word.word c.replace_next-replaced.ensures.replaced ∙ ap version_count c.self.view_is

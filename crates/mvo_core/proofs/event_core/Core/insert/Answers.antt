@@ -24,6 +24,7 @@ use Rattle.mvo_readonly.specs.WholeCauses.WholeCall.{CoreCall}
 use Rattle.mvo_core.proofs.OthersLead.{others_lead}
 use Rattle.mvo_core.proofs.WholeCalled.{stage_none}
 use Rattle.mvo_core.proofs.WholeReads.{put_not_reading, put_refused_whole}
+use Rattle.mvo_core.proofs.VersionCounts.{same_counts, inserted_counts, put_more, refused_more}
 use Rattle.mvo_core.proofs.event_core.Core.insert.Goals as goal
 
 pub returns-in-Some-clause-step : goal.returns-in-Some-clause-step
@@ -230,3 +231,18 @@ returns-in_err-make_room-clause-whole c = λ opening steps own w h.
     subst (λ r. LeadsWhole opening steps own w (CoreCall (Do c.args.tx.0 (Insert c.args.row))) r old) (came_spent c.from_residual-in_err-make_room.result c.from_residual-in_err-make_room.ensures.1)
     (others_lead opening steps own w (Do c.args.tx.0 (Insert c.args.row)) _ old _ g other tt
     (insert_starved (readers_of w) opening own w.core old g.core c.args.tx c.args.row other (sym c.not_put.ensures ∙ c.in_default.is)))
+
+-- ---- how many versions there are then
+pub returns-in_err-insert_row-clause-count : goal.returns-in_err-insert_row-clause-count
+returns-in_err-insert_row-clause-count c =
+    let f = c.self.inside in
+    let old : CoreData = core_data f in
+    let versions = c.insert_row.new.versions in
+    refused_more old c.args.self.now (record old { versions = versions; table = c.insert_row.new.table }) c.from_residual-in_err-insert_row.result c.from_residual-in_err-insert_row.ensures.1 c.self.view_is
+    (same_counts f.versions versions c.in_err-insert_row.ensures.err)
+
+pub returns-clause-count : goal.returns-clause-count
+returns-clause-count c =
+    let f = c.self.inside in
+    put_more (core_data f) c.args.self.now _ 1 c.self.view_is
+    (inserted_counts f.versions c.insert_row.new.versions f.table c.insert_row.new.table c.args.tx (option_to_list c.shown-found.result.depends_on) c.args.row c.in_ok-insert_row.ensures.ok)

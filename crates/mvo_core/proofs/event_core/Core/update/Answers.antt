@@ -28,6 +28,7 @@ use Rattle.mvo_readonly.specs.WholeCauses.WholeCall.{CoreCall}
 use Rattle.mvo_core.proofs.OthersLead.{others_lead}
 use Rattle.mvo_core.proofs.WholeCalled.{stage_none}
 use Rattle.mvo_core.proofs.WholeReads.{put_not_reading, put_refused_whole}
+use Rattle.mvo_core.proofs.VersionCounts.{same_counts, replaced_counts, put_more, refused_more}
 use Rattle.mvo_core.proofs.event_core.Core.update.Goals as goal
 
 pub give_up-requires : goal.give_up-requires
@@ -286,3 +287,18 @@ returns-in_err-make_room-clause-whole c = λ opening steps own w h.
     subst (λ r. LeadsWhole opening steps own w (CoreCall (Do c.args.tx.0 (Update c.args.row))) r old) (came_spent c.from_residual-in_err-make_room.result c.from_residual-in_err-make_room.ensures.1)
     (others_lead opening steps own w (Do c.args.tx.0 (Update c.args.row)) _ old _ g other tt
     (update_starved (readers_of w) opening own w.core old g.core c.args.tx c.args.row other (sym c.not_put.ensures ∙ c.in_default.is) c.shown-found.result is (sym c.in_the_way.ensures ∙ c.in_default-in_the_way.is)))
+
+-- ---- how many versions there are then
+pub returns-in_err-put_instead-clause-count : goal.returns-in_err-put_instead-clause-count
+returns-in_err-put_instead-clause-count c =
+    let f = c.self.inside in
+    let old : CoreData = core_data f in
+    let versions = c.put_instead.new.versions in
+    refused_more old c.args.self.now (record old { versions = versions; table = c.put_instead.new.table }) c.from_residual-in_err-put_instead.result c.from_residual-in_err-put_instead.ensures.1 c.self.view_is
+    (same_counts f.versions versions c.in_err-put_instead.ensures.err.versions)
+
+pub returns-clause-count : goal.returns-clause-count
+returns-clause-count c =
+    let f = c.self.inside in
+    put_more (core_data f) c.args.self.now _ 1 c.self.view_is
+    (replaced_counts f.versions c.put_instead.new.versions f.table c.put_instead.new.table c.args.tx (option_to_list c.shown-found.result.depends_on) c.in-Some-version.old c.args.row c.in_ok-put_instead.ensures.ok)

@@ -18,8 +18,8 @@ invariant_of-self c =
     b.ensures.looked b.ensures.consumer (subst (λ (n : ℕ). n + length (sent p3) ≡ producer_capacity p3 + length (received b.new.consumer)) b.ensures.value b.ensures.all_free)
     d.ensures.producer d.ensures.looked d.ensures.fifo
 
-pub returns : goal.returns
-returns c = λ opening steps s h.
+pub returns-clause-closing : goal.returns-clause-closing
+returns-clause-closing c = λ opening steps s h.
     let f = c.self.inside in
     let a = c.slots_beside in
     let b = c.slots_beside-2 in

@@ -9,4 +9,4 @@ invariant_of-self g c = sound_collected (world_data c.self.inside) c.self.invari
 pub returns : goal.returns
 returns g c =
     let e = c.collect_one.ensures in
-    rw (← c.self.view_is) (collected g.D.Disk g.met.D.Disk.only_now (world_data c.self.inside) c.collect_one.result e.counts e.stands e.rest)
+    rw (← c.self.view_is) (collected g.D.Disk g.met.D.Disk.only_now (world_data c.self.inside) c.collect_one.result e.counts e.stands e.rest e.count)

@@ -2,6 +2,9 @@ use Rattle.std.proofs.Common.{refl}
 use Rattle.mvo_world.specs.View.{world_data}
 use Rattle.mvo_world.proofs.Justified.{finished, counted}
 use Rattle.mvo_world.proofs.Moves.{told}
+use Rattle.mvo_world.proofs.Collecting.{as_many}
+use Rattle.mvo_world.specs.declared.event.Event.TheVariants.{Finish}
+use Rattle.mvo_world.specs.declared.reply.Reply.TheVariants.{Finished, Refused}
 use Rattle.mvo_world.proofs.Sound.{sound_asked}
 use Rattle.mvo_world.proofs.world.World.finish.Goals as goal
 
@@ -11,6 +14,6 @@ invariant_of-self g c = sound_asked (world_data c.self.inside) c.self.invariant 
 pub returns : goal.returns
 returns g c =
     elim c.match-finish_one.branch [
-      | goal.in-Ok w ↦ rw (w.result-is, ← c.self.view_is) (told g.D.Disk g.met.D.Disk.only_now (world_data c.self.inside) w.in-Ok.ensures.step (λ asked. (asked, w.in-Ok.ensures.answer)) (λ o xs s h. (finished s c.args.tx w.in-Ok.finishing (w.in-Ok.ensures.answer o xs s h), λ ms. counted s c.args.tx w.in-Ok.finishing (w.in-Ok.ensures.answer o xs s h) ms)) (refl, refl, tt))
-      | goal.in-Err w ↦ rw (w.result-is, ← c.self.view_is) (told g.D.Disk g.met.D.Disk.only_now (world_data c.self.inside) w.in-Err.ensures.step (λ asked. asked) (λ o xs s h. (refl, λ ms. refl)) (refl, refl, tt))
+      | goal.in-Ok w ↦ rw (w.result-is, ← c.self.view_is) (told g.D.Disk g.met.D.Disk.only_now (world_data c.self.inside) w.in-Ok.ensures.step (λ asked. (asked, w.in-Ok.ensures.answer)) (λ o xs s h. (finished s c.args.tx w.in-Ok.finishing (w.in-Ok.ensures.answer o xs s h), λ ms. counted s c.args.tx w.in-Ok.finishing (w.in-Ok.ensures.answer o xs s h) ms)) (as_many c.self.inside.core c.finish_one.new.self (Finish c.args.tx) (Finished w.in-Ok.finishing) tt w.in-Ok.ensures.count) (refl, refl, tt))
+      | goal.in-Err w ↦ rw (w.result-is, ← c.self.view_is) (told g.D.Disk g.met.D.Disk.only_now (world_data c.self.inside) w.in-Err.ensures.step (λ asked. asked) (λ o xs s h. (refl, λ ms. refl)) (as_many c.self.inside.core c.finish_one.new.self (Finish c.args.tx) (Refused w.in-Err.refusal) tt w.in-Err.ensures.count) (refl, refl, tt))
     ]

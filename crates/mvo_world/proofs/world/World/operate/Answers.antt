@@ -10,6 +10,6 @@ invariant_of-self g c = sound_asked (world_data c.self.inside) c.self.invariant 
 pub returns : goal.returns
 returns g c =
     elim c.match-operate.branch [
-      | goal.in-Ok w ↦ rw (w.result-is, ← c.self.view_is) (answered_step g.D.Disk g.met.D.Disk.only_now (world_data c.self.inside) c.args.tx c.args.op w.in-Ok.answer w.in-Ok.ensures.step w.in-Ok.ensures.answer)
-      | goal.in-Err w ↦ rw (w.result-is, ← c.self.view_is) (unanswered_step g.D.Disk g.met.D.Disk.only_now (world_data c.self.inside) c.args.tx c.args.op w.in-Err.ensures.step)
+      | goal.in-Ok w ↦ rw (w.result-is, ← c.self.view_is) (answered_step g.D.Disk g.met.D.Disk.only_now (world_data c.self.inside) c.args.tx c.args.op w.in-Ok.answer w.in-Ok.ensures.step w.in-Ok.ensures.answer w.in-Ok.ensures.count)
+      | goal.in-Err w ↦ rw (w.result-is, ← c.self.view_is) (unanswered_step g.D.Disk g.met.D.Disk.only_now (world_data c.self.inside) c.args.tx c.args.op w.in-Err.ensures.step w.in-Err.ensures.count)
     ]
