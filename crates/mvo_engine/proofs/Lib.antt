@@ -15,3 +15,5 @@ pub mod Pouring
 pub mod Retiring
 mod Refused
 mod Transacting
+mod Asking
+mod OneCall
