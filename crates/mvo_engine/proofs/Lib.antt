@@ -16,3 +16,5 @@ pub mod Retiring
 pub mod Lasting
 mod Refused
 mod Transacting
+mod Asking
+mod OneCall

@@ -12,6 +12,9 @@ use Rattle.mvo_theory.specs.Causes.{is_failure}
 use Rattle.mvo_theory.specs.Calls.Call.{Do}
 use Rattle.mvo_core.specs.Receipts.{Receipt, receipt}
 use Rattle.mvo_core.specs.Steps.{IsAnswered}
+use Rattle.mvo_engine.specs.declared.outcome.Outcome.{Outcome}
+use Rattle.mvo_engine.specs.declared.outcome.Outcome.TheVariants.{Commit}
+use Rattle.mvo_engine.specs.declared.transacted.Transacted.{Transacted}
 use Rattle.mvo_engine.specs.run.Opening.{Opening}
 use Rattle.mvo_engine.specs.run.Receiving.{AreBelow}
 use Rattle.mvo_engine.specs.Sound.{IsSoundCore}
@@ -19,7 +22,7 @@ use Rattle.mvo_engine.specs.States.{CoreState, SessionState}
 use Rattle.mvo_engine.specs.Calls.{IsCoreStep, IsBegun, IsNoTx, HasCommitted}
 use Rattle.mvo_engine.specs.Asked.{WasAsked, WasAnswered, HasGone}
 use Rattle.mvo_engine.specs.Refusing.{refuses_begin, refuses_commit}
-use Rattle.mvo_engine.specs.Transacting.{Work, HasNewTx, HasDone, HasNotDone, IsAttempt, HaveFailed, AreAttempts}
+use Rattle.mvo_engine.specs.Transacting.{Work, HasNewTx, HasDone, HasGivenUp, HasTransacted, HasNotDone, IsAttempt, HaveFailed, AreAttempts}
 use Rattle.mvo_engine.specs.Transacting.IsRefusedBy.{Beginning, Working, Committing}
 use Rattle.mvo_engine.specs.Forgetting.{HasForgottenSome, HasForgottenAny}
 use Rattle.mvo_engine.specs.declared.session.operating.TheConstants.{FORGOTTEN_AT_ONCE}
@@ -63,10 +66,10 @@ not_worked {o = o} work old begun worked new e f begins works same gone is left 
     subst (λ (r : Refusal). HasNotDone o work old r new) (sym is) done
 
 -- a commit that is refused
-pub not_committed : {A : Type 0} {o : Opening} (work : Work A) (old begun worked asked new : SessionState) (a : A) (e f : Refusal) → HasNewTx o old begun → work begun (Ok a) worked → worked.receipts ≡ begun.receipts → refuses_commit e ≡ true → HasCommitted worked (Err e) asked → f ≡ e → new ≡ record asked { tx = None } → HasNotDone o work old f new
-not_committed {o = o} work old begun worked asked new a e f begins works same listed commits is left =
+pub not_committed : {A : Type 0} {o : Opening} (work : Work A) (old begun worked asked new : SessionState) (a : A) (out : Outcome A) (e f : Refusal) → out ≡ Commit a → HasNewTx o old begun → work begun (Ok out) worked → worked.receipts ≡ begun.receipts → refuses_commit e ≡ true → HasCommitted worked (Err e) asked → f ≡ e → new ≡ record asked { tx = None } → HasNotDone o work old f new
+not_committed {A} {o = o} work old begun worked asked new a out e f kind begins works same listed commits is left =
     let done : HasNotDone o work old e new = record {
-      by = Committing begun worked begins a works listed;
+      by = Committing begun worked begins a (subst (λ (x : Outcome A). work begun (Ok x) worked) kind works) listed;
       receipts = left_of old begun new.receipts begins (ap (λ (s : SessionState). s.receipts) left ∙ ap (λ (s : SessionState). s.receipts) commits ∙ same);
       tx = ap (λ (s : SessionState). s.tx) left;
     } in
@@ -81,7 +84,7 @@ not_begun {o = o} work old new e none begun same listed = record {
 }
 
 -- a commit that is accepted
-pub committed_so : {A : Type 0} {o : Opening} (work : Work A) (old begun worked new : SessionState) (a : A) (e : Stamp) (x : Option ℕ) → worked.tx ≡ x → HasNewTx o old begun → work begun (Ok a) worked → worked.receipts ≡ begun.receipts → IsNoTx {A = Stamp} x (Ok e) → IfSome x (λ t. new ≡ record worked { tx = None; told = []; receipts = worked.receipts ++ receipt t e.0 worked.told ∷ [] }) → HasDone o work old (a, e) new
+pub committed_so : {A : Type 0} {o : Opening} (work : Work A) (old begun worked new : SessionState) (a : A) (e : Stamp) (x : Option ℕ) → worked.tx ≡ x → HasNewTx o old begun → work begun (Ok (Commit a)) worked → worked.receipts ≡ begun.receipts → IsNoTx {A = Stamp} x (Ok e) → IfSome x (λ t. new ≡ record worked { tx = None; told = []; receipts = worked.receipts ++ receipt t e.0 worked.told ∷ [] }) → HasDone o work old a e new
 committed_so work old begun worked new a e None is begins works same there commits = absurd (apart there)
   where
     apart : Ok e ≡ Err NoSuchTransaction → ⊥
@@ -114,9 +117,9 @@ ended_by o work times n old before new e b failed same last fewer is wrong = rec
   tx = last.tx;
 }
 
--- one that is accepted is the last
-pub done_by : {A : Type 0} (o : Opening) (work : Work A) (times n : ℕ) (old before new : SessionState) (told : A × Stamp) → HaveFailed o work n old before → HasForgottenAny o old.receipts before.receipts → HasDone o work before told new → n < max 1 times → AreAttempts o work times old (Ok told) new
-done_by o work times n old before new told failed same last fewer = record {
+-- one that is committed is the last
+committed_by : {A : Type 0} (o : Opening) (work : Work A) (times n : ℕ) (old before new : SessionState) (told : A) (end : Stamp) → HaveFailed o work n old before → HasForgottenAny o old.receipts before.receipts → HasDone o work before told end new → n < max 1 times → AreAttempts o work times old (Ok (record { told = told; end = Some end })) new
+committed_by o work times n old before new told end failed same last fewer = record {
   failures = n;
   before = before;
   failed = failed;
@@ -126,16 +129,37 @@ done_by o work times n old before new told failed same last fewer = record {
   receipts = (
     last.begun.receipts,
     more_forgotten o old.receipts before.receipts last.begun.receipts same (some_forgotten o before last.begun last.begins.forgets),
-    receipt last.tx told.1.0 last.worked.told,
+    receipt last.tx end.0 last.worked.told,
     refl,
     ap (λ (s : SessionState). s.receipts) last.commits,
   );
   tx = ap (λ (s : SessionState). s.tx) last.commits;
 }
 
+-- so is one that gave up
+gave_up_by : {A : Type 0} (o : Opening) (work : Work A) (times n : ℕ) (old before new : SessionState) (told : A) → HaveFailed o work n old before → HasForgottenAny o old.receipts before.receipts → HasGivenUp o work before told new → n < max 1 times → AreAttempts o work times old (Ok (record { told = told; end = None })) new
+gave_up_by o work times n old before new told failed same last fewer = record {
+  failures = n;
+  before = before;
+  failed = failed;
+  last = last;
+  fewer = fewer;
+  spent = tt;
+  receipts = more_forgotten o old.receipts before.receipts new.receipts same (left_of before last.begun new.receipts last.begins (ap (λ (s : SessionState). s.receipts) last.leaves));
+  tx = ap (λ (s : SessionState). s.tx) last.leaves;
+}
+
+come_by : {A : Type 0} (o : Opening) (work : Work A) (times n : ℕ) (old before new : SessionState) (told : A) (end : Option Stamp) → HaveFailed o work n old before → HasForgottenAny o old.receipts before.receipts → HasTransacted o work before told end new → n < max 1 times → AreAttempts o work times old (Ok (record { told = told; end = end })) new
+come_by o work times n old before new told (Some end) failed same last fewer = committed_by o work times n old before new told end failed same last fewer
+come_by o work times n old before new told None failed same last fewer = gave_up_by o work times n old before new told failed same last fewer
+
+-- one that isn't refused is the last
+pub done_by : {A : Type 0} (o : Opening) (work : Work A) (times n : ℕ) (old before new : SessionState) (done : Transacted A) → HaveFailed o work n old before → HasForgottenAny o old.receipts before.receipts → IsAttempt o work before (Ok done) new → n < max 1 times → AreAttempts o work times old (Ok done) new
+done_by o work times n old before new done failed same last fewer = come_by o work times n old before new done.told done.end failed same last fewer
+
 -- the last that there may be
-pub last_by : {A : Type 0} (o : Opening) (work : Work A) (times n : ℕ) (old before new : SessionState) (r : Result (A × Stamp) Refusal) → HaveFailed o work n old before → HasForgottenAny o old.receipts before.receipts → IsAttempt o work before r new → n + 1 ≡ max 1 times → AreAttempts o work times old r new
-last_by o work times n old before new (Ok told) failed same last all = done_by o work times n old before new told failed same last (omega (arith, all))
+pub last_by : {A : Type 0} (o : Opening) (work : Work A) (times n : ℕ) (old before new : SessionState) (r : Result (Transacted A) Refusal) → HaveFailed o work n old before → HasForgottenAny o old.receipts before.receipts → IsAttempt o work before r new → n + 1 ≡ max 1 times → AreAttempts o work times old r new
+last_by o work times n old before new (Ok done) failed same last all = done_by o work times n old before new done failed same last (omega (arith, all))
 last_by o work times n old before new (Err e) failed same last all = record {
   failures = n;
   before = before;

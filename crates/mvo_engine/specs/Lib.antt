@@ -3,6 +3,7 @@ pub mod run
 pub mod Sound
 pub mod Opening
 pub mod Opened
+pub mod OneCall
 pub mod States
 pub mod Calls
 pub mod Legal
@@ -16,6 +17,7 @@ pub mod Forgetting
 pub mod Retiring
 pub mod Settling
 pub mod Asked
+pub mod Asking
 pub mod Refusing
 pub mod Transacting
 pub mod Audited

@@ -1,5 +1,7 @@
+mod asking;
 mod committing;
 mod forgetting;
+mod giving_up;
 mod lasting;
 mod operating;
 mod transacting;

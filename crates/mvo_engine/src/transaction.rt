@@ -1,4 +1,5 @@
 use crate::gate::Gate;
+use crate::outcome::Outcome;
 use crate::run::Run;
 use crate::session::Session;
 use mvo_disk::Disk;
@@ -16,9 +17,14 @@ pub trait Transaction<T, L: Run, D: Disk, G: Gate + Drop> {
     /// By default anything.
     ghost comes_to: { Self → Work T } = { λ work old result new. ⊤ };
 
-    /// Reads and writes in the transaction that the session has begun. Where it is refused, the
-    /// transaction is rolled back, and where the refusal is a failure, all is done again.
-    fn run<R: Wait>(&self, rt: &R, session: &mut Session<'_, L, D, G>) -> Result<T, Refusal>
+    /// Reads and writes in the transaction that the session has begun, and says whether it is to be
+    /// committed. Where it gives up, or is refused, the transaction is rolled back; and where the
+    /// refusal is a failure, all is done again.
+    fn run<R: Wait>(
+        &self,
+        rt: &R,
+        session: &mut Session<'_, L, D, G>,
+    ) -> Result<Outcome<T>, Refusal>
         ensures comes { comes_to self.now session.old result session.new }
         ensures receipts { session.new.receipts ≡ session.old.receipts };
 }

@@ -3,10 +3,12 @@
 use super::Session;
 use super::committing::is_failure;
 use crate::gate::Gate;
+use crate::outcome::Outcome;
 use crate::run::Run;
+use crate::transacted::Transacted;
 use crate::transaction::Transaction;
 use mvo_disk::Disk;
-use mvo_types::{Refusal, Stamp};
+use mvo_types::Refusal;
 use std::sync::Wait;
 use std::thread;
 
@@ -15,12 +17,14 @@ impl<'e, L: Run, D: Disk, G: Gate + Drop> Session<'e, L, D, G> {
     ghost use Rattle.mvo_engine.specs.Asked.{HasGone};
     ghost use Rattle.mvo_engine.specs.Transacting.{IsTransacted, AreAttempts, IsAttempt};
 
-    /// Begins a transaction, does the work in it and commits it. Where another was in its way
-    /// (WriteConflict, ValidationFailed, DependencyAborted), all of it is done again, up to so many
-    /// times in all, at least once. Where anything else is refused it is rolled back, so the
-    /// session is left without a transaction. Answers what the work gave, with the end timestamp
-    /// of the commit, whose receipt is one more; what is refused has left none. Each attempt lets
-    /// go of up to 64 receipts that end up to the start of the tale.
+    /// Begins a transaction, does the work in it and commits it, or rolls it back where the work
+    /// gives up. Where another was in its way (WriteConflict, ValidationFailed, DependencyAborted),
+    /// all of it is done again, up to so many times in all, at least once. Where anything else is
+    /// refused it is rolled back, so the session is left without a transaction. Answers what the
+    /// work gave, with the end timestamp of the commit, whose receipt is one more. Where the work
+    /// gave up there is no end, and that attempt is the last; it has left no receipt, and neither
+    /// has what is refused. Each attempt lets go of up to 64 receipts that end up to the start of
+    /// the tale.
     ///
     /// Refused with Busy where the session has a transaction, which stays; as the last attempt
     /// was; and where the work ended the transaction itself, with NoSuchTransaction.
@@ -29,7 +33,7 @@ impl<'e, L: Run, D: Disk, G: Gate + Drop> Session<'e, L, D, G> {
         rt: &R,
         times: u32,
         work: &W,
-    ) -> Result<(T, Stamp), Refusal>
+    ) -> Result<Transacted<T>, Refusal>
         ensures { IsTransacted L.opening (W.comes_to work.now) times
             self.old.tx self.old result self.new }
     {
@@ -45,7 +49,7 @@ impl<'e, L: Run, D: Disk, G: Gate + Drop> Session<'e, L, D, G> {
         rt: &R,
         times: u32,
         work: &W,
-    ) -> Result<(T, Stamp), Refusal>
+    ) -> Result<Transacted<T>, Refusal>
         requires { self.old.tx ≡ None }
         ensures { AreAttempts L.opening (W.comes_to work.now) times self.old result self.new }
     {
@@ -64,7 +68,7 @@ impl<'e, L: Run, D: Disk, G: Gate + Drop> Session<'e, L, D, G> {
         &mut self,
         rt: &R,
         work: &W,
-    ) -> Result<(T, Stamp), Refusal>
+    ) -> Result<Transacted<T>, Refusal>
         requires { self.old.tx ≡ None }
         ensures { IsAttempt L.opening (W.comes_to work.now) self.old result self.new }
     {
@@ -72,18 +76,25 @@ impl<'e, L: Run, D: Disk, G: Gate + Drop> Session<'e, L, D, G> {
             Ok(_) => {}
             Err(refusal) => return Err(refusal),
         }
-        let told = match work.run(rt, self) {
-            Ok(told) => told,
-            Err(refusal) => return Err(self.give_up(rt, refusal)),
+        let outcome = match work.run(rt, self) {
+            Ok(outcome) => outcome,
+            Err(refusal) => return Err(self.refused(rt, refusal)),
+        };
+        let told = match outcome {
+            Outcome::Commit(told) => told,
+            Outcome::GiveUp(told) => return Ok(self.given_up(rt, told)),
         };
         match self.commit_tx(rt) {
-            Ok(end) => Ok((told, end)),
-            Err(refusal) => Err(self.give_up(rt, refusal)),
+            Ok(end) => {
+                let end = Some(end);
+                Ok(Transacted { told, end })
+            }
+            Err(refusal) => Err(self.refused(rt, refusal)),
         }
     }
 
     // Rolls back what the refusal left of the transaction, and passes it on.
-    fn give_up<R: Wait>(&mut self, rt: &R, refusal: Refusal) -> Refusal
+    fn refused<R: Wait>(&mut self, rt: &R, refusal: Refusal) -> Refusal
         ensures same { result ≡ refusal }
         ensures session { self.new ≡ record self.old { tx = None } }
         ensures gone { IfSome self.old.tx (HasGone L.opening) }

@@ -1,5 +1,6 @@
 //! What a session of a test is asked.
 
+use super::kinds::Kind;
 use super::rows::{KEY, beside, change, changes, found, many, put, row};
 use super::told::{Told, answered, begun, done, seen, stamped};
 use super::transacting::{Work, transact};
@@ -34,6 +35,8 @@ pub enum Ask {
     Many(u32, u8),
     /// To read it in a transaction of its own.
     Find,
+    /// An operation that is answered of its kind.
+    Of(Kind),
     /// To try a whole transaction, at most so many times.
     Transact(u32, Work),
     /// Whether all up to the stamp is durable.
@@ -54,6 +57,7 @@ impl Ask {
             Ask::Begin => begun(session.begin_tx(rt)),
             Ask::Commit => stamped(session.commit_tx(rt)),
             Ask::Rollback => done(session.rollback_tx(rt)),
+            Ask::Of(kind) => kind.of(rt, alloc, session),
             Ask::Transact(times, work) => transact(rt, alloc, session, times, work),
             Ask::Poll(stamp) => Told::Is(session.poll_durable(Stamp(stamp))),
             Ask::Await(stamp) => done(session.wait_durable(rt, Stamp(stamp))),

@@ -2,7 +2,7 @@
 
 use super::rows::byte_in;
 use mvo_disk::Disk;
-use mvo_engine::{Gate, Run, Session};
+use mvo_engine::{Gate, Run, Session, Transacted};
 use mvo_store::{Done, Generation, Progress, Reclaimed};
 use mvo_types::{Answer, Refusal, Stamp, TxId};
 
@@ -19,6 +19,8 @@ pub enum Told {
     Byte(Option<u8>),
     /// What a transaction gave that was done as a whole, and its end.
     Whole(Option<u8>, u64),
+    /// What one gave that was given up.
+    GivenUp(Option<u8>),
     Inserted,
     Exists,
     Updated,
@@ -110,9 +112,12 @@ pub fn seen(answer: Result<Option<u8>, Refusal>) -> Told {
 }
 
 /// What a whole transaction gave.
-pub fn whole(answer: Result<(Option<u8>, Stamp), Refusal>) -> Told {
+pub fn whole(answer: Result<Transacted<Option<u8>>, Refusal>) -> Told {
     match answer {
-        Ok((byte, end)) => Told::Whole(byte, end.0),
+        Ok(done) => match done.end {
+            Some(end) => Told::Whole(done.told, end.0),
+            None => Told::GivenUp(done.told),
+        },
         Err(refusal) => Told::Refused(refusal.code()),
     }
 }

@@ -8,11 +8,11 @@ use super::rows::{KEY, beside, byte_in, row};
 use super::steps::CoreStep::{Clock, TrimAll};
 use super::steps::Line;
 use super::steps::Step::{Core, One, Other};
-use super::told::Told::{self, Byte, Done, Inserted, Number, Updated, Whole};
+use super::told::Told::{self, Byte, Done, GivenUp, Inserted, Number, Updated, Whole};
 use super::told::{BAD_TABLE, BUSY, WRITE_CONFLICT, whole};
 use super::trial::{Trial, tried_anew};
 use mvo_disk::Disk;
-use mvo_engine::{Gate, OpenGate, Run, Session, Transaction};
+use mvo_engine::{Gate, OpenGate, Outcome, Run, Session, Transaction};
 use mvo_types::{Refusal, RowKey};
 use std::alloc::Global;
 use std::sync::Wait;
@@ -28,6 +28,10 @@ pub enum Work {
     Stray,
     /// Changes a row, and then one that another has changed.
     Clash,
+    /// Changes two rows, and gives up.
+    GiveUp,
+    /// Ends the transaction itself, and gives up.
+    Leave,
 }
 
 #[derive(Drop)]
@@ -41,12 +45,12 @@ impl<L: Run, D: Disk, G: Gate + Drop> Transaction<Option<u8>, L, D, G> for Repla
         &self,
         rt: &R,
         session: &mut Session<'_, L, D, G>,
-    ) -> Result<Option<u8>, Refusal> {
+    ) -> Result<Outcome<Option<u8>>, Refusal> {
         let before = byte_in(&session.read(rt, KEY)?);
         session.read(rt, RowKey { table: 0, key: 6 })?;
         insert(rt, self.alloc, session, self.byte)?;
         update(rt, self.alloc, session, self.byte)?;
-        Ok(before)
+        Ok(Outcome::Commit(before))
     }
 }
 
@@ -60,10 +64,10 @@ impl<L: Run, D: Disk, G: Gate + Drop> Transaction<Option<u8>, L, D, G> for Stray
         &self,
         rt: &R,
         session: &mut Session<'_, L, D, G>,
-    ) -> Result<Option<u8>, Refusal> {
+    ) -> Result<Outcome<Option<u8>>, Refusal> {
         update(rt, self.alloc, session, 9)?;
         let key = RowKey { table: 255, key: 1 };
-        Ok(byte_in(&session.read(rt, key)?))
+        Ok(Outcome::Commit(byte_in(&session.read(rt, key)?)))
     }
 }
 
@@ -77,10 +81,42 @@ impl<L: Run, D: Disk, G: Gate + Drop> Transaction<Option<u8>, L, D, G> for Clash
         &self,
         rt: &R,
         session: &mut Session<'_, L, D, G>,
-    ) -> Result<Option<u8>, Refusal> {
+    ) -> Result<Outcome<Option<u8>>, Refusal> {
         update_beside(rt, self.alloc, session, 9)?;
         update(rt, self.alloc, session, 9)?;
-        Ok(None)
+        Ok(Outcome::Commit(None))
+    }
+}
+
+#[derive(Drop)]
+struct GivingUp {
+    alloc: Global,
+}
+
+impl<L: Run, D: Disk, G: Gate + Drop> Transaction<Option<u8>, L, D, G> for GivingUp {
+    fn run<R: Wait>(
+        &self,
+        rt: &R,
+        session: &mut Session<'_, L, D, G>,
+    ) -> Result<Outcome<Option<u8>>, Refusal> {
+        let before = byte_in(&session.read(rt, KEY)?);
+        update(rt, self.alloc, session, 9)?;
+        update_beside(rt, self.alloc, session, 9)?;
+        Ok(Outcome::GiveUp(before))
+    }
+}
+
+#[derive(Drop)]
+struct Leaving;
+
+impl<L: Run, D: Disk, G: Gate + Drop> Transaction<Option<u8>, L, D, G> for Leaving {
+    fn run<R: Wait>(
+        &self,
+        rt: &R,
+        session: &mut Session<'_, L, D, G>,
+    ) -> Result<Outcome<Option<u8>>, Refusal> {
+        session.rollback_tx(rt)?;
+        Ok(Outcome::GiveUp(None))
     }
 }
 
@@ -132,8 +168,29 @@ pub fn transact<L: Run, D: Disk, G: Gate + Drop, R: Wait>(
         Work::Replace(byte) => whole(session.transact(rt, times, &Replacing { alloc, byte })),
         Work::Stray => whole(session.transact(rt, times, &Straying { alloc })),
         Work::Clash => whole(session.transact(rt, times, &Clashing { alloc })),
+        Work::GiveUp => whole(session.transact(rt, times, &GivingUp { alloc })),
+        Work::Leave => whole(session.transact(rt, times, &Leaving)),
     }
 }
+
+/// Work that gives up is rolled back and finished in the core, in one attempt: nothing of it is
+/// left, another session changes what it had changed, and the tale is trimmed up to the clock.
+const GIVEN_UP: [Line; 13] = [
+    (One(Transact(1, Work::Replace(1))), Whole(None, 2)),
+    (Other(Begin), Number(3)),
+    (Other(InsertBeside(2)), Inserted),
+    (Other(Commit), Number(4)),
+    (One(Transact(3, Work::GiveUp)), GivenUp(Some(1))),
+    (Core(Clock), Number(5)),
+    (Core(TrimAll), Done),
+    (One(Find), Byte(Some(1))),
+    (Other(Begin), Number(8)),
+    (Other(UpdateBeside(3)), Updated),
+    (Other(Commit), Number(9)),
+    // So is work that ended the transaction itself.
+    (One(Transact(3, Work::Leave)), GivenUp(None)),
+    (One(Transact(1, Work::Replace(2))), Whole(Some(1), 12)),
+];
 
 const DONE_WHOLE: [Line; 29] = [
     // It is committed at the end that is answered: 2 behind the begin 1, and 4 behind 3.
@@ -177,5 +234,11 @@ const DONE_WHOLE: [Line; 29] = [
 #[test]
 fn whole_transactions_are_told(rt: HostRuntime) -> Result<(), Fail> {
     tried_anew(&rt, rt.alloc(), OpenGate, Trial::Steps(&DONE_WHOLE))?;
+    Ok(())
+}
+
+#[test]
+fn transactions_give_up(rt: HostRuntime) -> Result<(), Fail> {
+    tried_anew(&rt, rt.alloc(), OpenGate, Trial::Steps(&GIVEN_UP))?;
     Ok(())
 }

@@ -1,6 +1,6 @@
 use Rattle.mvo_engine.specs.Opened.{fresh_opening}
 use Rattle.mvo_engine.specs.Watching.{nothing_watched}
-use Rattle.example_session.proofs.on_disk.Given as goal
+use Rattle.mvo_engine.proofs.one_call.with_engine.Given as goal
 
 abbrev pub ghosts-run-L-Ledger : goal.ghosts-run-L-Ledger
 ghosts-run-L-Ledger g a = record { name = a.fresh.ledger; parts = a.fresh.parts }
