@@ -42,7 +42,7 @@ use Rattle.mvo_core.specs.Readers.{Readers, no_readers}
 use Rattle.mvo_core.specs.declared.kept_transaction.KeptTransaction.{KeptTransaction}
 use Rattle.mvo_core.specs.declared.answers.Closed.{Closed}
 use Rattle.mvo_core.specs.Data.{CoreData}
-use Rattle.mvo_core.specs.Standing.{Stands, words_in, StandsAmong}
+use Rattle.mvo_core.specs.Standing.{words_in, StandsAmong}
 use Rattle.mvo_core.specs.Closing.{IsClosedAmong, IsNotClosedAmong, HasClosedAmong}
 use Rattle.mvo_core.proofs.KeptTale.{opens_above_among, next_group_among}
 use Rattle.mvo_core.proofs.Trimmed.{stands_forgotten, low_water_told}
@@ -170,17 +170,6 @@ module _ (rs : Readers) (opening : Map) (steps : List Step) (s : State) (c : Cor
 
   pub no_memory : (full : Bool) → (low == c.closed) ≡ false → full ≡ false → IsNotClosedAmong rs opening steps s full OutOfMemory c
   no_memory full ne f = record { refused = subst (λ o. IsRefusal true o OutOfMemory) (moved_is full false ne f) refl; stands = h }
-
--- ---- a core stands for the state with the group
-pub stands_with_group : {c : CoreData} (i : Stands c) (low : ℕ) → IsLowWater c.table low → (n : NextRecords) → AreNextRecords c.tale c.closed low n → c.closed < n.mark.0
-    → (tale : List TalePlace) → tale ≡ forgotten (min c.start n.mark.0) c.tale → Stands (record c { tale = tale; closed = n.mark.0; grouped = n.next })
-stands_with_group {c} i low told n are up tale left = subst (λ (xs : List TalePlace). Stands (record c { tale = xs; closed = n.mark.0; grouped = n.next })) (sym left) (record {
-  opening = i.opening;
-  steps = i.steps;
-  state = after_close i.state n.mark.0;
-  stands = stands_closed no_readers i.opening i.steps i.state c i.stands low told n are up;
-  closed = all_settled no_readers i.opening i.steps i.state c i.stands low told n are i.closed;
-})
 
 -- ---- what the code learns
 pub made : (o : Option GroupData) (x g : GroupData) → SomeIff o (KeepsRules g) g → o ≡ Some x → KeepsRules g × (g ≡ x)

@@ -39,6 +39,8 @@ pub mod ReaderWaits
 pub mod ReaderSettles
 pub mod WholeSettles
 pub mod ReaderNotBegun
+pub mod WholeStands
+pub mod WholeBegins
 pub mod OthersLead
 pub mod ReadersMoved
 pub mod ReaderBegins

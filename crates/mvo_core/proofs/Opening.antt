@@ -36,7 +36,10 @@ use Rattle.mvo_collect.proofs.Over.{opens_over}
 use Rattle.mvo_core.specs.Readers.{HasStage, reader_in}
 use Rattle.mvo_core.specs.declared.kept_transaction.KeptTransaction.{KeptTransaction}
 use Rattle.mvo_core.specs.Data.{CoreData, own_of}
-use Rattle.mvo_core.specs.Standing.{HasOpenedOver, Stands, own_words_of, words_in}
+use Rattle.mvo_core.specs.Standing.{HasOpenedOver, own_words_of, words_in}
+use Rattle.mvo_core.specs.WholeStanding.{StandsInWhole}
+use Rattle.mvo_readonly.specs.Whole.{opened_whole}
+use Rattle.mvo_readonly.proofs.WholeRuns.{whole_opened}
 
 opened_table : OpenedTable KeptTransaction
 opened_table = table_opened
@@ -97,5 +100,5 @@ module _ (rows : Map) (mark : ℕ) (v : VersionsData) (is : AreLoaded rows mark 
       subst (HasOpenedOver rows mark)
       (λ i. record { versions = sym is_versions i; table = sym is_table i; tale = sym is_tale i; start = sym is_start i; opening = sym is_opening i; closed = sym is_closed i; grouped = sym is_grouped i }) opens
 
-pub opened_stands : (rows : Map) (mark : ℕ) (c : CoreData) → HasOpenedOver rows mark c → Stands c
-opened_stands rows mark c h = record { opening = rows; steps = []; state = opened rows mark; stands = h; closed = (chained_opened rows mark).closed }
+pub opened_stands : (rows : Map) (mark : ℕ) (c : CoreData) → HasOpenedOver rows mark c → StandsInWhole c
+opened_stands rows mark c h = record { opening = rows; steps = []; own = []; whole = opened_whole rows mark; stands = record { core = h; kept = whole_opened rows mark }; closed = (chained_opened rows mark).closed }

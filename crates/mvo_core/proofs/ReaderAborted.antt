@@ -44,7 +44,7 @@ use Rattle.mvo_core.specs.Fronts.{AreInFront}
 use Rattle.mvo_core.specs.Keeping.{IsWritten, HasEndedAs, HasEndedIf}
 use Rattle.mvo_core.specs.Own.{own_place}
 use Rattle.mvo_core.specs.Readers.{Readers, no_readers, reader_in, kind_at, HasStage, HaveStages, HasTalePlaces}
-use Rattle.mvo_core.specs.Standing.{StandsAmong, StandsFor, Stands, words_in}
+use Rattle.mvo_core.specs.Standing.{StandsAmong, words_in}
 use Rattle.mvo_core.specs.WholeStanding.{HasSameWork}
 use Rattle.mvo_core.proofs.Begun.{still_closed}
 use Rattle.mvo_core.proofs.CausesTold.{kind_is, may_write}
@@ -187,22 +187,6 @@ module _ (rs : Readers) (opening : Map) (steps : List Step) (s : State) (c : Cor
         (readers_moved rs after opening (steps ++ Aborts t.0 ∷ []) then' (record c { versions = versions; table = table; tale = c.tale }) t.0 last emptied base apart same_work
         (λ q d k. open_closed (slice_set c.tale place Empty) q d (open_elsewhere c.tale place q d Empty (reading_not_open c.tale place q t.0 d reading k) k))
         whole.others places stages (grouped_reading_left c.tale c.grouped c.closed place (ap is_some reading) base.grouped))
-
--- ---- a core stands for the state that the abort leaves
-module _ (opening : Map) (steps : List Step) (s : State) (c : CoreData) (h : StandsFor opening steps s c) (t : TxId) (unended : IsUnended (state_of c.table t.0)) (untold table : Txns (Node KeptTransaction)) (is : untold ≡ txns.table_after_change c.table t.0 Aborted)
-    (told : IsReported (deps.after_dependency_abort t) untold table t) (graph : KeepsGraphAtAbort untold table t) (last : Txns (Node KeptTransaction)) (ended : HasEndedIf (is_read_only (own_of c.table t.0)) KindAborted table last t.0) where
-  pub none_ended : last ≡ table
-  none_ended = subst (λ b. HasEndedIf b KindAborted table last t.0) (may_write no_readers opening steps s c h t.0 refl) ended
-
-  pub stands_aborted : IsClosedAt s.marks.closed s → (versions : VersionsData) (tale : List TalePlace) → AreInFront (is_put_by t.0) c.versions versions (words_in table t.0)
-      → tale ≡ tale_left (state_of c.table t.0) (kind_kept (own_of c.table t.0)) c.tale (own_place (own_of c.table t.0)) → Stands (record c { versions = versions; table = last; tale = tale })
-  stands_aborted closed versions tale front left = record {
-    opening = opening;
-    steps = steps ++ Aborts t.0 ∷ [];
-    state = after_abort s t.0;
-    stands = other_aborted no_readers opening steps s c h t unended untold table is told graph versions tale front left last ended refl;
-    closed = still_closed opening steps s (Rollback t.0) Accepted (may no_readers opening steps s c h t unended untold table is told graph) h.versions.kept closed;
-  }
 
 -- of one that is read-only something is kept
 pub read_only_some : (o : Option KeptTransaction) → is_read_only o ≡ true → IsSome o

@@ -7,17 +7,12 @@ use Rattle.std.proofs.lemmas.Bool.{eq-eqb, ne_eqb}
 use Rattle.mvo_types.specs.declared.ids.Stamp.{Stamp}
 use Rattle.mvo_types.specs.Keys.{Map}
 use Rattle.mvo_model.specs.Trace.{Step}
-use Rattle.mvo_theory.specs.Calls.{Result, Run, IsKept, MayRun, after_call, after_run, steps_of}
-use Rattle.mvo_theory.specs.Marks.{IsClosedAt}
 use Rattle.mvo_theory.specs.State.{State, StampedTx}
 use Rattle.mvo_theory.proofs.Each.{each_append, each_weaker}
-use Rattle.mvo_theory.proofs.Runs.{kept_after_call}
 use Rattle.mvo_readonly.specs.Whole.{UnfinishedReader, WholeState}
 use Rattle.mvo_readonly.specs.Whole.ReaderStage.{Reading as IsReading, Aborted as IsAborted}
-use Rattle.mvo_readonly.specs.WholeCauses.{WholeCall, MayComeWhole}
-use Rattle.mvo_readonly.specs.WholeCalls.{core_calls, after_whole_call, with_stage, without_reader}
-use Rattle.mvo_readonly.specs.WholeKept.{IsUnfinishedReader, IsWholeKept}
-use Rattle.mvo_readonly.proofs.CoreRuns.{may_core}
+use Rattle.mvo_readonly.specs.WholeCalls.{with_stage, without_reader}
+use Rattle.mvo_readonly.specs.WholeKept.{IsUnfinishedReader}
 use Rattle.mvo_tale.specs.declared.tale_place.TalePlace.{TalePlace}
 use Rattle.mvo_tale.specs.declared.tale_place.TalePlace.TheVariants.{Reading, Empty}
 use Rattle.mvo_tale.specs.Next.{AreGroupedTo}
@@ -33,18 +28,8 @@ use Rattle.mvo_core.specs.Data.{CoreData}
 use Rattle.mvo_core.specs.Readers.{HasTalePlaces}
 use Rattle.mvo_core.specs.Standing.{IsKeptPreparing}
 use Rattle.mvo_core.specs.WholeStanding.{readers_of, StandsWhole}
-use Rattle.mvo_core.proofs.Begun.{still_closed}
 use Rattle.mvo_core.proofs.ReaderStages.{stages_told}
 use Rattle.mvo_core.proofs.TaleMoves.{open_behind, open_closed}
-
--- ---- up to the mark of the group that was closed last all stay settled
-closed_run : (opening : Map) (steps : List Step) (s : State) (cs : Run) → MayRun s cs → IsKept opening steps s → IsClosedAt s.marks.closed s → IsClosedAt (after_run s cs).marks.closed (after_run s cs)
-closed_run opening steps s [] m kept closed = closed
-closed_run opening steps s (c ∷ cs) m kept closed = closed_run opening (steps ++ steps_of s c.0 c.1) (after_call s c.0 c.1) cs m.1 (kept_after_call opening steps s c.0 c.1 m.0 kept) (still_closed opening steps s c.0 c.1 m.0 kept closed)
-
-pub still_closed_whole : (opening : Map) (steps own : List Step) (w : WholeState) (a : WholeCall) (r : Result) → MayComeWhole w a r → IsWholeKept opening steps own w → IsClosedAt w.core.marks.closed w.core
-    → IsClosedAt (after_whole_call w a r).core.marks.closed (after_whole_call w a r).core
-still_closed_whole opening steps own w a r may kept closed = closed_run opening own w.core (core_calls w a r) (may_core opening steps own w a r may kept) kept.kept closed
 
 -- ---- one that is opened, aborted and finished is as if it had never been
 dropped_last : (t : ℕ) (rs : List UnfinishedReader) → AllByRecursion (λ r. r.id ≢ t) rs → without_reader t (with_stage t IsAborted (rs ++ (record { id = t; stage = IsReading }) ∷ [])) ≡ rs

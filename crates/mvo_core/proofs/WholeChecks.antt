@@ -1,5 +1,7 @@
 -- A check leads the whole state on, whether the transaction is read-only or another.
 use Rattle.std.proofs.Common.{◌≡◌, ◌∙◌, ℕ, Bool, true, false, cond, Option, None, Some, refl, sym, ap, List}
+use Rattle.std.specs.Prelude.{IsSome}
+use Rattle.std.specs.Option.{is_some}
 use Rattle.mvo_types.specs.declared.ids.Stamp.{Stamp}
 use Rattle.mvo_types.specs.declared.refusal.Refusal.{Refusal}
 use Rattle.mvo_types.specs.declared.refusal.Refusal.TheVariants.{Ended, NotPreparing, ValidationFailed}
@@ -23,9 +25,10 @@ use Rattle.mvo_core.specs.Own.{is_own_valid, own_check, own_entry}
 use Rattle.mvo_core.specs.WholeEnds.{valid_by_stage}
 use Rattle.mvo_core.specs.WholeStanding.{readers_of, StandsWhole, LeadsWhole}
 use Rattle.mvo_core.proofs.OthersLead.{others_lead}
+use Rattle.mvo_core.proofs.ReaderAborted.{reader_kept}
 use Rattle.mvo_core.proofs.ReaderCalled.{state_is, not_preparing, reader_validate_refused}
 use Rattle.mvo_core.proofs.ReaderChecks.{refused_some, valid_stays, stays_valid, reader_counted, reader_counts_as}
-use Rattle.mvo_core.proofs.Validating.{validate_refused, fall, valid_leads, valid_answers, differs_leads, counted_leads, counts_as}
+use Rattle.mvo_core.proofs.Validating.{validate_refused, fall, valid_leads, valid_answers, differs_leads, counted_leads, counts_as, own_there}
 use Rattle.mvo_core.proofs.WholeCalled.{leads_by_stage}
 
 none_found : (n : ℕ) → ◌≡◌ {A = Option ℕ} (Some n) None → ⊥
@@ -48,6 +51,12 @@ module _ (opening : Map) (steps own : List Step) (w : WholeState) (c : CoreData)
         go (Some (IsPreparing n v)) k = reads n v k
         go (Some IsCommitted) k = absurd (refused_some Ended (sym (not_preparing opening steps own w c h t IsCommitted k) ∙ none))
         go (Some IsAborted) k = absurd (refused_some Ended (sym (not_preparing opening steps own w c h t IsAborted k) ∙ none))
+
+    -- something is kept of it
+    pub own_there_whole : IsSome (own_of c.table t)
+    own_there_whole = prepared_by_stage (λ o. IsSome (own_of c.table t))
+        (λ k. own_there (readers_of w) opening own w.core c h.core t none k)
+        (λ n v k. ap is_some (reader_kept (readers_of w) opening own w.core c h.core t (IsPreparing n v) k).kept)
 
     -- ---- all of its entries are checked
     module _ (valid : is_own_valid (own_of c.table t) ≡ true) where

@@ -26,7 +26,7 @@ use Rattle.mvo_deps.specs.Graph.{KeepsGraphAtAbort}
 use Rattle.mvo_deps.specs.Waiting.{HasNoneOpen, IsLeastOpen}
 use Rattle.mvo_tale.specs.declared.tale_place.TalePlace.{TalePlace}
 use Rattle.mvo_tale.specs.declared.tale_place.TalePlace.TheVariants.{Settled}
-use Rattle.mvo_tale.specs.Slots.{ends, AreRising}
+use Rattle.mvo_tale.specs.Slots.{ends, AreRising, pending_end_at, reading_begin_at}
 use Rattle.mvo_representation.specs.Order.{is_put_by}
 use Rattle.mvo_versions.specs.Data.{VersionsData}
 use Rattle.mvo_core.specs.declared.answers.Settlement.TheVariants as settlement
@@ -45,10 +45,11 @@ use Rattle.mvo_core.specs.WholeStanding.{readers_of, StandsWhole, LeadsWhole}
 use Rattle.mvo_core.proofs.CausesTold.{may_write, own_of_active}
 use Rattle.mvo_core.proofs.Committing.{settle_refused, unvalidated_leads, waits_leads, waits_for, commits_as}
 use Rattle.mvo_core.proofs.OthersLead.{others_lead}
-use Rattle.mvo_core.proofs.ReaderAborted.{read_only_some}
+use Rattle.mvo_core.proofs.ReaderAborted.{read_only_some, place_reading}
 use Rattle.mvo_core.proofs.ReaderCalled.{state_is, reader_settle_refused}
 use Rattle.mvo_core.proofs.ReaderChecks.{refused_some}
 use Rattle.mvo_core.proofs.ReaderSettles.{reader_unvalidated, reader_waits, reader_waits_for, reader_commits_as, reader_settles}
+use Rattle.mvo_core.proofs.ReaderOwn.{reading_pending}
 use Rattle.mvo_core.proofs.Reporting.{own_same}
 use Rattle.mvo_core.proofs.WholeCalled.{leads_by_stage, stage_none}
 use Rattle.mvo_core.proofs.WholeChecks.{prepared_by_stage}
@@ -110,6 +111,12 @@ module _ (opening : Map) (steps own : List Step) (w : WholeState) (c : CoreData)
     reads_settled = prepared_by_stage opening steps own w c h t.0 ready.called.none (λ o. reader_settled_as t.0 None ≡ settled_by_stage w.core t.0 o)
         (λ k. absurd (never_other k))
         (λ n v k. reader_commits_as opening steps own w c h t n v k ready.called.none ready.called.valid_is ready.free)
+
+    -- its place is opened at its begin
+    pub reads_pending : (untold table : Txns (Node KeptTransaction)) → untold ≡ txns.table_after_change c.table t.0 Aborted → IsReported (deps.after_dependency_abort t) untold table t → (place : ℕ) → place ≡ own_place (own_of table t.0) → pending_end_at c.tale place ≡ Some t.0
+    reads_pending untold table aborted reported place at = prepared_by_stage opening steps own w c h t.0 ready.called.none (λ o. pending_end_at c.tale place ≡ Some t.0)
+        (λ k. absurd (never_other k))
+        (λ n v k. reading_pending c.tale place t.0 (ap (λ (m : ℕ). reading_begin_at c.tale m) (at ∙ ap own_place (own_reported c.table untold table t aborted reported)) ∙ place_reading (readers_of w) opening own w.core c h.core t.0 (IsPreparing n v) k refl))
 
     module _ (rising : AreRising (ends c.tale)) (untold table last : Txns (Node KeptTransaction)) (aborted : untold ≡ txns.table_after_change c.table t.0 Aborted) (reported : IsReported (deps.after_dependency_abort t) untold table t)
         (graph : KeepsGraphAtAbort untold table t) (versions : VersionsData) (front : AreInFront (is_put_by t.0) c.versions versions (words_in table t.0)) (written : IsWritten table last t.0 HasHandedOverRead)

@@ -75,8 +75,8 @@ pub record StandsAmong (rs : Readers) (opening : Map) (steps : List Step) (s : S
 abbrev pub StandsFor : Map → List Step → State → CoreData → Type 0
 StandsFor opening steps s c = StandsAmong no_readers opening steps s c
 
--- for some state, whatever steps led there. Up to the mark of the group that was closed last all
--- are settled there
+-- so it does for some state, whatever steps led there. Up to the mark of the group that was closed
+-- last all are settled there
 pub record Stands (c : CoreData) : Type 0 where
   pub opening : Map
   pub steps : List Step

@@ -3,7 +3,7 @@ use Rattle.mvo_core.specs.declared.event_core.Core.TheInside.{Inside}
 use Rattle.mvo_txn.specs.Txns.{state_of}
 use Rattle.mvo_collect.specs.Waiting.{AreWaiting}
 use Rattle.mvo_core.specs.Data.{CoreData}
-use Rattle.mvo_core.specs.Standing.{Stands}
+use Rattle.mvo_core.specs.WholeStanding.{StandsInWhole}
 
 abbrev pub core_data : Inside → CoreData
 core_data c = record {
@@ -16,8 +16,8 @@ core_data c = record {
   grouped = c.grouped;
 }
 
--- It stands for a state, and whatever is garbage among its versions, or may come to be, waits to be
--- collected.
+-- It stands for a whole state, and whatever is garbage among its versions, or may come to be, waits
+-- to be collected.
 pub record IsCore (c : Inside) : Type 0 where
-  pub stands : Stands (core_data c)
+  pub stands : StandsInWhole (core_data c)
   pub waiting : AreWaiting c.table.clock (state_of c.table) c.versions.slots c.waiting

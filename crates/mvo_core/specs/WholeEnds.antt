@@ -17,12 +17,17 @@ use Rattle.mvo_core.specs.declared.answers.Settlement.{Settlement}
 use Rattle.mvo_core.specs.declared.answers.Settlement.TheVariants.{Committed, Waiting}
 use Rattle.mvo_core.specs.declared.answers.Validation.{Validation}
 use Rattle.mvo_core.specs.declared.answers.Validation.TheVariants as validation
-use Rattle.mvo_core.specs.Data.{CoreData}
+use Rattle.mvo_core.specs.Causes.{is_read_only}
+use Rattle.mvo_core.specs.Data.{CoreData, own_of}
 use Rattle.mvo_core.specs.Steps.{settled_as}
 use Rattle.mvo_core.specs.WholeAnswers.{InEachWhole}
 use Rattle.mvo_core.specs.WholeStanding.{StandsWhole, LeadsWhole}
 
 -- ---- a precommit
+-- what it answers: the next timestamp, or the begin of one that is read-only by what is kept of it
+abbrev pub end_drawn : CoreData → ℕ → ℕ
+end_drawn c t = if is_read_only (own_of c.table t) then t else c.table.clock + 1
+
 -- the next timestamp is the end; of a read-only one its begin is, and it draws none
 abbrev pub end_by_stage : State → ℕ → Option ReaderStage → ℕ
 end_by_stage s t None = s.clock + 1

@@ -5,6 +5,7 @@ use Rattle.std.specs.List.{AllByRecursion}
 use Rattle.mvo_types.specs.declared.refusal.Refusal.{Refusal}
 use Rattle.mvo_types.specs.Keys.{Map}
 use Rattle.mvo_model.specs.Trace.{Step}
+use Rattle.mvo_theory.specs.Marks.{IsClosedAt}
 use Rattle.mvo_theory.specs.State.{State}
 use Rattle.mvo_theory.specs.Calls.{Call, Result, trace_of}
 use Rattle.mvo_theory.specs.Calls.Call.{Trim}
@@ -42,6 +43,16 @@ pub record StandsWhole (opening : Map) (steps own : List Step) (w : WholeState)
   pub core : StandsAmong (readers_of w) opening own w.core c
   pub kept : IsWholeKept opening steps own w
 
+-- for some whole state, whatever steps led there. Up to the mark of the group that was closed last
+-- all are settled there
+pub record StandsInWhole (c : CoreData) : Type 0 where
+  pub opening : Map
+  pub steps : List Step
+  pub own : List Step
+  pub whole : WholeState
+  pub stands : StandsWhole opening steps own whole c
+  pub closed : IsClosedAt whole.core.marks.closed whole.core
+
 -- the call may come to this in the whole state, and leads to the named one
 pub record LeadsWhole (opening : Map) (steps own : List Step) (w : WholeState) (a : WholeCall)
     (r : Result) (new : CoreData) : Type 0 where
@@ -55,6 +66,12 @@ abbrev pub IsWholeStep : {A : Type 0} → CoreData → Call → Answered A Refus
 IsWholeStep old call result new = (opening : Map) (steps own : List Step) (w : WholeState)
     → StandsWhole opening steps own w old
     → LeadsWhole opening steps own w (CoreCall call) (came result) new
+
+-- and so it does where a read-only one begins
+abbrev pub IsReadOnlyBegin : {A : Type 0} → CoreData → Answered A Refusal → CoreData → Type 0
+IsReadOnlyBegin old result new = (opening : Map) (steps own : List Step) (w : WholeState)
+    → StandsWhole opening steps own w old
+    → LeadsWhole opening steps own w BeginReadOnly (came result) new
 
 -- ---- laws
 -- its operations and its words stay, whatever else is kept of it

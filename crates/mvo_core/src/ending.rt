@@ -51,7 +51,7 @@ impl Core {
     ghost use Rattle.mvo_core.specs.WholeStanding.{IsWholeStep};
     ghost use Rattle.mvo_core.specs.Settling.{IsReadyReader};
     ghost use Rattle.mvo_core.specs.WholeEnds.{IsEndWhole, IsValidationWhole, IsSettlementWhole};
-    ghost use Rattle.mvo_core.specs.WholeEnds.{IsReaderSettled, reader_settled_as};
+    ghost use Rattle.mvo_core.specs.WholeEnds.{IsReaderSettled, reader_settled_as, end_drawn};
     ghost use Rattle.mvo_core.specs.Aborting.{MayGiveUp, IsGivenUp, IsAborted};
     ghost use Rattle.mvo_core.specs.Aborting.{IsReaderGivenUp, IsReaderAborted};
     ghost use Rattle.mvo_core.specs.Counting.{HasAsMany};
@@ -61,7 +61,7 @@ impl Core {
     /// ClockSpent, OutOfMemory.
     pub fn precommit(&mut self, tx: TxId) -> Result<Stamp, Refusal>
         ensures step { IsStep self.old (Precommit tx.0) result self.new }
-        ensures end { IfOk result (λ e. e.0 ≡ self.old.table.clock + 1) }
+        ensures end { IfOk result (λ e. e.0 ≡ end_drawn self.old tx.0) }
         ensures whole { IsWholeStep self.old (Precommit tx.0) result self.new }
         ensures whole_end { IfOk result (IsEndWhole self.old tx.0) }
         ensures count { HasAsMany self.old self.new }

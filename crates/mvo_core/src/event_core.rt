@@ -1,4 +1,4 @@
-use crate::kept_transaction::{Table, begun};
+use crate::kept_transaction::{Table, begun, begun_reading};
 use crate::spares::{Spares, give_list};
 use mvo_collect::Waiting;
 use mvo_tale::Tale;
@@ -12,8 +12,9 @@ use std::thread::Threads;
 /// The event core. A call is one step: none waits for another, and none goes over all
 /// transactions, versions or commits.
 ///
-/// It stands for a state of the theory (`StandsFor`), whatever steps led there: each call's clauses
-/// say which one it stands for then.
+/// It stands for a state of the theory with its read-only transactions (`StandsWhole`), whatever
+/// steps led there: each call's clauses say which one it stands for then (`whole`), and which where
+/// no transaction is read-only (`step`).
 pub struct Core {
     pub(crate) alloc: Global,
     pub(crate) versions: Versions,
@@ -74,7 +75,7 @@ impl Core {
     ghost use Rattle.mvo_core.specs.Standing.{HasOpenedOver};
     ghost use Rattle.mvo_core.specs.Counting.{HasOneEach, HasAsMany};
     ghost use Rattle.mvo_core.specs.Steps.{IsStep};
-    ghost use Rattle.mvo_core.specs.WholeStanding.{IsWholeStep};
+    ghost use Rattle.mvo_core.specs.WholeStanding.{IsWholeStep, IsReadOnlyBegin};
 
     /// A core over these rows, with the clock at their mark. The two indexes of 8,192 rows or more
     /// are made in two threads. Who chooses the keys of rows must not know the seed, which decides
@@ -130,5 +131,32 @@ impl Core {
         let mut work = self.spares.take()?;
         give_list(&mut self.tale, &mut work);
         self.table.begin(begun(alloc, work))
+    }
+
+    /// Begins a read-only transaction. Its id is its begin timestamp, which is its end too: its
+    /// place in the tale is opened now, and so is all memory taken that its end needs. Refused:
+    /// TableFull, ClockSpent, OutOfMemory.
+    pub fn begin_read_only(&mut self) -> Result<TxId, Refusal>
+        ensures whole { IsReadOnlyBegin self.old result self.new }
+        ensures id { IfOk result (λ t. t.0 ≡ self.old.table.clock + 1) }
+        ensures count { HasAsMany self.old self.new }
+    {
+        if let Some(refusal) = self.table.why_not_begun() {
+            return Err(refusal);
+        }
+        // A look at the places: from it the proof knows that their ends rise.
+        let _ = self.tale.len();
+        let alloc = self.alloc;
+        let mut work = self.spares.take()?;
+        give_list(&mut self.tale, &mut work);
+        let clock = self.table.clock().0;
+        let place = self.tale.open_reading(Stamp(clock + 1))?;
+        match self.table.begin(begun_reading(alloc, work, place)) {
+            Ok(id) => Ok(id),
+            Err(refusal) => {
+                self.tale.leave(place);
+                Err(refusal)
+            }
+        }
     }
 }

@@ -135,6 +135,25 @@ impl KeptTransaction {
     }
 }
 
+/// One that is read-only, has done this work, and nothing else, and has this place in the tale.
+pub fn begun_reading(alloc: Global, work: Work, place: usize) -> Node<KeptTransaction>
+    ensures dependencies { result.dependencies ≡ no_dependencies }
+    ensures work { result.own.work ≡ work }
+    ensures place { result.own.place ≡ place }
+    ensures kind { result.own.kind ≡ TransactionKind.Reading }
+{
+    Node {
+        dependencies: Dependencies::new(alloc),
+        own: KeptTransaction {
+            work,
+            place,
+            checked: 0,
+            valid: false,
+            kind: TransactionKind::Reading,
+        },
+    }
+}
+
 /// One that has done this work, and nothing else, and isn't read-only.
 pub fn begun(alloc: Global, work: Work) -> Node<KeptTransaction>
     ensures dependencies { result.dependencies ≡ no_dependencies }

@@ -6,9 +6,11 @@ use Rattle.mvo_theory.specs.Calls.Call.{Begin}
 use Rattle.mvo_core.specs.Readers.{no_readers}
 use Rattle.mvo_core.specs.Data.{CoreData}
 use Rattle.mvo_core.specs.View.{core_data}
-use Rattle.mvo_core.specs.Standing.{Stands, StandsFor}
+use Rattle.mvo_core.specs.Standing.{StandsFor}
+use Rattle.mvo_core.specs.WholeStanding.{StandsInWhole}
 use Rattle.mvo_core.specs.Steps.{came, LeadsOn}
-use Rattle.mvo_core.proofs.Begun.{begin_leads, begin_refused, stands_on}
+use Rattle.mvo_core.proofs.Begun.{begin_leads, begin_refused}
+use Rattle.mvo_core.proofs.WholeStands.{whole_stands_on}
 use Rattle.mvo_core.proofs.Refused.{came_spent}
 use Rattle.mvo_core.proofs.Waits.{begun_waits}
 use Rattle.mvo_core.specs.WholeStanding.{readers_of, StandsWhole, LeadsWhole}
@@ -34,14 +36,15 @@ pub invariant_of-self-2 : goal.invariant_of-self-2
 invariant_of-self-2 c =
     let f = c.self.inside in
     let old : CoreData = record (core_data f) { tale = c.give_list.new.tale } in
-    let i : Stands old = subst (λ (t : List TalePlace). Stands (record (core_data f) { tale = t })) (sym c.give_list.ensures.tale) c.self.invariant.stands in
+    let i : StandsInWhole old = subst (λ (t : List TalePlace). StandsInWhole (record (core_data f) { tale = t })) (sym c.give_list.ensures.tale) c.self.invariant.stands in
     record {
       stands =
-          stands_on i Begin (came c.begin.result) (record old { table = c.begin.new.self })
-          (begin_leads no_readers i.opening i.steps i.state old i.stands c.begun.result c.begun.ensures.dependencies
+          whole_stands_on i (CoreCall Begin) (came c.begin.result) (record old { table = c.begin.new.self })
+          (others_lead i.opening i.steps i.own i.whole Begin (came c.begin.result) old (record old { table = c.begin.new.self }) i.stands refl tt
+          (begin_leads (readers_of i.whole) i.opening i.own i.whole.core old i.stands.core c.begun.result c.begun.ensures.dependencies
           (ap (λ w. w.history) c.begun.ensures.work ∙ c.give_list.ensures.history ∙ c.in_ok-work.ensures.history)
           (ap (λ w. w.words) c.begun.ensures.work ∙ c.give_list.ensures.words ∙ c.in_ok-work.ensures.words) c.begun.ensures.kind
-          c.begin.result c.begin.new.self c.begin.ensures.ok c.begin.ensures.no_cause c.begin.ensures.refused c.begin.ensures.err);
+          c.begin.result c.begin.new.self c.begin.ensures.ok c.begin.ensures.no_cause c.begin.ensures.refused c.begin.ensures.err));
       waiting = begun_waits f.table c.begin.new.self c.begun.result f.versions.slots f.waiting c.begin.result c.begin.ensures.ok c.begin.ensures.err c.self.invariant.waiting;
     }
 

@@ -8,12 +8,14 @@ use Rattle.mvo_core.specs.Data.{CoreData}
 use Rattle.mvo_core.specs.View.{core_data}
 use Rattle.mvo_core.specs.Standing.{StandsFor}
 use Rattle.mvo_core.specs.Closing.{HasClosed}
-use Rattle.mvo_core.proofs.GroupClosed.{made, full_is, spent_for, ends_above, above_closed, low_drawn, closes, closed_now, not_moved, no_slot, no_memory, stands_with_group}
+use Rattle.mvo_core.proofs.GroupClosed.{made, full_is, spent_for, ends_above, above_closed, low_drawn, closes, closed_now, not_moved, no_slot, no_memory}
 use Rattle.mvo_core.specs.WholeStanding.{readers_of, StandsWhole}
 use Rattle.mvo_core.specs.WholeClosing.{HasClosedWhole}
 use Rattle.mvo_core.proofs.WholeClosed.{closes_whole}
 use Rattle.mvo_types.specs.declared.refusal.Refusal.TheVariants.{NothingToDo, RingFull}
 use Rattle.std.specs.Prelude.{Ok, Err}
+use Rattle.mvo_theory.specs.Calls.Result.{Accepted}
+use Rattle.mvo_core.proofs.WholeStands.{whole_stands_on}
 use Rattle.mvo_core.proofs.event_core.Core.close_group.Goals as goal
 
 pub returns-then-eq-clause-step : goal.returns-then-eq-clause-step
@@ -39,7 +41,7 @@ next_records-requires-clause-preparing g c =
     let f = c.self.inside in
     let i = c.self.invariant.stands in
     let old : CoreData = core_data f in
-    ends_above no_readers i.opening i.steps i.state old i.stands c.low_water-low_water.result.0 c.low_water-low_water.ensures
+    ends_above (readers_of i.whole) i.opening i.own i.whole.core old i.stands.core c.low_water-low_water.result.0 c.low_water-low_water.ensures
 
 pub next_records-requires-clause-above : goal.next_records-requires-clause-above
 next_records-requires-clause-above g c =
@@ -47,15 +49,15 @@ next_records-requires-clause-above g c =
     let i = c.self.invariant.stands in
     let old : CoreData = core_data f in
     let low = c.low_water-low_water.result.0 in
-    above_closed no_readers i.opening i.steps i.state old i.stands low c.low_water-low_water.ensures i.closed (sym c.eq.ensures ∙ c.if-eq.false)
+    above_closed (readers_of i.whole) i.opening i.own i.whole.core old i.stands.core low c.low_water-low_water.ensures i.closed (sym c.eq.ensures ∙ c.if-eq.false)
 
 pub next_records-requires-clause-drawn : goal.next_records-requires-clause-drawn
 next_records-requires-clause-drawn g c =
     let f = c.self.inside in
     let i = c.self.invariant.stands in
     let old : CoreData = core_data f in
-    let drawn = low_drawn no_readers i.opening i.steps i.state old i.stands c.low_water-low_water.result.0 c.low_water-low_water.ensures in
-    let is = i.stands.dependencies.stands.clock in
+    let drawn = low_drawn (readers_of i.whole) i.opening i.own i.whole.core old i.stands.core c.low_water-low_water.result.0 c.low_water-low_water.ensures in
+    let is = i.stands.core.dependencies.stands.clock in
     let stamped = c.clock.ensures.sound.stamped in
     omega (arith, drawn, is, stamped)
 
@@ -74,10 +76,24 @@ returns-in_err-next-clause-step g c = λ opening steps s h.
 pub invariant_of-self : goal.invariant_of-self
 invariant_of-self g c =
     let f = c.self.inside in
+    let i = c.self.invariant.stands in
+    let old : CoreData = core_data f in
+    let low = c.low_water-low_water.result.0 in
+    let n = c.in_ok-next.next in
+    let now : GroupData = group_of f.closed.0 n.mark.0 n.records.items in
+    let is = made c.new.result c.unwrap.result now c.new.ensures c.unwrap.ensures in
     record {
       stands =
-          stands_with_group c.self.invariant.stands c.low_water-low_water.result.0 c.low_water-low_water.ensures c.in_ok-next.next c.in_ok-next.ensures.next c.in_ok-next.ensures.rules.above
-          c.forget.new.self (c.forget.ensures ∙ ap (λ (n : ℕ). forgotten n c.self.inside.tale) c.lesser.ensures);
+          whole_stands_on i _ Accepted (record old { tale = c.forget.new.self; closed = n.mark.0; grouped = n.next })
+          (closes_whole i.opening i.steps i.own i.whole old i.stands c.args.ring.now c.push_reserved.new.self (Ok (record { prev = f.closed; mark = n.mark })) (record old { tale = c.forget.new.self; closed = n.mark.0; grouped = n.next }) (
+            closes (readers_of i.whole) i.opening i.own i.whole.core old i.stands.core low c.low_water-low_water.ensures (sym c.eq.ensures ∙ c.if-eq.false),
+            (
+              now,
+              c.push_reserved.ensures.sent.0 ∙ ap (λ xs. xs ++ c.unwrap.result ∷ []) c.is_full.ensures.looked.1 ∙ ap (λ (x : GroupData). sent c.args.ring.now ++ x ∷ []) (sym is.1),
+              closed_now (readers_of i.whole) i.opening i.own i.whole.core old i.stands.core low c.low_water-low_water.ensures n c.in_ok-next.ensures.next c.in_ok-next.ensures.rules.above f.closed refl is.0
+                  c.forget.new.self (c.forget.ensures ∙ ap (λ (n : ℕ). forgotten n f.tale) c.lesser.ensures),
+            ),
+          )).2.leads;
       waiting = c.self.invariant.waiting;
     }
 

@@ -22,11 +22,12 @@ invariant_of-self c =
       stands = record {
         opening = i.opening;
         steps = i.steps;
-        state = i.state;
-        stands = collected_stands no_readers i.opening i.steps i.state old i.stands f.waiting c.self.invariant.waiting c.collect_one.result c.collect_one.new.versions c.collect_one.new.waiting c.collect_one.ensures;
+        own = i.own;
+        whole = i.whole;
+        stands = record { core = collected_stands (readers_of i.whole) i.opening i.own i.whole.core old i.stands.core f.waiting c.self.invariant.waiting c.collect_one.result c.collect_one.new.versions c.collect_one.new.waiting c.collect_one.ensures; kept = i.stands.kept };
         closed = i.closed;
       };
-      waiting = collected_waits no_readers i.opening i.steps i.state old i.stands f.waiting c.self.invariant.waiting c.collect_one.result c.collect_one.new.versions c.collect_one.new.waiting c.collect_one.ensures;
+      waiting = collected_waits (readers_of i.whole) i.opening i.own i.whole.core old i.stands.core f.waiting c.self.invariant.waiting c.collect_one.result c.collect_one.new.versions c.collect_one.new.waiting c.collect_one.ensures;
     }
 
 pub returns-clause-stands : goal.returns-clause-stands

@@ -13,7 +13,7 @@ use Rattle.mvo_core.specs.Standing.{StandsFor}
 use Rattle.mvo_core.specs.Steps.{LeadsOn}
 use Rattle.mvo_core.proofs.Allowed.{unended_if_active, may_remove}
 use Rattle.mvo_core.proofs.Asked.{own_if_active, active_if_removed, may_remove_failing}
-use Rattle.mvo_core.proofs.Begun.{stands_on}
+use Rattle.mvo_core.proofs.WholeStands.{whole_stands_on}
 use Rattle.mvo_core.proofs.CausesTold.{stands_active}
 use Rattle.mvo_core.proofs.Refused.{came_spent}
 use Rattle.mvo_core.proofs.Deleting.{delete_starved, delete_refused, delete_conflicts, delete_spent, delete_left, absent_answers, absent_leads, deleted_answers, deleted_live, deleted_leads}
@@ -70,8 +70,10 @@ invariant_of-self c =
     let old : CoreData = core_data f in
     record {
       stands =
-          stands_on i (Do c.args.tx.0 (Delete c.args.key)) (Refused OutOfMemory) (record old { table = c.record_answer.new.table })
-          (delete_spent no_readers i.opening i.steps i.state old i.stands c.args.tx c.args.key refl (sym c.not_removed.ensures ∙ c.in_default.is) c.shown-found.result c.shown-found.ensures (sym c.in_the_way.ensures ∙ c.in_default-in_the_way.is) c.record_answer.new.table c.in_err-record_answer.ensures.err);
+          whole_stands_on i (CoreCall (Do c.args.tx.0 (Delete c.args.key))) (Refused OutOfMemory) (record old { table = c.record_answer.new.table })
+          (let other = stage_none (readers_of i.whole) i.opening i.own i.whole.core old i.stands.core c.args.tx.0 (remove_not_reading f.table c.args.tx.0 c.args.key (sym c.not_removed.ensures ∙ c.in_default.is)) in
+          (others_lead i.opening i.steps i.own i.whole (Do c.args.tx.0 (Delete c.args.key)) _ old _ i.stands other tt
+          (delete_spent (readers_of i.whole) i.opening i.own i.whole.core old i.stands.core c.args.tx c.args.key other (sym c.not_removed.ensures ∙ c.in_default.is) c.shown-found.result c.shown-found.ensures (sym c.in_the_way.ensures ∙ c.in_default-in_the_way.is) c.record_answer.new.table c.in_err-record_answer.ensures.err)));
       waiting = waits_alike f.table c.record_answer.new.table f.versions.slots f.waiting (alike_written f.table c.record_answer.new.table c.args.tx.0 HasDoneAsMuch c.in_err-record_answer.ensures.err) c.self.invariant.waiting;
     }
 
@@ -89,8 +91,10 @@ invariant_of-self-in_default-version c =
     let old : CoreData = core_data f in
     record {
       stands =
-          stands_on i (Do c.args.tx.0 (Delete c.args.key)) Accepted (record old { table = c.record_answer.new.table })
-          (absent_leads no_readers i.opening i.steps i.state old i.stands c.args.tx c.args.key refl (sym c.not_removed.ensures ∙ c.in_default.is) c.shown-found.result c.shown-found.ensures (sym c.in_the_way.ensures ∙ c.in_default-in_the_way.is) c.in_default-version.is c.record_answer.new.table c.in_ok-record_answer.ensures.ok);
+          whole_stands_on i (CoreCall (Do c.args.tx.0 (Delete c.args.key))) Accepted (record old { table = c.record_answer.new.table })
+          (let other = stage_none (readers_of i.whole) i.opening i.own i.whole.core old i.stands.core c.args.tx.0 (remove_not_reading f.table c.args.tx.0 c.args.key (sym c.not_removed.ensures ∙ c.in_default.is)) in
+          others_lead i.opening i.steps i.own i.whole (Do c.args.tx.0 (Delete c.args.key)) _ old _ i.stands other tt
+          (absent_leads (readers_of i.whole) i.opening i.own i.whole.core old i.stands.core c.args.tx c.args.key other (sym c.not_removed.ensures ∙ c.in_default.is) c.shown-found.result c.shown-found.ensures (sym c.in_the_way.ensures ∙ c.in_default-in_the_way.is) c.in_default-version.is c.record_answer.new.table c.in_ok-record_answer.ensures.ok));
       waiting = waits_alike f.table c.record_answer.new.table f.versions.slots f.waiting (alike_recorded f.table c.record_answer.new.table c.args.tx _ _ _ c.in_ok-record_answer.ensures.ok) c.self.invariant.waiting;
     }
 
@@ -119,7 +123,7 @@ remove-requires-clause-live c =
     let f = c.self.inside in
     let i = c.self.invariant.stands in
     let old : CoreData = core_data f in
-    deleted_live no_readers i.opening i.steps i.state old i.stands c.args.tx c.args.key refl (sym c.not_removed.ensures ∙ c.in_default.is) c.shown-found.result c.shown-found.ensures (sym c.in_the_way.ensures ∙ c.in_default-in_the_way.is) c.in-Some-version.old c.in-Some-version.is
+    deleted_live (readers_of i.whole) i.opening i.own i.whole.core old i.stands.core c.args.tx c.args.key (stage_none (readers_of i.whole) i.opening i.own i.whole.core old i.stands.core c.args.tx.0 (remove_not_reading f.table c.args.tx.0 c.args.key (sym c.not_removed.ensures ∙ c.in_default.is))) (sym c.not_removed.ensures ∙ c.in_default.is) c.shown-found.result c.shown-found.ensures (sym c.in_the_way.ensures ∙ c.in_default-in_the_way.is) c.in-Some-version.old c.in-Some-version.is
 
 pub invariant_of-self-in_err-remove : goal.invariant_of-self-in_err-remove
 invariant_of-self-in_err-remove c =
@@ -128,8 +132,10 @@ invariant_of-self-in_err-remove c =
     let old : CoreData = core_data f in
     record {
       stands =
-          stands_on i (Do c.args.tx.0 (Delete c.args.key)) (Refused OutOfMemory) (record old { versions = c.remove.new.versions; table = c.remove.new.table })
-          (delete_left no_readers i.opening i.steps i.state old i.stands c.args.tx c.args.key refl (sym c.not_removed.ensures ∙ c.in_default.is) c.shown-found.result c.shown-found.ensures (sym c.in_the_way.ensures ∙ c.in_default-in_the_way.is) c.remove.new.versions c.in_err-remove.ensures.same c.remove.new.table c.in_err-remove.ensures.err);
+          whole_stands_on i (CoreCall (Do c.args.tx.0 (Delete c.args.key))) (Refused OutOfMemory) (record old { versions = c.remove.new.versions; table = c.remove.new.table })
+          (let other = stage_none (readers_of i.whole) i.opening i.own i.whole.core old i.stands.core c.args.tx.0 (remove_not_reading f.table c.args.tx.0 c.args.key (sym c.not_removed.ensures ∙ c.in_default.is)) in
+          (others_lead i.opening i.steps i.own i.whole (Do c.args.tx.0 (Delete c.args.key)) _ old _ i.stands other tt
+          (delete_left (readers_of i.whole) i.opening i.own i.whole.core old i.stands.core c.args.tx c.args.key other (sym c.not_removed.ensures ∙ c.in_default.is) c.shown-found.result c.shown-found.ensures (sym c.in_the_way.ensures ∙ c.in_default-in_the_way.is) c.remove.new.versions c.in_err-remove.ensures.same c.remove.new.table c.in_err-remove.ensures.err)));
       waiting = subst (λ (v : VersionsData). AreWaiting c.remove.new.table.clock (state_of c.remove.new.table) v.slots c.make_room.new.self) (sym c.in_err-remove.ensures.same) (waits_alike f.table c.remove.new.table f.versions.slots c.make_room.new.self (alike_written f.table c.remove.new.table c.args.tx.0 HasDoneAsMuch c.in_err-remove.ensures.err) (waits_roomy f.table.clock (state_of f.table) f.versions.slots f.waiting c.make_room.new.self c.make_room.new.self.room c.make_room.ensures.same c.self.invariant.waiting));
     }
 
@@ -147,9 +153,11 @@ invariant_of-self-2 c =
     let old : CoreData = core_data f in
     record {
       stands =
-          stands_on i (Do c.args.tx.0 (Delete c.args.key)) Accepted (record old { versions = c.remove.new.versions; table = c.remove.new.table })
-          (deleted_leads no_readers i.opening i.steps i.state old i.stands c.args.tx c.args.key refl (sym c.not_removed.ensures ∙ c.in_default.is) c.shown-found.result c.shown-found.ensures (sym c.in_the_way.ensures ∙ c.in_default-in_the_way.is) c.in-Some-version.old c.in-Some-version.is c.remove.new.versions c.remove.new.table c.in_ok-remove.ensures.ok);
-      waiting = waits_removed f.versions c.remove.new.versions f.table c.remove.new.table c.args.tx (option_to_list c.shown-found.result.depends_on) f.waiting c.make_room.new.self c.make_room.ensures.same c.in-Some-version.old c.args.key c.has_open_end-is_open.result c.owe_end.new.waiting (stands_active f.table c.args.tx.0 (active_if_removed f.table c.args.tx.0 c.args.key (sym c.not_removed.ensures ∙ c.in_default.is))) (deleted_live no_readers i.opening i.steps i.state old i.stands c.args.tx c.args.key refl (sym c.not_removed.ensures ∙ c.in_default.is) c.shown-found.result c.shown-found.ensures (sym c.in_the_way.ensures ∙ c.in_default-in_the_way.is) c.in-Some-version.old c.in-Some-version.is) c.in_ok-remove.ensures.ok c.has_open_end-is_open.ensures c.owe_end.ensures c.self.invariant.waiting;
+          whole_stands_on i (CoreCall (Do c.args.tx.0 (Delete c.args.key))) Accepted (record old { versions = c.remove.new.versions; table = c.remove.new.table })
+          (let other = stage_none (readers_of i.whole) i.opening i.own i.whole.core old i.stands.core c.args.tx.0 (remove_not_reading f.table c.args.tx.0 c.args.key (sym c.not_removed.ensures ∙ c.in_default.is)) in
+          others_lead i.opening i.steps i.own i.whole (Do c.args.tx.0 (Delete c.args.key)) _ old _ i.stands other tt
+          (deleted_leads (readers_of i.whole) i.opening i.own i.whole.core old i.stands.core c.args.tx c.args.key other (sym c.not_removed.ensures ∙ c.in_default.is) c.shown-found.result c.shown-found.ensures (sym c.in_the_way.ensures ∙ c.in_default-in_the_way.is) c.in-Some-version.old c.in-Some-version.is c.remove.new.versions c.remove.new.table c.in_ok-remove.ensures.ok));
+      waiting = waits_removed f.versions c.remove.new.versions f.table c.remove.new.table c.args.tx (option_to_list c.shown-found.result.depends_on) f.waiting c.make_room.new.self c.make_room.ensures.same c.in-Some-version.old c.args.key c.has_open_end-is_open.result c.owe_end.new.waiting (stands_active f.table c.args.tx.0 (active_if_removed f.table c.args.tx.0 c.args.key (sym c.not_removed.ensures ∙ c.in_default.is))) (deleted_live (readers_of i.whole) i.opening i.own i.whole.core old i.stands.core c.args.tx c.args.key (stage_none (readers_of i.whole) i.opening i.own i.whole.core old i.stands.core c.args.tx.0 (remove_not_reading f.table c.args.tx.0 c.args.key (sym c.not_removed.ensures ∙ c.in_default.is))) (sym c.not_removed.ensures ∙ c.in_default.is) c.shown-found.result c.shown-found.ensures (sym c.in_the_way.ensures ∙ c.in_default-in_the_way.is) c.in-Some-version.old c.in-Some-version.is) c.in_ok-remove.ensures.ok c.has_open_end-is_open.ensures c.owe_end.ensures c.self.invariant.waiting;
     }
 
 pub returns-clause-step : goal.returns-clause-step

@@ -6,9 +6,9 @@ use Rattle.mvo_core.specs.Data.{CoreData}
 use Rattle.mvo_core.specs.View.{core_data}
 use Rattle.mvo_txn.specs.Txns.{state_of}
 use Rattle.mvo_core.specs.Standing.{StandsFor, words_in}
-use Rattle.mvo_core.proofs.Begun.{stands_on}
+use Rattle.mvo_core.proofs.WholeStands.{whole_stands_on}
 use Rattle.mvo_core.proofs.Finished.{drawn_end, finish_more, finish_done, replaced_ended}
-use Rattle.mvo_core.specs.WholeStanding.{StandsWhole, LeadsWhole}
+use Rattle.mvo_core.specs.WholeStanding.{readers_of, StandsWhole, LeadsWhole}
 use Rattle.mvo_readonly.specs.WholeCauses.WholeCall.{CoreCall}
 use Rattle.mvo_core.specs.Finishing.{why_not_finished}
 use Rattle.mvo_core.proofs.WholeFinished.{came_refused, finish_refused_whole, finish_more_whole, finish_done_whole}
@@ -22,7 +22,7 @@ final_word-requires c =
     let f = c.self.inside in
     let i = c.self.invariant.stands in
     let old : CoreData = core_data f in
-    drawn_end no_readers i.opening i.steps i.state old i.stands c.args.tx.0
+    drawn_end (readers_of i.whole) i.opening i.own i.whole.core old i.stands.core c.args.tx.0
 
 pub terminate-node-requires : goal.terminate-node-requires
 terminate-node-requires c =
@@ -37,9 +37,9 @@ invariant_of-self c =
     let old : CoreData = core_data f in
     record {
       stands =
-          stands_on i (Finish c.args.tx.0) Accepted (record old { versions = c.replace_next-replaced.new.versions; table = c.replace_next-replaced.new.table })
-          (finish_more no_readers i.opening i.steps i.state old i.stands c.args.tx.0 refl c.in_ok-word.word c.in_ok-word.ensures.ok c.replace_next-replaced.new.versions c.replace_next-replaced.ensures.replaced.between c.replace_next-replaced.new.table
-          c.replace_next-replaced.ensures.replaced.next c.replace_next-replaced.ensures.replaced.passed c.replace_next-replaced.result.1 c.replace_next-replaced.ensures.next c.if-is_some.ensures).leads;
+          whole_stands_on i (CoreCall (Finish c.args.tx.0)) Accepted (record old { versions = c.replace_next-replaced.new.versions; table = c.replace_next-replaced.new.table })
+          ((finish_more_whole i.opening i.steps i.own i.whole old i.stands c.args.tx.0 c.in_ok-word.word c.in_ok-word.ensures.ok c.replace_next-replaced.new.versions c.replace_next-replaced.ensures.replaced.between c.replace_next-replaced.new.table
+          c.replace_next-replaced.ensures.replaced.next c.replace_next-replaced.ensures.replaced.passed c.replace_next-replaced.result.1 c.replace_next-replaced.ensures.next c.if-is_some.ensures).leads);
       waiting = waits_finished f.versions c.replace_next-replaced.new.versions f.table c.replace_next-replaced.ensures.replaced.between c.replace_next-replaced.new.table c.args.tx.0 c.in_ok-word.word c.replace_next-replaced.ensures.replaced.next c.in_ok-word.ensures.ok c.replace_next-replaced.ensures.replaced.passed f.waiting c.count_off.new.waiting c.replace_next-replaced.result.0 c.replace_next-replaced.ensures.first c.count_off.ensures c.self.invariant.waiting;
     }
 
@@ -65,9 +65,9 @@ invariant_of-self-2 c =
     let old : CoreData = core_data f in
     record {
       stands =
-          stands_on i (Finish c.args.tx.0) Accepted (record old { versions = c.replace_next-replaced.new.versions; table = c.terminate-node.new.self })
-          (finish_done no_readers i.opening i.steps i.state old i.stands c.args.tx.0 refl c.in_ok-word.word c.in_ok-word.ensures.ok c.replace_next-replaced.new.versions c.replace_next-replaced.ensures.replaced.between c.replace_next-replaced.new.table c.terminate-node.new.self
-          c.replace_next-replaced.ensures.replaced.next c.replace_next-replaced.ensures.replaced.passed c.replace_next-replaced.result.1 c.replace_next-replaced.ensures.next c.if-is_some.ensures c.terminate-node.ensures.gone).leads;
+          whole_stands_on i (CoreCall (Finish c.args.tx.0)) Accepted (record old { versions = c.replace_next-replaced.new.versions; table = c.terminate-node.new.self })
+          ((finish_done_whole i.opening i.steps i.own i.whole old i.stands c.args.tx.0 c.in_ok-word.word c.in_ok-word.ensures.ok c.replace_next-replaced.new.versions c.replace_next-replaced.ensures.replaced.between c.replace_next-replaced.new.table
+          c.replace_next-replaced.ensures.replaced.next c.replace_next-replaced.ensures.replaced.passed c.replace_next-replaced.result.1 c.replace_next-replaced.ensures.next c.if-is_some.ensures c.terminate-node.new.self c.terminate-node.ensures.gone).leads);
       waiting = waits_gone c.replace_next-replaced.new.table c.terminate-node.new.self c.args.tx.0 c.replace_next-replaced.new.versions.slots c.count_off.new.waiting c.terminate-node.ensures.gone (waits_finished f.versions c.replace_next-replaced.new.versions f.table c.replace_next-replaced.ensures.replaced.between c.replace_next-replaced.new.table c.args.tx.0 c.in_ok-word.word c.replace_next-replaced.ensures.replaced.next c.in_ok-word.ensures.ok c.replace_next-replaced.ensures.replaced.passed f.waiting c.count_off.new.waiting c.replace_next-replaced.result.0 c.replace_next-replaced.ensures.first c.count_off.ensures c.self.invariant.waiting);
     }
 

@@ -12,7 +12,7 @@ use Rattle.mvo_core.specs.Data.{CoreData}
 use Rattle.mvo_core.specs.View.{core_data}
 use Rattle.mvo_core.specs.Standing.{StandsFor}
 use Rattle.mvo_core.specs.Steps.{LeadsOn}
-use Rattle.mvo_core.proofs.Begun.{stands_on}
+use Rattle.mvo_core.proofs.WholeStands.{whole_stands_on}
 use Rattle.mvo_core.proofs.Inserting.{insert_starved, insert_refused, insert_spent, insert_spent_same, exists_answers, exists_leads, insert_leads, inserted_answers}
 use Rattle.mvo_core.proofs.Looked.{shown_in}
 use Rattle.mvo_core.proofs.Refused.{came_spent}
@@ -41,8 +41,10 @@ invariant_of-self c =
     let old : CoreData = core_data f in
     record {
       stands =
-          stands_on i (Do c.args.tx.0 (Insert c.args.row)) (Refused OutOfMemory) (record old { table = c.record_answer.new.table })
-          (insert_spent no_readers i.opening i.steps i.state old i.stands c.args.tx c.args.row refl (sym c.not_put.ensures ∙ c.in_default.is) c.record_answer.new.table c.in_err-record_answer.ensures.err);
+          whole_stands_on i (CoreCall (Do c.args.tx.0 (Insert c.args.row))) (Refused OutOfMemory) (record old { table = c.record_answer.new.table })
+          (let other = stage_none (readers_of i.whole) i.opening i.own i.whole.core old i.stands.core c.args.tx.0 (put_not_reading f.table c.args.tx.0 c.args.row (sym c.not_put.ensures ∙ c.in_default.is)) in
+          (others_lead i.opening i.steps i.own i.whole (Do c.args.tx.0 (Insert c.args.row)) _ old _ i.stands other tt
+          (insert_spent (readers_of i.whole) i.opening i.own i.whole.core old i.stands.core c.args.tx c.args.row other (sym c.not_put.ensures ∙ c.in_default.is) c.record_answer.new.table c.in_err-record_answer.ensures.err)));
       waiting = waits_alike f.table c.record_answer.new.table f.versions.slots f.waiting (alike_written f.table c.record_answer.new.table c.args.tx.0 HasDoneAsMuch c.in_err-record_answer.ensures.err) c.self.invariant.waiting;
     }
 
@@ -61,9 +63,12 @@ invariant_of-self-then-is_some c =
     let is = subst (λ k. AreVersionsInOrder (state_of f.table) c.args.tx.0 c.args.tx.0 (versions_at f.versions.slots f.versions.lists k) → c.shown-found.result ≡ shown_in old c.args.tx.0 k) c.row_key-key.ensures c.shown-found.ensures in
     record {
       stands =
-          stands_on i (Do c.args.tx.0 (Insert c.args.row)) Accepted (record old { table = c.record_answer.new.table })
-          (exists_leads no_readers i.opening i.steps i.state old i.stands c.args.tx c.args.row refl (sym c.not_put.ensures ∙ c.in_default.is) c.shown-found.result is (sym c.is_some.ensures ∙ c.if-is_some.true)
-          c.record_answer.new.table c.in_ok-record_answer.ensures.ok);
+          whole_stands_on i (CoreCall (Do c.args.tx.0 (Insert c.args.row))) Accepted (record old { table = c.record_answer.new.table })
+          (let other = stage_none (readers_of i.whole) i.opening i.own i.whole.core old i.stands.core c.args.tx.0 (put_not_reading f.table c.args.tx.0 c.args.row (sym c.not_put.ensures ∙ c.in_default.is)) in
+          let is = subst (λ k. AreVersionsInOrder (state_of f.table) c.args.tx.0 c.args.tx.0 (versions_at f.versions.slots f.versions.lists k) → c.shown-found.result ≡ shown_in old c.args.tx.0 k) c.row_key-key.ensures c.shown-found.ensures in
+          others_lead i.opening i.steps i.own i.whole (Do c.args.tx.0 (Insert c.args.row)) _ old _ i.stands other tt
+          (exists_leads (readers_of i.whole) i.opening i.own i.whole.core old i.stands.core c.args.tx c.args.row other (sym c.not_put.ensures ∙ c.in_default.is) c.shown-found.result is (sym c.is_some.ensures ∙ c.if-is_some.true)
+          c.record_answer.new.table c.in_ok-record_answer.ensures.ok));
       waiting = waits_alike f.table c.record_answer.new.table f.versions.slots f.waiting (alike_recorded f.table c.record_answer.new.table c.args.tx _ _ _ c.in_ok-record_answer.ensures.ok) c.self.invariant.waiting;
     }
 
@@ -89,9 +94,11 @@ invariant_of-self-in_err-insert_row c =
     let old : CoreData = core_data f in
     record {
       stands =
-          stands_on i (Do c.args.tx.0 (Insert c.args.row)) (Refused OutOfMemory) (record old { versions = c.insert_row.new.versions; table = c.insert_row.new.table })
-          (insert_spent_same no_readers i.opening i.steps i.state old i.stands c.args.tx c.args.row refl (sym c.not_put.ensures ∙ c.in_default.is) c.insert_row.new.versions c.in_err-insert_row.ensures.err c.insert_row.ensures.indexed
-          c.insert_row.new.table c.in_err-insert_row.ensures.alone);
+          whole_stands_on i (CoreCall (Do c.args.tx.0 (Insert c.args.row))) (Refused OutOfMemory) (record old { versions = c.insert_row.new.versions; table = c.insert_row.new.table })
+          (let other = stage_none (readers_of i.whole) i.opening i.own i.whole.core old i.stands.core c.args.tx.0 (put_not_reading f.table c.args.tx.0 c.args.row (sym c.not_put.ensures ∙ c.in_default.is)) in
+          (others_lead i.opening i.steps i.own i.whole (Do c.args.tx.0 (Insert c.args.row)) _ old _ i.stands other tt
+          (insert_spent_same (readers_of i.whole) i.opening i.own i.whole.core old i.stands.core c.args.tx c.args.row other (sym c.not_put.ensures ∙ c.in_default.is) c.insert_row.new.versions c.in_err-insert_row.ensures.err
+          c.insert_row.ensures.indexed c.insert_row.new.table c.in_err-insert_row.ensures.alone)));
       waiting = waits_spent f.table c.insert_row.new.table c.args.tx.0 f.versions c.insert_row.new.versions f.waiting c.make_room.new.self c.make_room.ensures.same c.in_err-insert_row.ensures.err c.in_err-insert_row.ensures.alone c.self.invariant.waiting;
     }
 
@@ -112,9 +119,12 @@ invariant_of-self-2 c =
     let is = subst (λ k. AreVersionsInOrder (state_of f.table) c.args.tx.0 c.args.tx.0 (versions_at f.versions.slots f.versions.lists k) → c.shown-found.result ≡ shown_in old c.args.tx.0 k) c.row_key-key.ensures c.shown-found.ensures in
     record {
       stands =
-          stands_on i (Do c.args.tx.0 (Insert c.args.row)) Accepted (record old { versions = c.insert_row.new.versions; table = c.insert_row.new.table })
-          (insert_leads no_readers i.opening i.steps i.state old i.stands c.args.tx c.args.row refl (sym c.not_put.ensures ∙ c.in_default.is) c.shown-found.result is (sym c.is_some.ensures ∙ c.if-is_some.false)
-          c.insert_row.new.versions c.insert_row.new.table c.in_ok-insert_row.ensures.ok c.insert_row.ensures.indexed);
+          whole_stands_on i (CoreCall (Do c.args.tx.0 (Insert c.args.row))) Accepted (record old { versions = c.insert_row.new.versions; table = c.insert_row.new.table })
+          (let other = stage_none (readers_of i.whole) i.opening i.own i.whole.core old i.stands.core c.args.tx.0 (put_not_reading f.table c.args.tx.0 c.args.row (sym c.not_put.ensures ∙ c.in_default.is)) in
+          let is = subst (λ k. AreVersionsInOrder (state_of f.table) c.args.tx.0 c.args.tx.0 (versions_at f.versions.slots f.versions.lists k) → c.shown-found.result ≡ shown_in old c.args.tx.0 k) c.row_key-key.ensures c.shown-found.ensures in
+          others_lead i.opening i.steps i.own i.whole (Do c.args.tx.0 (Insert c.args.row)) _ old _ i.stands other tt
+          (insert_leads (readers_of i.whole) i.opening i.own i.whole.core old i.stands.core c.args.tx c.args.row other (sym c.not_put.ensures ∙ c.in_default.is) c.shown-found.result is (sym c.is_some.ensures ∙ c.if-is_some.false)
+          c.insert_row.new.versions c.insert_row.new.table c.in_ok-insert_row.ensures.ok c.insert_row.ensures.indexed));
       waiting = waits_inserted f.versions c.insert_row.new.versions f.table c.insert_row.new.table c.args.tx (option_to_list c.shown-found.result.depends_on) f.waiting c.make_room.new.self c.make_room.ensures.same c.args.row c.owe.new.self c.in_ok-insert_row.ensures.ok c.owe.ensures c.self.invariant.waiting;
     }
 

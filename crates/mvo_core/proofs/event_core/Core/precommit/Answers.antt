@@ -1,14 +1,15 @@
-use Rattle.std.proofs.Common.{arith, List, ◌≡◌, ◌<◌, ◌≤◌, ◌+◌, Some, sym, ap, ◌∙◌, subst, refl}
+use Rattle.std.proofs.Common.{arith, Bool, cond, List, ◌≡◌, ◌<◌, ◌≤◌, ◌+◌, Some, sym, ap, ◌∙◌, subst, refl}
 use Rattle.mvo_types.specs.declared.limits.TheConstants.{MAX_STAMP}
 use Rattle.mvo_types.specs.declared.ids.Stamp.{Stamp}
 use Rattle.mvo_types.specs.declared.refusal.Refusal.TheVariants.{ClockSpent, OutOfMemory}
 use Rattle.mvo_theory.specs.Calls.Call.{Precommit}
-use Rattle.mvo_theory.specs.Calls.Result.{Refused}
+use Rattle.mvo_theory.specs.Calls.Result.{Accepted, Refused}
 use Rattle.mvo_core.specs.Readers.{no_readers}
 use Rattle.mvo_core.specs.Data.{CoreData}
 use Rattle.mvo_core.specs.View.{core_data}
 use Rattle.mvo_core.specs.Causes.{why_not_active}
-use Rattle.mvo_core.specs.Standing.{StandsFor, Stands}
+use Rattle.mvo_core.specs.Standing.{StandsFor}
+use Rattle.mvo_core.specs.WholeStanding.{StandsInWhole}
 use Rattle.mvo_core.specs.Steps.{came, LeadsOn, LeadsAmong}
 use Rattle.mvo_readonly.specs.Whole.{stage_of}
 use Rattle.mvo_readonly.specs.WholeCauses.WholeCall.{CoreCall}
@@ -17,13 +18,15 @@ use Rattle.mvo_core.specs.WholeStanding.{StandsWhole, LeadsWhole, readers_of}
 use Rattle.mvo_core.proofs.WholeCalled.{none_reads, other_leads_whole}
 use Rattle.mvo_core.proofs.WholePrecommits.{read_is_some, precommit_refused_whole, reads_precommits}
 use Rattle.mvo_core.specs.Data.{own_of}
-use Rattle.mvo_core.proofs.Begun.{stands_on}
+use Rattle.mvo_core.proofs.WholeStands.{whole_stands_on}
 use Rattle.mvo_core.proofs.Refused.{came_spent}
 use Rattle.mvo_core.proofs.Drawing.{precommit_refused, clock_spent_leads, memory_spent_leads, ends_below, was_active, draw_leads}
 use Rattle.mvo_txn.specs.Txns.{state_of}
 use Rattle.mvo_tale.specs.declared.tale_place.TalePlace.{TalePlace}
-use Rattle.mvo_core.proofs.Waits.{waits_roomy_ended}
+use Rattle.mvo_core.proofs.Waits.{waits_roomy_ended, waits_alike, alike_written}
 use Rattle.mvo_core.proofs.WaitsOn.{drawn_waits}
+use Rattle.mvo_core.specs.Keeping.{HasStartedChecks}
+use Rattle.mvo_core.specs.WholeEnds.{end_drawn}
 use Rattle.mvo_core.proofs.event_core.Core.precommit.Goals as goal
 
 pub returns-in-Some-clause-step : goal.returns-in-Some-clause-step
@@ -48,7 +51,7 @@ open-requires c =
     let f = c.self.inside in
     let i = c.self.invariant.stands in
     let old : CoreData = core_data f in
-    ends_below no_readers i.opening i.steps i.state old i.stands (c.clock-clock.result.0 + 1) (ap (λ n. n + 1) c.clock-clock.ensures.value)
+    ends_below (readers_of i.whole) i.opening i.own i.whole.core old i.stands.core (c.clock-clock.result.0 + 1) (ap (λ n. n + 1) c.clock-clock.ensures.value)
 
 pub returns-in_err-place-clause-step : goal.returns-in_err-place-clause-step
 returns-in_err-place-clause-step c = λ opening steps s h.
@@ -64,7 +67,7 @@ prepare-requires c =
     let f = c.self.inside in
     let i = c.self.invariant.stands in
     let old : CoreData = core_data f in
-    was_active no_readers i.opening i.steps i.state old i.stands c.args.tx (sym c.active-refusal.ensures.refusal ∙ c.in_default.is)
+    was_active (readers_of i.whole) i.opening i.own i.whole.core old i.stands.core c.args.tx (sym c.active-refusal.ensures.refusal ∙ c.in_default.is)
 
 pub invariant_of-self-2 : goal.invariant_of-self-2
 invariant_of-self-2 c =
@@ -76,11 +79,13 @@ invariant_of-self-2 c =
     let unspent = subst (λ n. n < MAX_STAMP) c.clock-clock.ensures.value c.if-clock-ge-MAX_STAMP.false in
     record {
       stands =
-          stands_on i (Precommit c.args.tx.0) (came c.prepare.result) (record old { versions = c.draw_words.new.versions; table = c.prepare.new.table; tale = c.open.new.self })
-          (draw_leads no_readers i.opening i.steps i.state old i.stands c.args.tx none c.in_ok-place.place c.in_ok-place.ensures.place
+          whole_stands_on i (CoreCall (Precommit c.args.tx.0)) (came c.prepare.result) (record old { versions = c.draw_words.new.versions; table = c.prepare.new.table; tale = c.open.new.self })
+          (let drawn : Stamp = record { 0 = c.clock-clock.result.0 + 1 } in
+          other_leads_whole i.opening i.steps i.own i.whole old i.stands c.args.tx.0 (Precommit c.args.tx.0) refl tt (came c.prepare.result) (record old { versions = c.draw_words.new.versions; table = c.prepare.new.table; tale = c.open.new.self }) (sym c.active-refusal.ensures.reads ∙ c.if-reads.false)
+          (λ other. draw_leads (readers_of i.whole) i.opening i.own i.whole.core old i.stands.core c.args.tx (sym c.active-refusal.ensures.refusal ∙ c.in_default.is) c.in_ok-place.place c.in_ok-place.ensures.place
           drawn (ap (λ n. n + 1) c.clock-clock.ensures.value) c.open.new.self c.in_ok-place.ensures.ok c.draw_words.new.versions c.draw_words.ensures.fronts
-          unspent refl c.prepare.result c.prepare.new.table c.prepare.ensures.ok c.prepare.ensures.refused);
-      waiting = drawn_waits no_readers i.opening i.steps i.state old i.stands c.args.tx none c.in_ok-place.place c.in_ok-place.ensures.place drawn (ap (λ n. n + 1) c.clock-clock.ensures.value) c.draw_words.new.versions c.draw_words.ensures.fronts unspent f.waiting c.make_room_for_ended.new.self c.draw_words.new.waiting c.make_room_for_ended.ensures.same c.draw_words.ensures.waits c.self.invariant.waiting c.prepare.result c.prepare.new.table c.prepare.ensures.ok c.prepare.ensures.refused;
+          (subst (λ n. n < MAX_STAMP) c.clock-clock.ensures.value c.if-clock-ge-MAX_STAMP.false) other c.prepare.result c.prepare.new.table c.prepare.ensures.ok c.prepare.ensures.refused));
+      waiting = drawn_waits (readers_of i.whole) i.opening i.own i.whole.core old i.stands.core c.args.tx none c.in_ok-place.place c.in_ok-place.ensures.place drawn (ap (λ n. n + 1) c.clock-clock.ensures.value) c.draw_words.new.versions c.draw_words.ensures.fronts unspent f.waiting c.make_room_for_ended.new.self c.draw_words.new.waiting c.make_room_for_ended.ensures.same c.draw_words.ensures.waits c.self.invariant.waiting c.prepare.result c.prepare.new.table c.prepare.ensures.ok c.prepare.ensures.refused;
     }
 
 pub returns-clause-step : goal.returns-clause-step
@@ -115,7 +120,7 @@ invariant_of-self-in_err-place c =
     let f = c.self.inside in
     let old : CoreData = core_data f in
     record {
-      stands = subst (λ (slots : List TalePlace). Stands (record old { tale = slots })) (sym c.in_err-place.ensures.err) c.self.invariant.stands;
+      stands = subst (λ (slots : List TalePlace). StandsInWhole (record old { tale = slots })) (sym c.in_err-place.ensures.err) c.self.invariant.stands;
       waiting = waits_roomy_ended f.table.clock (state_of f.table) f.versions.slots f.waiting c.make_room_for_ended.new.self c.make_room_for_ended.new.self.ended_room c.make_room_for_ended.ensures.same c.self.invariant.waiting;
     }
 
@@ -185,14 +190,19 @@ returns-then-reads-clause-step c = λ opening steps s h.
 pub returns-then-reads-clause-end : goal.returns-then-reads-clause-end
 returns-then-reads-clause-end c =
     let f = c.self.inside in
-    let i = c.self.invariant.stands in
-    absurd (none_reads i.opening i.steps i.state (core_data f) i.stands c.args.tx.0 (sym c.active-refusal.ensures.reads ∙ c.if-reads.true))
+    c.start_checks.ensures.end ∙ subst (λ (v : CoreData). c.args.tx.0 ≡ end_drawn v c.args.tx.0) c.self.view_is (sym (ap (λ (b : Bool). cond b c.args.tx.0 (f.table.clock + 1)) (sym c.active-refusal.ensures.reads ∙ c.if-reads.true)))
 
 pub invariant_of-self : goal.invariant_of-self
 invariant_of-self c =
     let f = c.self.inside in
     let i = c.self.invariant.stands in
-    absurd (none_reads i.opening i.steps i.state (core_data f) i.stands c.args.tx.0 (sym c.active-refusal.ensures.reads ∙ c.if-reads.true))
+    let old : CoreData = core_data f in
+    record {
+      stands =
+          whole_stands_on i (CoreCall (Precommit c.args.tx.0)) Accepted (record old { table = c.start_checks.new.table })
+          (reads_precommits i.opening i.steps i.own i.whole old i.stands c.args.tx.0 c.start_checks.new.table c.start_checks.ensures.started (sym c.active-refusal.ensures.refusal ∙ c.in_default.is) (sym c.active-refusal.ensures.reads ∙ c.if-reads.true));
+      waiting = waits_alike f.table c.start_checks.new.table f.versions.slots f.waiting (alike_written f.table c.start_checks.new.table c.args.tx.0 HasStartedChecks c.start_checks.ensures.started) c.self.invariant.waiting;
+    }
 
 pub returns-then-reads-clause-whole : goal.returns-then-reads-clause-whole
 returns-then-reads-clause-whole c = λ opening steps own w h.

@@ -10,7 +10,7 @@ use Rattle.mvo_core.specs.Data.{CoreData}
 use Rattle.mvo_core.specs.View.{core_data}
 use Rattle.mvo_core.specs.Standing.{StandsFor}
 use Rattle.mvo_core.specs.Steps.{LeadsOn}
-use Rattle.mvo_core.proofs.Begun.{stands_on}
+use Rattle.mvo_core.proofs.WholeStands.{whole_stands_on}
 use Rattle.mvo_core.proofs.Refused.{came_spent}
 use Rattle.mvo_core.proofs.Reading.{read_refused, read_spent, read_spent_roomy, read_answers, read_leads}
 use Rattle.mvo_core.specs.Keeping.{HasDoneAsMuch}
@@ -48,8 +48,10 @@ invariant_of-self c =
     let old : CoreData = core_data f in
     record {
       stands =
-          stands_on i (Do c.args.tx.0 (Read c.args.key)) (Refused OutOfMemory) (record old { table = c.record_answer.new.table })
-          (read_spent_roomy no_readers i.opening i.steps i.state old i.stands c.args.tx c.args.key tt (sym c.not_looked.ensures ∙ c.in_default.is) c.record_answer.new.table c.in_err-record_answer.ensures.err);
+          whole_stands_on i (CoreCall (Do c.args.tx.0 (Read c.args.key))) (Refused OutOfMemory) (record old { table = c.record_answer.new.table })
+          (let looks = may_look_whole i.opening i.steps i.own i.whole old i.stands c.args.tx.0 (Read c.args.key) c.args.key.table (Key c.args.key) refl (sym c.not_looked.ensures ∙ c.in_default.is) in
+          (look_spent i.opening i.steps i.own i.whole old i.stands c.args.tx.0 (Read c.args.key) c.args.key.table (Key c.args.key) refl (sym c.not_looked.ensures ∙ c.in_default.is) _
+          (read_spent_roomy (readers_of i.whole) i.opening i.own i.whole.core old i.stands.core c.args.tx c.args.key looks (sym c.not_looked.ensures ∙ c.in_default.is) c.record_answer.new.table c.in_err-record_answer.ensures.err)));
       waiting = waits_alike f.table c.record_answer.new.table f.versions.slots f.waiting (alike_written f.table c.record_answer.new.table c.args.tx.0 HasDoneAsMuch c.in_err-record_answer.ensures.err) c.self.invariant.waiting;
     }
 
@@ -67,9 +69,11 @@ invariant_of-self-2 c =
     let old : CoreData = core_data f in
     record {
       stands =
-          stands_on i (Do c.args.tx.0 (Read c.args.key)) Accepted (record old { table = c.record_answer.new.table })
-          (read_leads no_readers i.opening i.steps i.state old i.stands c.args.tx c.args.key tt (sym c.not_looked.ensures ∙ c.in_default.is) c.shown-found.result c.shown-found.ensures c.in_ok-kept.kept
-          (c.in_ok-kept.ensures ∙ c.in_ok-row.ensures) c.record_answer.new.table c.in_ok-record_answer.ensures.ok);
+          whole_stands_on i (CoreCall (Do c.args.tx.0 (Read c.args.key))) Accepted (record old { table = c.record_answer.new.table })
+          (let looks = may_look_whole i.opening i.steps i.own i.whole old i.stands c.args.tx.0 (Read c.args.key) c.args.key.table (Key c.args.key) refl (sym c.not_looked.ensures ∙ c.in_default.is) in
+          look_leads i.opening i.steps i.own i.whole old i.stands c.args.tx.0 (Read c.args.key) c.args.key.table (Key c.args.key) refl (sym c.not_looked.ensures ∙ c.in_default.is) _
+          (read_leads (readers_of i.whole) i.opening i.own i.whole.core old i.stands.core c.args.tx c.args.key looks (sym c.not_looked.ensures ∙ c.in_default.is) c.shown-found.result c.shown-found.ensures c.in_ok-kept.kept
+          (c.in_ok-kept.ensures ∙ c.in_ok-row.ensures) c.record_answer.new.table c.in_ok-record_answer.ensures.ok));
       waiting = waits_alike f.table c.record_answer.new.table f.versions.slots f.waiting (alike_recorded f.table c.record_answer.new.table c.args.tx _ _ _ c.in_ok-record_answer.ensures.ok) c.self.invariant.waiting;
     }
 

@@ -10,7 +10,7 @@ use Rattle.mvo_core.specs.Data.{CoreData}
 use Rattle.mvo_core.specs.View.{core_data}
 use Rattle.mvo_core.specs.Standing.{StandsFor}
 use Rattle.mvo_core.specs.Steps.{LeadsOn}
-use Rattle.mvo_core.proofs.Begun.{stands_on}
+use Rattle.mvo_core.proofs.WholeStands.{whole_stands_on}
 use Rattle.mvo_core.proofs.Refused.{came_spent}
 use Rattle.mvo_core.proofs.ScanRefused.{scan_refused, scan_spent, scan_spent_roomy}
 use Rattle.mvo_core.proofs.ScanAnswered.{scan_answers, scan_leads}
@@ -49,8 +49,10 @@ invariant_of-self c =
     let old : CoreData = core_data f in
     record {
       stands =
-          stands_on i (Do c.args.tx.0 (Scan c.args.table c.args.lo c.args.hi)) (Refused OutOfMemory) (record old { table = c.record_answer_on.new.table })
-          (scan_spent_roomy no_readers i.opening i.steps i.state old i.stands c.args.tx c.args.table c.args.lo c.args.hi tt (sym c.not_looked.ensures ∙ c.in_default.is) c.record_answer_on.new.table c.in_err-record_answer_on.ensures.err);
+          whole_stands_on i (CoreCall (Do c.args.tx.0 (Scan c.args.table c.args.lo c.args.hi))) (Refused OutOfMemory) (record old { table = c.record_answer_on.new.table })
+          (let looks = may_look_whole i.opening i.steps i.own i.whole old i.stands c.args.tx.0 (Scan c.args.table c.args.lo c.args.hi) c.args.table (Range c.args.table c.args.lo c.args.hi) refl (sym c.not_looked.ensures ∙ c.in_default.is) in
+          (look_spent i.opening i.steps i.own i.whole old i.stands c.args.tx.0 (Scan c.args.table c.args.lo c.args.hi) c.args.table (Range c.args.table c.args.lo c.args.hi) refl (sym c.not_looked.ensures ∙ c.in_default.is) _
+          (scan_spent_roomy (readers_of i.whole) i.opening i.own i.whole.core old i.stands.core c.args.tx c.args.table c.args.lo c.args.hi looks (sym c.not_looked.ensures ∙ c.in_default.is) c.record_answer_on.new.table c.in_err-record_answer_on.ensures.err)));
       waiting = waits_alike f.table c.record_answer_on.new.table f.versions.slots f.waiting (alike_written f.table c.record_answer_on.new.table c.args.tx.0 HasDoneAsMuch c.in_err-record_answer_on.ensures.err) c.self.invariant.waiting;
     }
 
@@ -68,9 +70,11 @@ invariant_of-self-2 c =
     let old : CoreData = core_data f in
     record {
       stands =
-          stands_on i (Do c.args.tx.0 (Scan c.args.table c.args.lo c.args.hi)) Accepted (record old { table = c.record_answer_on.new.table })
-          (scan_leads no_readers i.opening i.steps i.state old i.stands c.args.tx c.args.table c.args.lo c.args.hi (sym c.not_looked.ensures ∙ c.in_default.is) tt c.in_ok-scanned.scanned.rows.items c.in_ok-scanned.scanned.on.items c.in_ok-scanned.ensures
-          c.in_ok-kept.kept.items (c.in_ok-kept.ensures ∙ c.deref.ensures.value) c.deref-2.result.now c.deref-2.ensures.value c.record_answer_on.new.table c.in_ok-record_answer_on.ensures.ok);
+          whole_stands_on i (CoreCall (Do c.args.tx.0 (Scan c.args.table c.args.lo c.args.hi))) Accepted (record old { table = c.record_answer_on.new.table })
+          (let looks = may_look_whole i.opening i.steps i.own i.whole old i.stands c.args.tx.0 (Scan c.args.table c.args.lo c.args.hi) c.args.table (Range c.args.table c.args.lo c.args.hi) refl (sym c.not_looked.ensures ∙ c.in_default.is) in
+          look_leads i.opening i.steps i.own i.whole old i.stands c.args.tx.0 (Scan c.args.table c.args.lo c.args.hi) c.args.table (Range c.args.table c.args.lo c.args.hi) refl (sym c.not_looked.ensures ∙ c.in_default.is) _
+          (scan_leads (readers_of i.whole) i.opening i.own i.whole.core old i.stands.core c.args.tx c.args.table c.args.lo c.args.hi (sym c.not_looked.ensures ∙ c.in_default.is) looks c.in_ok-scanned.scanned.rows.items c.in_ok-scanned.scanned.on.items c.in_ok-scanned.ensures
+          c.in_ok-kept.kept.items (c.in_ok-kept.ensures ∙ c.deref.ensures.value) c.deref-2.result.now c.deref-2.ensures.value c.record_answer_on.new.table c.in_ok-record_answer_on.ensures.ok));
       waiting = waits_alike f.table c.record_answer_on.new.table f.versions.slots f.waiting (alike_recorded f.table c.record_answer_on.new.table c.args.tx _ _ _ c.in_ok-record_answer_on.ensures.ok) c.self.invariant.waiting;
     }
 

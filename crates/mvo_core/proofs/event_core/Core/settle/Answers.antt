@@ -17,13 +17,13 @@ use Rattle.mvo_core.specs.Causes.{why_not_preparing}
 use Rattle.mvo_core.specs.Standing.{StandsFor}
 use Rattle.mvo_core.specs.Keeping.{HasHandedOver}
 use Rattle.mvo_core.specs.Steps.{LeadsOn}
-use Rattle.mvo_core.proofs.Begun.{stands_on}
+use Rattle.mvo_core.proofs.WholeStands.{whole_stands_on}
 use Rattle.mvo_core.proofs.Committing.{settle_refused, unvalidated_leads, waits_leads, waits_for, prepared, place_there, commits_leads, commits_as}
 use Rattle.mvo_core.proofs.WaitsOn.{committed_waits}
 use Rattle.mvo_core.proofs.WrittenThen.{data_changed}
 use Rattle.mvo_readonly.specs.WholeCauses.WholeCall.{CoreCall}
 use Rattle.mvo_core.specs.WholeStanding.{readers_of, StandsWhole, LeadsWhole}
-use Rattle.mvo_core.proofs.WholeCalled.{none_reads, other_leads_whole}
+use Rattle.mvo_core.proofs.WholeCalled.{none_reads, other_leads_whole, stage_none}
 use Rattle.mvo_core.proofs.WholeSettles.{settle_refused_whole, unvalidated_leads_whole, waits_leads_whole, waits_for_whole, commits_as_whole, reads_settled}
 use Rattle.mvo_core.proofs.event_core.Core.settle.Goals as goal
 
@@ -64,7 +64,7 @@ commit-place-requires c =
     let f = c.self.inside in
     let i = c.self.invariant.stands in
     let old : CoreData = core_data f in
-    subst StandsPreparing (sym (prepared no_readers i.opening i.steps i.state old i.stands c.args.tx c.in-Ready.ensures.0.none refl).1) refl
+    subst StandsPreparing (sym (prepared (readers_of i.whole) i.opening i.own i.whole.core old i.stands.core c.args.tx c.in-Ready.ensures.0.none (stage_none (readers_of i.whole) i.opening i.own i.whole.core old i.stands.core c.args.tx.0 c.in-Ready.ensures.3)).1) refl
 
 pub report_settled-requires : goal.report_settled-requires
 report_settled-requires c = λ none.
@@ -78,7 +78,7 @@ settle-requires c =
     let old : CoreData = core_data f in
     open_pending f.tale c.commit-place.result.1 c.commit-place.result.0.0
     (ap (open_end_at f.tale) c.commit-place.ensures.place
-    ∙ place_there no_readers i.opening i.steps i.state old i.stands c.args.tx c.in-Ready.ensures.0.none refl c.commit-place.result.0 c.commit-place.ensures.end)
+    ∙ place_there (readers_of i.whole) i.opening i.own i.whole.core old i.stands.core c.args.tx c.in-Ready.ensures.0.none (stage_none (readers_of i.whole) i.opening i.own i.whole.core old i.stands.core c.args.tx.0 c.in-Ready.ensures.3) c.commit-place.result.0 c.commit-place.ensures.end)
 
 pub invariant_of-self : goal.invariant_of-self
 invariant_of-self c =
@@ -90,10 +90,14 @@ invariant_of-self c =
     let entry : StoredCommit = record { id = c.args.tx.0; end = end.0; history = history_told c.commit-place.result.2.told.items } in
     record {
       stands =
-          stands_on i (Settle c.args.tx.0) Accepted (record old { table = c.report_settled.new.table; tale = c.settle.new.self })
-          (commits_leads no_readers i.opening i.steps i.state old i.stands c.args.tx none refl end c.commit-place.ensures.end c.commit-place.new.table c.report_settled.new.table c.commit-place.ensures.left c.report_settled.ensures.told
+          whole_stands_on i (CoreCall (Settle c.args.tx.0)) Accepted (record old { table = c.report_settled.new.table; tale = c.settle.new.self })
+          (let none = c.in-Ready.ensures.0.none in
+          let end = c.commit-place.result.0 in
+          let entry : StoredCommit = record { id = c.args.tx.0; end = end.0; history = history_told c.commit-place.result.2.told.items } in
+          other_leads_whole i.opening i.steps i.own i.whole old i.stands c.args.tx.0 (Settle c.args.tx.0) refl tt Accepted (record old { table = c.report_settled.new.table; tale = c.settle.new.self }) c.in-Ready.ensures.3
+          (λ other. commits_leads (readers_of i.whole) i.opening i.own i.whole.core old i.stands.core c.args.tx none other end c.commit-place.ensures.end c.commit-place.new.table c.report_settled.new.table c.commit-place.ensures.left c.report_settled.ensures.told
           c.report_settled.ensures.graph entry refl refl c.commit-place.ensures.told c.in-Ready.ensures.1 c.in-Ready.ensures.0.valid_is
-          c.settle.new.self (c.settle.ensures ∙ ap (λ p. slice_set f.tale p (Settled entry)) c.commit-place.ensures.place));
+          c.settle.new.self (c.settle.ensures ∙ ap (λ p. slice_set f.tale p (Settled entry)) c.commit-place.ensures.place)));
       waiting = committed_waits f.table c.commit-place.new.table c.report_settled.new.table c.args.tx end f.versions f.waiting c.commit-place.ensures.end c.commit-place.ensures.left c.report_settled.ensures.told c.self.invariant.waiting;
     }
 

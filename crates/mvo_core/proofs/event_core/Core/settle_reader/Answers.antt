@@ -4,8 +4,15 @@ use Rattle.mvo_core.specs.Data.{CoreData}
 use Rattle.mvo_core.specs.View.{core_data}
 use Rattle.mvo_core.specs.Settling.{IsReadyReader}
 use Rattle.mvo_core.specs.WholeStanding.{StandsWhole}
-use Rattle.mvo_core.proofs.WholeCalled.{none_reads}
-use Rattle.mvo_core.proofs.WholeSettles.{unended_if_none, some_reported, reads_settle}
+use Rattle.mvo_core.proofs.WholeSettles.{unended_if_none, some_reported, reads_pending, reads_settle}
+use Rattle.mvo_theory.specs.Calls.Call.{Settle}
+use Rattle.mvo_theory.specs.Calls.Result.{Accepted}
+use Rattle.mvo_readonly.specs.WholeCauses.WholeCall.{CoreCall}
+use Rattle.mvo_core.specs.Keeping.{HasHandedOverRead}
+use Rattle.mvo_core.specs.Standing.{words_in}
+use Rattle.mvo_core.proofs.Waits.{waits_alike, alike_written}
+use Rattle.mvo_core.proofs.WaitsOn.{aborted_waits}
+use Rattle.mvo_core.proofs.WholeStands.{whole_stands_on}
 use Rattle.mvo_core.proofs.event_core.Core.settle_reader.Goals as goal
 
 pub abort-requires : goal.abort-requires
@@ -24,15 +31,26 @@ pub settle-requires : goal.settle-requires
 settle-requires c =
     let f = c.self.inside in
     let i = c.self.invariant.stands in
+    let old : CoreData = core_data f in
     let ready : IsReadyReader f.table c.args.reader.id = subst (λ (v : CoreData). IsReadyReader v.table c.args.reader.id) (sym c.self.view_is) c.requires in
-    absurd (none_reads i.opening i.steps i.state (core_data f) i.stands c.args.reader.id.0 ready.reads)
+    reads_pending i.opening i.steps i.own i.whole old i.stands c.args.reader.id ready c.abort.new.self c.report_abort.new.table c.abort.ensures c.report_abort.ensures.told c.hand_over-place.result.0 c.hand_over-place.ensures.place
 
 pub invariant_of-self : goal.invariant_of-self
 invariant_of-self c =
     let f = c.self.inside in
     let i = c.self.invariant.stands in
+    let old : CoreData = core_data f in
     let ready : IsReadyReader f.table c.args.reader.id = subst (λ (v : CoreData). IsReadyReader v.table c.args.reader.id) (sym c.self.view_is) c.requires in
-    absurd (none_reads i.opening i.steps i.state (core_data f) i.stands c.args.reader.id.0 ready.reads)
+    record {
+      stands =
+          whole_stands_on i (CoreCall (Settle c.args.reader.id.0)) Accepted (record old { versions = c.bring_puts.new.versions; table = c.hand_over-place.new.table; tale = c.settle.new.self })
+          (reads_settle i.opening i.steps i.own i.whole old i.stands c.args.reader.id ready c.len.ensures.rising c.abort.new.self c.report_abort.new.table c.hand_over-place.new.table c.abort.ensures c.report_abort.ensures.told
+          c.report_abort.ensures.graph c.bring_puts.new.versions c.bring_puts.ensures c.hand_over-place.ensures.left
+          c.hand_over-place.result.0 c.hand_over-place.ensures.place (history_told c.hand_over-place.result.1.told.items) c.hand_over-place.ensures.told c.settle.new.self c.settle.ensures);
+      waiting =
+          waits_alike c.report_abort.new.table c.hand_over-place.new.table c.bring_puts.new.versions.slots f.waiting (alike_written c.report_abort.new.table c.hand_over-place.new.table c.args.reader.id.0 HasHandedOverRead c.hand_over-place.ensures.left)
+          (aborted_waits f.table c.abort.new.self c.report_abort.new.table c.args.reader.id f.versions c.bring_puts.new.versions f.waiting (words_in c.report_abort.new.table c.args.reader.id.0) (unended_if_none f.table c.args.reader.id.0 ready.called.none) c.abort.ensures c.report_abort.ensures.told c.bring_puts.ensures c.self.invariant.waiting);
+    }
 
 pub returns-clause-settled : goal.returns-clause-settled
 returns-clause-settled c = λ opening steps own w h.

@@ -10,7 +10,7 @@ use Rattle.mvo_core.specs.Data.{CoreData}
 use Rattle.mvo_core.specs.View.{core_data}
 use Rattle.mvo_core.specs.Standing.{StandsFor}
 use Rattle.mvo_core.specs.Steps.{LeadsOn}
-use Rattle.mvo_core.proofs.Begun.{stands_on}
+use Rattle.mvo_core.proofs.WholeStands.{whole_stands_on}
 use Rattle.mvo_core.proofs.Trimmed.{trim_refused, trim_leads}
 use Rattle.mvo_core.specs.WholeStanding.{StandsWhole, LeadsWhole}
 use Rattle.mvo_readonly.specs.WholeCauses.WholeCall.{CoreCall}
@@ -39,9 +39,9 @@ invariant_of-self c =
     let old : CoreData = core_data f in
     record {
       stands =
-          stands_on i (Trim c.args.upto.0) Accepted (record old { start = c.args.upto.0; tale = c.forget.new.self })
-          (trim_leads no_readers i.opening i.steps i.state old i.stands c.args.upto.0 c.oldest_begin-oldest.result.0 c.low_water-low_water.result.0 c.oldest_begin-oldest.ensures c.low_water-low_water.ensures (sym c.is_within.ensures ∙ c.if-not-is_within.false)
-          c.forget.new.self (c.forget.ensures ∙ ap (λ (n : ℕ). forgotten n f.tale) c.lesser.ensures));
+          whole_stands_on i (CoreCall (Trim c.args.upto.0)) Accepted (record old { start = c.args.upto.0; tale = c.forget.new.self })
+          (trim_leads_whole i.opening i.steps i.own i.whole old i.stands c.args.upto.0 c.oldest_begin-oldest.result.0 c.low_water-low_water.result.0 c.oldest_begin-oldest.ensures c.low_water-low_water.ensures (sym c.is_within.ensures ∙ c.if-not-is_within.false)
+          (sym c.is_begin_of_reader.ensures ∙ c.if-is_begin_of_reader.false) c.forget.new.self (c.forget.ensures ∙ ap (λ (n : ℕ). forgotten n f.tale) c.lesser.ensures));
       waiting = c.self.invariant.waiting;
     }
 

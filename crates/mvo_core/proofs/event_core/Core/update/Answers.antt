@@ -15,7 +15,7 @@ use Rattle.mvo_core.specs.Standing.{StandsFor}
 use Rattle.mvo_core.specs.Steps.{LeadsOn}
 use Rattle.mvo_core.proofs.Allowed.{unended_if_active, may_update}
 use Rattle.mvo_core.proofs.Asked.{own_if_active, active_if_put, may_put_failing}
-use Rattle.mvo_core.proofs.Begun.{stands_on}
+use Rattle.mvo_core.proofs.WholeStands.{whole_stands_on}
 use Rattle.mvo_core.proofs.CausesTold.{stands_active}
 use Rattle.mvo_core.proofs.Looked.{shown_in}
 use Rattle.mvo_core.proofs.Refused.{came_spent}
@@ -73,8 +73,11 @@ invariant_of-self c =
     let is = subst (λ k. AreVersionsInOrder (state_of f.table) c.args.tx.0 c.args.tx.0 (versions_at f.versions.slots f.versions.lists k) → c.shown-found.result ≡ shown_in old c.args.tx.0 k) c.row_key-key.ensures c.shown-found.ensures in
     record {
       stands =
-          stands_on i (Do c.args.tx.0 (Update c.args.row)) (Refused OutOfMemory) (record old { table = c.record_answer.new.table })
-          (update_spent no_readers i.opening i.steps i.state old i.stands c.args.tx c.args.row refl (sym c.not_put.ensures ∙ c.in_default.is) c.shown-found.result is (sym c.in_the_way.ensures ∙ c.in_default-in_the_way.is) c.record_answer.new.table c.in_err-record_answer.ensures.err);
+          whole_stands_on i (CoreCall (Do c.args.tx.0 (Update c.args.row))) (Refused OutOfMemory) (record old { table = c.record_answer.new.table })
+          (let other = stage_none (readers_of i.whole) i.opening i.own i.whole.core old i.stands.core c.args.tx.0 (put_not_reading f.table c.args.tx.0 c.args.row (sym c.not_put.ensures ∙ c.in_default.is)) in
+          let is = subst (λ k. AreVersionsInOrder (state_of f.table) c.args.tx.0 c.args.tx.0 (versions_at f.versions.slots f.versions.lists k) → c.shown-found.result ≡ shown_in old c.args.tx.0 k) c.row_key-key.ensures c.shown-found.ensures in
+          (others_lead i.opening i.steps i.own i.whole (Do c.args.tx.0 (Update c.args.row)) _ old _ i.stands other tt
+          (update_spent (readers_of i.whole) i.opening i.own i.whole.core old i.stands.core c.args.tx c.args.row other (sym c.not_put.ensures ∙ c.in_default.is) c.shown-found.result is (sym c.in_the_way.ensures ∙ c.in_default-in_the_way.is) c.record_answer.new.table c.in_err-record_answer.ensures.err)));
       waiting = waits_alike f.table c.record_answer.new.table f.versions.slots f.waiting (alike_written f.table c.record_answer.new.table c.args.tx.0 HasDoneAsMuch c.in_err-record_answer.ensures.err) c.self.invariant.waiting;
     }
 
@@ -94,8 +97,11 @@ invariant_of-self-in_default-version c =
     let is = subst (λ k. AreVersionsInOrder (state_of f.table) c.args.tx.0 c.args.tx.0 (versions_at f.versions.slots f.versions.lists k) → c.shown-found.result ≡ shown_in old c.args.tx.0 k) c.row_key-key.ensures c.shown-found.ensures in
     record {
       stands =
-          stands_on i (Do c.args.tx.0 (Update c.args.row)) Accepted (record old { table = c.record_answer.new.table })
-          (absent_leads no_readers i.opening i.steps i.state old i.stands c.args.tx c.args.row refl (sym c.not_put.ensures ∙ c.in_default.is) c.shown-found.result is (sym c.in_the_way.ensures ∙ c.in_default-in_the_way.is) c.in_default-version.is c.record_answer.new.table c.in_ok-record_answer.ensures.ok);
+          whole_stands_on i (CoreCall (Do c.args.tx.0 (Update c.args.row))) Accepted (record old { table = c.record_answer.new.table })
+          (let other = stage_none (readers_of i.whole) i.opening i.own i.whole.core old i.stands.core c.args.tx.0 (put_not_reading f.table c.args.tx.0 c.args.row (sym c.not_put.ensures ∙ c.in_default.is)) in
+          let is = subst (λ k. AreVersionsInOrder (state_of f.table) c.args.tx.0 c.args.tx.0 (versions_at f.versions.slots f.versions.lists k) → c.shown-found.result ≡ shown_in old c.args.tx.0 k) c.row_key-key.ensures c.shown-found.ensures in
+          others_lead i.opening i.steps i.own i.whole (Do c.args.tx.0 (Update c.args.row)) _ old _ i.stands other tt
+          (absent_leads (readers_of i.whole) i.opening i.own i.whole.core old i.stands.core c.args.tx c.args.row other (sym c.not_put.ensures ∙ c.in_default.is) c.shown-found.result is (sym c.in_the_way.ensures ∙ c.in_default-in_the_way.is) c.in_default-version.is c.record_answer.new.table c.in_ok-record_answer.ensures.ok));
       waiting = waits_alike f.table c.record_answer.new.table f.versions.slots f.waiting (alike_recorded f.table c.record_answer.new.table c.args.tx _ _ _ c.in_ok-record_answer.ensures.ok) c.self.invariant.waiting;
     }
 
@@ -127,7 +133,7 @@ put_instead-requires-clause-live c =
     let i = c.self.invariant.stands in
     let old : CoreData = core_data f in
     let is = subst (λ k. AreVersionsInOrder (state_of f.table) c.args.tx.0 c.args.tx.0 (versions_at f.versions.slots f.versions.lists k) → c.shown-found.result ≡ shown_in old c.args.tx.0 k) c.row_key-key.ensures c.shown-found.ensures in
-    updated_live no_readers i.opening i.steps i.state old i.stands c.args.tx c.args.row refl (sym c.not_put.ensures ∙ c.in_default.is) c.shown-found.result is (sym c.in_the_way.ensures ∙ c.in_default-in_the_way.is) c.in-Some-version.old c.in-Some-version.is
+    updated_live (readers_of i.whole) i.opening i.own i.whole.core old i.stands.core c.args.tx c.args.row (stage_none (readers_of i.whole) i.opening i.own i.whole.core old i.stands.core c.args.tx.0 (put_not_reading f.table c.args.tx.0 c.args.row (sym c.not_put.ensures ∙ c.in_default.is))) (sym c.not_put.ensures ∙ c.in_default.is) c.shown-found.result is (sym c.in_the_way.ensures ∙ c.in_default-in_the_way.is) c.in-Some-version.old c.in-Some-version.is
 
 pub invariant_of-self-in_err-put_instead : goal.invariant_of-self-in_err-put_instead
 invariant_of-self-in_err-put_instead c =
@@ -137,8 +143,11 @@ invariant_of-self-in_err-put_instead c =
     let is = subst (λ k. AreVersionsInOrder (state_of f.table) c.args.tx.0 c.args.tx.0 (versions_at f.versions.slots f.versions.lists k) → c.shown-found.result ≡ shown_in old c.args.tx.0 k) c.row_key-key.ensures c.shown-found.ensures in
     record {
       stands =
-          stands_on i (Do c.args.tx.0 (Update c.args.row)) (Refused OutOfMemory) (record old { versions = c.put_instead.new.versions; table = c.put_instead.new.table })
-          (update_left no_readers i.opening i.steps i.state old i.stands c.args.tx c.args.row refl (sym c.not_put.ensures ∙ c.in_default.is) c.shown-found.result is (sym c.in_the_way.ensures ∙ c.in_default-in_the_way.is) c.put_instead.new.versions c.put_instead.new.table c.in_err-put_instead.ensures.err);
+          whole_stands_on i (CoreCall (Do c.args.tx.0 (Update c.args.row))) (Refused OutOfMemory) (record old { versions = c.put_instead.new.versions; table = c.put_instead.new.table })
+          (let other = stage_none (readers_of i.whole) i.opening i.own i.whole.core old i.stands.core c.args.tx.0 (put_not_reading f.table c.args.tx.0 c.args.row (sym c.not_put.ensures ∙ c.in_default.is)) in
+          let is = subst (λ k. AreVersionsInOrder (state_of f.table) c.args.tx.0 c.args.tx.0 (versions_at f.versions.slots f.versions.lists k) → c.shown-found.result ≡ shown_in old c.args.tx.0 k) c.row_key-key.ensures c.shown-found.ensures in
+          (others_lead i.opening i.steps i.own i.whole (Do c.args.tx.0 (Update c.args.row)) _ old _ i.stands other tt
+          (update_left (readers_of i.whole) i.opening i.own i.whole.core old i.stands.core c.args.tx c.args.row other (sym c.not_put.ensures ∙ c.in_default.is) c.shown-found.result is (sym c.in_the_way.ensures ∙ c.in_default-in_the_way.is) c.put_instead.new.versions c.put_instead.new.table c.in_err-put_instead.ensures.err)));
       waiting = waits_spent f.table c.put_instead.new.table c.args.tx.0 f.versions c.put_instead.new.versions f.waiting c.make_room.new.self c.make_room.ensures.same c.in_err-put_instead.ensures.err.versions c.in_err-put_instead.ensures.err.own c.self.invariant.waiting;
     }
 
@@ -158,9 +167,12 @@ invariant_of-self-2 c =
     let is = subst (λ k. AreVersionsInOrder (state_of f.table) c.args.tx.0 c.args.tx.0 (versions_at f.versions.slots f.versions.lists k) → c.shown-found.result ≡ shown_in old c.args.tx.0 k) c.row_key-key.ensures c.shown-found.ensures in
     record {
       stands =
-          stands_on i (Do c.args.tx.0 (Update c.args.row)) Accepted (record old { versions = c.put_instead.new.versions; table = c.put_instead.new.table })
-          (updated_leads no_readers i.opening i.steps i.state old i.stands c.args.tx c.args.row refl (sym c.not_put.ensures ∙ c.in_default.is) c.shown-found.result is (sym c.in_the_way.ensures ∙ c.in_default-in_the_way.is) c.in-Some-version.old c.in-Some-version.is c.put_instead.new.versions c.put_instead.new.table c.in_ok-put_instead.ensures.ok);
-      waiting = waits_replaced f.versions c.put_instead.new.versions f.table c.put_instead.new.table c.args.tx (option_to_list c.shown-found.result.depends_on) f.waiting c.make_room.new.self c.make_room.ensures.same c.in-Some-version.old c.args.row c.has_open_end-is_open.result c.owe.new.self c.owe_end.new.waiting (stands_active f.table c.args.tx.0 (active_if_put f.table c.args.tx.0 c.args.row (sym c.not_put.ensures ∙ c.in_default.is))) (updated_live no_readers i.opening i.steps i.state old i.stands c.args.tx c.args.row refl (sym c.not_put.ensures ∙ c.in_default.is) c.shown-found.result is (sym c.in_the_way.ensures ∙ c.in_default-in_the_way.is) c.in-Some-version.old c.in-Some-version.is) c.in_ok-put_instead.ensures.ok c.has_open_end-is_open.ensures c.owe.ensures c.owe_end.ensures c.self.invariant.waiting;
+          whole_stands_on i (CoreCall (Do c.args.tx.0 (Update c.args.row))) Accepted (record old { versions = c.put_instead.new.versions; table = c.put_instead.new.table })
+          (let other = stage_none (readers_of i.whole) i.opening i.own i.whole.core old i.stands.core c.args.tx.0 (put_not_reading f.table c.args.tx.0 c.args.row (sym c.not_put.ensures ∙ c.in_default.is)) in
+          let is = subst (λ k. AreVersionsInOrder (state_of f.table) c.args.tx.0 c.args.tx.0 (versions_at f.versions.slots f.versions.lists k) → c.shown-found.result ≡ shown_in old c.args.tx.0 k) c.row_key-key.ensures c.shown-found.ensures in
+          others_lead i.opening i.steps i.own i.whole (Do c.args.tx.0 (Update c.args.row)) _ old _ i.stands other tt
+          (updated_leads (readers_of i.whole) i.opening i.own i.whole.core old i.stands.core c.args.tx c.args.row other (sym c.not_put.ensures ∙ c.in_default.is) c.shown-found.result is (sym c.in_the_way.ensures ∙ c.in_default-in_the_way.is) c.in-Some-version.old c.in-Some-version.is c.put_instead.new.versions c.put_instead.new.table c.in_ok-put_instead.ensures.ok));
+      waiting = waits_replaced f.versions c.put_instead.new.versions f.table c.put_instead.new.table c.args.tx (option_to_list c.shown-found.result.depends_on) f.waiting c.make_room.new.self c.make_room.ensures.same c.in-Some-version.old c.args.row c.has_open_end-is_open.result c.owe.new.self c.owe_end.new.waiting (stands_active f.table c.args.tx.0 (active_if_put f.table c.args.tx.0 c.args.row (sym c.not_put.ensures ∙ c.in_default.is))) (updated_live (readers_of i.whole) i.opening i.own i.whole.core old i.stands.core c.args.tx c.args.row (stage_none (readers_of i.whole) i.opening i.own i.whole.core old i.stands.core c.args.tx.0 (put_not_reading f.table c.args.tx.0 c.args.row (sym c.not_put.ensures ∙ c.in_default.is))) (sym c.not_put.ensures ∙ c.in_default.is) c.shown-found.result is (sym c.in_the_way.ensures ∙ c.in_default-in_the_way.is) c.in-Some-version.old c.in-Some-version.is) c.in_ok-put_instead.ensures.ok c.has_open_end-is_open.ensures c.owe.ensures c.owe_end.ensures c.self.invariant.waiting;
     }
 
 pub returns-clause-step : goal.returns-clause-step

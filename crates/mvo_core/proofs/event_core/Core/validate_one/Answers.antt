@@ -9,13 +9,13 @@ use Rattle.mvo_core.specs.Causes.{why_not_preparing}
 use Rattle.mvo_core.specs.Standing.{StandsFor}
 use Rattle.mvo_core.specs.Aborting.{IsGivenUp}
 use Rattle.mvo_core.specs.Steps.{LeadsOn}
-use Rattle.mvo_core.proofs.Begun.{stands_on}
+use Rattle.mvo_core.proofs.WholeStands.{whole_stands_on}
 use Rattle.mvo_core.proofs.Validating.{validate_refused, fall, valid_leads, valid_answers, differs_leads, own_there, counted_leads, counts_as}
 use Rattle.mvo_core.specs.Keeping.{IsCounted}
 use Rattle.mvo_core.proofs.Waits.{waits_alike, alike_written}
 use Rattle.mvo_readonly.specs.WholeCauses.WholeCall.{CoreCall}
 use Rattle.mvo_core.specs.WholeStanding.{StandsWhole, LeadsWhole}
-use Rattle.mvo_core.proofs.WholeChecks.{validate_refused_whole, valid_leads_whole, valid_answers_whole, differs_leads_whole, counted_leads_whole, counts_as_whole}
+use Rattle.mvo_core.proofs.WholeChecks.{validate_refused_whole, valid_leads_whole, valid_answers_whole, differs_leads_whole, counted_leads_whole, counts_as_whole, own_there_whole}
 use Rattle.mvo_core.proofs.event_core.Core.validate_one.Goals as goal
 
 pub returns-in-Refused-clause-step : goal.returns-in-Refused-clause-step
@@ -57,7 +57,7 @@ count_check-requires c =
     let f = c.self.inside in
     let i = c.self.invariant.stands in
     let old : CoreData = core_data f in
-    own_there no_readers i.opening i.steps i.state old i.stands c.args.tx.0 c.in-Same.ensures.0.none refl
+    own_there_whole i.opening i.steps i.own i.whole old i.stands c.args.tx.0 c.in-Same.ensures.0.none
 
 pub invariant_of-self : goal.invariant_of-self
 invariant_of-self c =
@@ -66,8 +66,8 @@ invariant_of-self c =
     let old : CoreData = core_data f in
     record {
       stands =
-          stands_on i (Validate c.args.tx.0) Accepted (record old { table = c.count_check.new.table })
-          (counted_leads no_readers i.opening i.steps i.state old i.stands c.args.tx.0 c.in-Same.ensures.0.none refl c.in-Same.ensures.0.valid_is c.count_check.new.table c.count_check.ensures.counted (c.in-Same.ensures.1 (fall no_readers i.opening i.steps i.state old i.stands)));
+          whole_stands_on i (CoreCall (Validate c.args.tx.0)) Accepted (record old { table = c.count_check.new.table })
+          (counted_leads_whole i.opening i.steps i.own i.whole old i.stands c.args.tx.0 c.in-Same.ensures.0.none c.in-Same.ensures.0.valid_is c.count_check.new.table c.count_check.ensures.counted c.in-Same.ensures.1);
       waiting = waits_alike f.table c.count_check.new.table f.versions.slots f.waiting (alike_written f.table c.count_check.new.table c.args.tx.0 IsCounted c.count_check.ensures.counted) c.self.invariant.waiting;
     }
 
