@@ -1,12 +1,12 @@
 -- A world that was just opened, one event more of a run, and what each stretch of it leaves.
-use Rattle.std.proofs.Common.{◌≡◌, ◌≤◌, List, [], ◌∷◌, ◌++◌, length, refl, subst, arith, ap, ◌∙◌, ℕ, Ok, sym}
+use Rattle.std.proofs.Common.{◌≡◌, ◌≤◌, List, [], ◌∷◌, ◌++◌, length, Option, refl, subst, arith, ap, ◌∙◌, ℕ, Ok, sym}
 use Rattle.mvo_world.specs.Past.{Past, with_event, with_events, opened_over}
 use Rattle.mvo_world.specs.Steps.{AreSteps, IsRunStep}
 use Rattle.mvo_world.specs.declared.event.Event.{Event}
 use Rattle.mvo_world.specs.declared.reply.Reply.{Reply}
 use Rattle.mvo_disk.specs.declared.disk.Disk.{Ghosts}
 use Rattle.mvo_store.specs.Seen.{disk_of, mark_of}
-use Rattle.mvo_world.specs.WorldData.{WorldData, IsJustOpened}
+use Rattle.mvo_world.specs.WorldData.{WorldData, waiting, Follow, IsSoundWorld, IsJustOpened}
 use Rattle.mvo_world.specs.Standing.{IsAfter, HasHonestDisk, MayLeavePrefix, IsPrefix, RecoversPrefix}
 use Rattle.mvo_world.specs.Promise.{LeavePrefixes, IsOpenedOver}
 use Rattle.mvo_world.proofs.Standing.{prefix_image}
@@ -15,7 +15,12 @@ use Rattle.mvo_types.specs.Keys.{Map}
 use Rattle.mvo_store.specs.Standing.{Gives, HasSlots, KeepsRows}
 use Rattle.mvo_store.specs.Opening.{IsAnswer, HasBegun, LeavesAsBefore}
 use Rattle.mvo_store.proofs.Marked.{same_answer, same_rows}
+use Rattle.std.specs.Option.{option_to_list}
+use Rattle.mvo_group.specs.Data.{GroupData}
+use Rattle.mvo_theory.specs.State.{Marks, opened}
+use Rattle.mvo_theory.proofs.Chain.{chained_opened}
 use Rattle.mvo_core.specs.Counting.{HasOneEach}
+use Rattle.mvo_core.specs.Seen.{closed_mark_of}
 use Rattle.mvo_core.specs.Standing.{HasOpenedOver}
 use Rattle.mvo_world.proofs.Moves.{begun}
 
@@ -58,6 +63,15 @@ module _ {D : Type 0} (d : Ghosts D) where
       ring = none;
       store = record { pending = begins.pending; written = begins.written; jobs = begins.jobs; down = begins.down };
     }
+
+    -- its core stands for what was opened, and no group waits
+    pub sound_here : IsSoundWorld w
+    sound_here =
+        let wait : waiting w ≡ [] = ap (λ (q : Option GroupData). option_to_list q ++ w.ring) begins.pending ∙ none in
+        record {
+          core = record { opening = rows; steps = []; state = opened rows mark; stands = core; closed = (chained_opened rows mark).closed };
+          linked = subst (λ (gs : List GroupData). Follow (mark_of w.store) gs (closed_mark_of w.core)) (sym wait) (begins.mark_is ∙ ap (λ (m : Marks). m.closed) core.marks);
+        }
 
     pub opened_here : mark ≤ MAX_STAMP → LeavesAsBefore d old (disk_of w.store) → (HasHonestDisk d w → Gives rows mark (d.content old)) → (HasHonestDisk d w → HasSlots (d.content old) → KeepsRows d w.store rows) → IsOpenedOver d old rows w
     opened_here stamp as_before gives keeps = record {

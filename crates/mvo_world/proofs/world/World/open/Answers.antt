@@ -1,7 +1,12 @@
 use Rattle.mvo_world.specs.WorldData.{WorldData}
 use Rattle.mvo_store.proofs.Marked.{not_of_files}
-use Rattle.mvo_world.proofs.Runs.{answer_here, gives_here, opened_here, world_begins, world_after, world_prefix}
+use Rattle.mvo_world.proofs.Runs.{sound_here, answer_here, gives_here, opened_here, world_begins, world_after, world_prefix}
 use Rattle.mvo_world.proofs.world.World.open.Goals as goal
+
+pub invariant_of-result : goal.invariant_of-result
+invariant_of-result g c =
+    let w : WorldData _ = record { core = c.in-Ok-open.core; ring = c.in-Ok-new.ring; store = c.in-Ok.opened.0 } in
+    sound_here g.D.Disk c.args.disk w c.in-Ok.opened.1 c.in-Ok.opened.2.0 c.in-Ok.ensures.begins c.in-Ok-open.ensures.ok c.in-Ok-open.ensures.count c.in-Ok-new.ensures
 
 pub returns-clause-answer : goal.returns-clause-answer
 returns-clause-answer g c = λ now.
