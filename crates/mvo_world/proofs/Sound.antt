@@ -1,5 +1,5 @@
 -- A world stays sound over a call of its core.
-use Rattle.std.proofs.Common.{◌≡◌, ℕ, ◌+◌, List, [], ◌∷◌, ◌++◌, Result, Ok, Err, refl, sym, ap, ◌∙◌, subst}
+use Rattle.std.proofs.Common.{◌≡◌, ℕ, ◌+◌, Bool, cond, List, [], ◌∷◌, ◌++◌, Result, Ok, Err, refl, sym, ap, ◌∙◌, subst}
 use Rattle.std.specs.Option.{option_to_list}
 use Rattle.mvo_types.specs.declared.refusal.Refusal.{Refusal}
 use Rattle.mvo_group.specs.Data.{GroupData}
@@ -12,10 +12,13 @@ use Rattle.mvo_theory.proofs.Chain.{chained_after_call}
 use Rattle.mvo_core.specs.declared.answers.Closed as closing
 use Rattle.mvo_core.specs.Data.{CoreData}
 use Rattle.mvo_core.specs.Seen.{clock_of, closed_mark_of, HasNewVersions}
+use Rattle.mvo_core.specs.Readers.{no_readers}
 use Rattle.mvo_core.specs.Standing.{Stands}
 use Rattle.mvo_core.specs.Steps.{came, IsStep, LeadsOn}
 use Rattle.mvo_core.specs.Collecting.{StandsAsBefore}
+use Rattle.mvo_core.specs.WholeEnds.{end_drawn}
 use Rattle.mvo_core.proofs.Begun.{stands_on}
+use Rattle.mvo_core.proofs.CausesTold.{may_write}
 use Rattle.mvo_world.specs.Ring.{IsClosingInto}
 use Rattle.mvo_world.specs.WorldData.{WorldData, waiting, Follow, IsSoundWorld}
 use Rattle.mvo_world.specs.Replies.{IsDrawn}
@@ -34,6 +37,13 @@ same_closed {old} {new} i c r none l =
 -- the timestamp behind the clock is the next one in each state
 pub next_stamp : {D : Type 0} (w : WorldData D) (n : ℕ) → n ≡ clock_of w.core + 1 → IsDrawn w n
 next_stamp w n e = λ opening steps s h. e ∙ ap (λ (m : ℕ). m + 1) h.dependencies.stands.clock
+
+-- so is the end of a precommit: no transaction is read-only there
+pub next_end : {D : Type 0} (w : WorldData D) (t n : ℕ) → n ≡ end_drawn w.core t → IsDrawn w n
+next_end w t n e = λ opening steps s h.
+    e
+    ∙ ap (λ (b : Bool). cond b t (w.core.table.clock + 1)) (may_write no_readers opening steps s w.core h t refl)
+    ∙ ap (λ (m : ℕ). m + 1) h.dependencies.stands.clock
 
 module _ {D : Type 0} (w : WorldData D) (i : IsSoundWorld w) where
   -- over one that closes no group
