@@ -11,7 +11,7 @@ use mvo_engine::{
     CoreGuard, Engine, Fresh, Gathered, OpenGate, Receipt, Run, SeenDurable, Session, gather,
 };
 use mvo_store::format;
-use mvo_types::{Answer, Refusal, Stamp};
+use mvo_types::{Refusal, Stamp};
 use std::alloc::{AllocError, Global};
 use std::marker::Brand;
 use std::sync::Wait;
@@ -198,9 +198,10 @@ fn work<'e, L: Run, D: Disk, R: Wait>(
     let mut last = Stamp(0);
     for number in 0..TRANSFERS {
         let transfer = choice(alloc, worker, number);
-        let (_, end) = session.transact(rt, TIMES, &transfer)?;
-        made = made.saturating_add(1);
-        last = end;
+        if let Some(end) = session.transact(rt, TIMES, &transfer)?.end {
+            made = made.saturating_add(1);
+            last = end;
+        }
     }
     engine.flush(rt)?;
     session.wait_durable(rt, last)?;
@@ -248,10 +249,7 @@ fn total<L: Run, D: Disk, R: Wait>(
     session: &mut Session<'_, L, D, OpenGate>,
 ) -> Result<u64, Refusal> {
     session.begin_tx(rt)?;
-    let total = match session.scan(rt, 0, 0, ACCOUNTS)? {
-        Answer::Rows(rows) => total_of(&rows),
-        _ => 0,
-    };
+    let total = total_of(&session.rows(rt, 0, 0, ACCOUNTS)?);
     session.commit_tx(rt)?;
     Ok(total)
 }

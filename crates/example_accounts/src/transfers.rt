@@ -2,8 +2,8 @@
 ghost use Rattle.std.specs.Prelude.{◌≡◌};
 
 use mvo_disk::Disk;
-use mvo_engine::{Gate, Run, Session, Transaction};
-use mvo_types::{Answer, Refusal, Row, RowKey};
+use mvo_engine::{Gate, Outcome, Run, Session, Transaction};
+use mvo_types::{Refusal, Row, RowKey};
 use std::alloc::{AllocError, Global};
 use std::sync::Wait;
 
@@ -37,7 +37,7 @@ pub fn money_in(row: &Row) -> u64 {
     }
 }
 
-/// A transfer: from one account to another, so much, if it is there.
+/// A transfer: from one account to another, so much. It gives up where that isn't there.
 #[derive(Drop)]
 pub struct Transfer {
     pub alloc: Global,
@@ -46,23 +46,27 @@ pub struct Transfer {
     pub amount: u64,
 }
 
-impl<L: Run, D: Disk, G: Gate + Drop> Transaction<bool, L, D, G> for Transfer {
-    fn run<R: Wait>(&self, rt: &R, session: &mut Session<'_, L, D, G>) -> Result<bool, Refusal> {
+impl<L: Run, D: Disk, G: Gate + Drop> Transaction<(), L, D, G> for Transfer {
+    fn run<R: Wait>(
+        &self,
+        rt: &R,
+        session: &mut Session<'_, L, D, G>,
+    ) -> Result<Outcome<()>, Refusal> {
         let have = money(rt, session, self.from)?;
         let others = money(rt, session, self.to)?;
         if self.from == self.to || have < self.amount {
-            return Ok(false);
+            return Ok(Outcome::GiveUp(()));
         }
         let alloc = self.alloc;
-        session.update(
+        session.replace(
             rt,
             row_of(alloc, self.from, have.saturating_sub(self.amount))?,
         )?;
-        session.update(
+        session.replace(
             rt,
             row_of(alloc, self.to, others.saturating_add(self.amount))?,
         )?;
-        Ok(true)
+        Ok(Outcome::Commit(()))
     }
 }
 
@@ -74,8 +78,8 @@ pub fn money<L: Run, D: Disk, G: Gate + Drop, R: Wait>(
 ) -> Result<u64, Refusal>
     ensures { session.new.receipts ≡ session.old.receipts }
 {
-    match session.read(rt, key_of(account))? {
-        Answer::Found(Some(row)) => Ok(money_in(&row)),
-        _ => Ok(0),
+    match session.get(rt, key_of(account))? {
+        Some(row) => Ok(money_in(&row)),
+        None => Ok(0),
     }
 }

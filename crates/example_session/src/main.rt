@@ -3,106 +3,58 @@
 
 mod over_world;
 
-ghost use Rattle.mvo_engine.specs.Opened.{IsNamedBy};
-
-use anyhow::bail;
-use mvo_disk::{Disk, MemDisk};
-use mvo_engine::{Engine, Fresh, Gate, OpenGate, Run, Session, Transaction};
-use mvo_store::format;
-use mvo_types::{Answer, Refusal, Row, RowKey};
-use std::alloc::Global;
-use std::marker::Brand;
-use std::random::RandomSource;
+use mvo_disk::MemDisk;
+use mvo_engine::{Engine, OpenGate, Outcome, Program, Run, SeenDurable, Session, Transaction};
+use mvo_types::{Refusal, Row, RowKey};
 use std::sync::Wait;
-use std::thread::Threads;
 
-/// The key of an account. The sort of its row is the money in it.
 const FROM: RowKey = RowKey { table: 0, key: 1 };
 
-/// The key of the other.
 const TO: RowKey = RowKey { table: 0, key: 2 };
 
-/// Moves so much, if it is there. Answers what the other account has then.
+/// Moves so much, if it is there. The sort of an account's row is the money in it, at first 100.
 #[derive(Drop)]
-struct Transfer {
-    alloc: Global,
-    amount: u64,
-}
+struct Transfer(std::alloc::Global, u64);
 
-impl<L: Run, D: Disk, G: Gate + Drop> Transaction<u64, L, D, G> for Transfer {
-    fn run<R: Wait>(&self, rt: &R, session: &mut Session<'_, L, D, G>) -> Result<u64, Refusal> {
-        let from = money_in(&session.read(rt, FROM)?);
-        let to = money_in(&session.read(rt, TO)?);
-        if from < self.amount {
-            return Ok(to);
-        }
-        let from = from.saturating_sub(self.amount);
-        let to = to.saturating_add(self.amount);
-        session.update(rt, Row::from_slice(self.alloc, FROM, from, &[])?)?;
-        session.update(rt, Row::from_slice(self.alloc, TO, to, &[])?)?;
-        Ok(to)
+impl<L: Run> Transaction<u64, L, MemDisk, OpenGate> for Transfer {
+    fn run<R: Wait>(
+        &self,
+        rt: &R,
+        session: &mut Session<'_, L, MemDisk, OpenGate>,
+    ) -> Result<Outcome<u64>, Refusal> {
+        let from = session.get(rt, FROM)?.map_or(100, |row| row.sort);
+        let to = session.get(rt, TO)?.map_or(100, |row| row.sort);
+        let (Some(left), Some(sum)) = (from.checked_sub(self.1), to.checked_add(self.1)) else {
+            return Ok(Outcome::GiveUp(to));
+        };
+        session.put(rt, Row::from_slice(self.0, FROM, left, &[])?)?;
+        session.put(rt, Row::from_slice(self.0, TO, sum, &[])?)?;
+        Ok(Outcome::Commit(sum))
     }
 }
 
-fn money_in(found: &Answer) -> u64 {
-    match found {
-        Answer::Found(Some(row)) => row.sort,
-        _ => 0,
-    }
-}
-
-/// Makes the accounts, moves money, waits until that is on the disk, and shuts the engine down.
-fn run<L: Run, D: Disk + Drop, R: Wait>(
-    rt: &R,
-    alloc: Global,
-    fresh: Fresh<D>,
-) -> Result<(u64, D), Refusal>
-    requires { IsNamedBy D.Disk L.opening L.marks L.ring L.name L.parts fresh }
-{
-    let engine = Engine::<L, D, OpenGate>::new(fresh, OpenGate);
-    let mut session = engine.session(rt)?;
-    session.begin_tx(rt)?;
-    session.insert(rt, Row::from_slice(alloc, FROM, 100, &[])?)?;
-    session.insert(rt, Row::from_slice(alloc, TO, 0, &[])?)?;
-    session.commit_tx(rt)?;
-
-    let transfer = Transfer { alloc, amount: 30 };
-    let (money, end) = session.transact(rt, 100, &transfer)?;
-    engine.flush(rt)?;
-    session.wait_durable(rt, end)?;
-
-    // What the session was told to be durable is on the disk that comes back: the commits of the
-    // one history, up to a mark at least what it has seen.
-    let mut seen = Vec::new(alloc);
-    seen.push(session.seen())?;
-    drop(session);
-    Ok((money, engine.into_disk(seen)))
-}
-
-/// Writes a store without rows to the disk, and opens it. The disk comes back.
-fn on_disk<D: Disk + Drop, R: Threads + Wait + Sync>(
-    rt: &R,
-    alloc: Global,
-    seed: u64,
-    disk: D,
-) -> Result<(u64, D), Refusal> {
-    let disk = match format(alloc, disk) {
-        Ok(disk) => disk,
-        Err((refusal, _)) => return Err(refusal),
-    };
-    match Fresh::open(rt, alloc, seed, disk) {
-        Ok(fresh) => run::<Brand, D, R>(rt, alloc, fresh),
-        Err((refusal, _)) => Err(refusal),
+impl Program<u64, MemDisk> for Transfer {
+    fn run<L: Run + Send + Sync, R: std::thread::Threads + Wait + Sync>(
+        &self,
+        rt: &R,
+        engine: &Engine<L, MemDisk, OpenGate>,
+        seen: &mut Vec<SeenDurable<L>>,
+    ) -> Result<u64, Refusal> {
+        let mut session = engine.session(rt)?;
+        let done = session.transact(rt, 100, self)?;
+        session.wait_durable(rt, engine.flush(rt)?)?;
+        seen.push(session.seen())?;
+        Ok(done.told)
     }
 }
 
 fn main(rt: HostRuntime) -> Result<(), anyhow::Error> {
-    let mut seed = [0; 8];
-    rt.fill_bytes(&mut seed)?;
-    let disk = MemDisk::new(rt.alloc())?;
-    match on_disk(&rt, rt.alloc(), u64::from_le_bytes(seed), disk) {
-        Ok((money, _)) => println!(rt; "the other account has {money}")?,
-        Err(refusal) => bail!("refused: {refusal}"),
-    }
-    over_world::run(&rt, rt.alloc())
+    let (alloc, mut seed) = (rt.alloc(), [0; 8]);
+    std::random::RandomSource::fill_bytes(&rt, &mut seed)?;
+    let seed = u64::from_le_bytes(seed);
+    let disk = mvo_store::format(alloc, MemDisk::new(alloc)?).map_err(|refused| refused.0)?;
+    let given = mvo_engine::with_engine(&rt, alloc, seed, disk, &Transfer(alloc, 30));
+    let (money, _disk) = given.map_err(|refused| refused.0)?;
+    println!(rt; "the other account has {money}")?;
+    over_world::run(&rt, alloc)
 }

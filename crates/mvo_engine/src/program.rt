@@ -16,9 +16,10 @@ pub trait Program<T, D: Disk> {
     /// be durable, of those that it says it of. By default anything.
     ghost comes_to: { Self → Result T Refusal → List ℕ → Type 0 } = { λ program result seen. ⊤ };
 
-    /// Works with the engine, which it may share among threads. It is written for every run, and
-    /// the engine is shut down behind it, whatever it answers. What is pushed to `seen`
-    /// (`Session::seen`) is known to be on the disk then, also behind a refusal.
+    /// Works with the engine. It is written for every run, and the engine is shut down behind it,
+    /// whatever it answers. What is pushed to `seen` (`Session::seen`) is known to be on the disk
+    /// then, also behind a refusal. A program that starts threads makes its engine by hand
+    /// (`Engine::new`): what a method sends to a thread isn't proved.
     fn run<L: Run + Send + Sync, R: Threads + Wait + Sync>(
         &self,
         rt: &R,
