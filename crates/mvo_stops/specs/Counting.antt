@@ -1,5 +1,5 @@
 -- How much was looked at.
-use Rattle.std.specs.Prelude.{◌≡◌, ◌≤◌, ◌+◌, ℕ, Option, Some, None, map}
+use Rattle.std.specs.Prelude.{◌≡◌, ◌≤◌, ◌+◌, ◌-◌, ◌^◌, ℕ, Option, Some, None, min}
 use Rattle.mvo_stops.specs.declared.check.Found.{Found}
 use Rattle.mvo_stops.specs.declared.failed.Failed.{Failed}
 use Rattle.mvo_stops.specs.declared.report.Report.{Report}
@@ -28,3 +28,7 @@ IsWith old found (Some f) new = new ≡ old
 
 abbrev pub IsReportWith : Report → Found → Report → Type 0
 IsReportWith old found new = IsWith old found old.failed new
+
+-- one more, up to the greatest number that a count has room for
+abbrev pub counted_on : ℕ → ℕ
+counted_on n = min (n + 1) (2 ^ 64 - 1)

@@ -102,7 +102,7 @@ fn check_run(
         recorded.rest_of(&left, place),
     )?;
     let acknowledged = judge.acknowledged();
-    open_again(rt, judge, recorded, left, acknowledged)?;
+    judge.look(rt, recorded, left, acknowledged)?;
     Ok(())
 }
 
@@ -203,45 +203,16 @@ fn check_image(
     disk: MemDisk,
 ) -> Result<(), LookEnd> {
     let acknowledged = judge.acknowledged();
-    let (opened, disk) = judge.open(rt, recorded, disk);
-    judge.judge(recorded, opened, acknowledged)?;
+    let (_, disk) = judge.look(rt, recorded, disk, acknowledged)?;
     let mut disk = disk;
     for place in 0..disk.calls().len() {
-        disk = cut_short(rt, judge, recorded, disk, place)?;
-        disk = open_again(rt, judge, recorded, disk, acknowledged)?;
-        disk = cut_short(rt, judge, recorded, disk, place)?;
+        disk = judge.look_cut(rt, recorded, disk, place)?;
+        disk = judge.look(rt, recorded, disk, acknowledged)?.1;
+        disk = judge.look_cut(rt, recorded, disk, place)?;
         disk.stop(&[]).map_err(StopsError::from)?;
-        disk = open_again(rt, judge, recorded, disk, acknowledged)?;
+        disk = judge.look(rt, recorded, disk, acknowledged)?.1;
     }
     Ok(())
-}
-
-/// An opening whose call at this place, from 0, fails.
-fn cut_short(
-    rt: &(impl Threads + Sync),
-    judge: &mut Judge,
-    recorded: &Recorded,
-    disk: MemDisk,
-    place: usize,
-) -> Result<MemDisk, LookEnd> {
-    let mut disk = disk;
-    disk.fail_at(place as u64);
-    let (opened, disk) = judge.open(rt, recorded, disk);
-    judge.judge_cut(opened)?;
-    Ok(disk)
-}
-
-/// An opening that is compared with what was promised.
-fn open_again(
-    rt: &(impl Threads + Sync),
-    judge: &mut Judge,
-    recorded: &Recorded,
-    disk: MemDisk,
-    acknowledged: Stamp,
-) -> Result<MemDisk, LookEnd> {
-    let (opened, disk) = judge.open(rt, recorded, disk);
-    judge.judge(recorded, opened, acknowledged)?;
-    Ok(disk)
 }
 
 /// Opens a disk as a fault left it, and again after a fault and a stop at each call of that
@@ -255,8 +226,7 @@ fn check_standing(
     let acknowledged = judge.acknowledged();
     let disk = moment.disk()?;
     let before = disk.calls().len();
-    let (opened, disk) = judge.open(rt, recorded, disk);
-    let mark = judge.judge(recorded, opened, acknowledged)?;
+    let (mark, disk) = judge.look(rt, recorded, disk, acknowledged)?;
     let calls = disk.calls().len().saturating_sub(before);
     let disk = left_by_opening(moment, disk)?;
     check_answered(rt, judge, moment, &disk, acknowledged.max(mark))?;
@@ -276,10 +246,10 @@ fn check_answered(
 ) -> Result<(), LookEnd> {
     let recorded = moment.recorded;
     for image in images_on(moment, disk)? {
-        let (_, disk) = judge.open(rt, recorded, moment.disk()?);
+        let (_, disk) = judge.look_again(rt, recorded, moment.disk()?, acknowledged)?;
         let mut disk = left_by_opening(moment, disk)?;
         stop(&mut disk, &image)?;
-        open_again(rt, judge, recorded, disk, acknowledged)?;
+        judge.look(rt, recorded, disk, acknowledged)?;
     }
     Ok(())
 }
@@ -293,15 +263,15 @@ fn check_cut(
     acknowledged: Stamp,
 ) -> Result<(), LookEnd> {
     let recorded = moment.recorded;
-    let disk = cut_short(rt, judge, recorded, moment.disk()?, place)?;
+    let disk = judge.look_cut(rt, recorded, moment.disk()?, place)?;
     let disk = left_by_opening(moment, disk)?;
     let images = images_on(moment, &disk)?;
-    open_again(rt, judge, recorded, disk, acknowledged)?;
+    judge.look(rt, recorded, disk, acknowledged)?;
     for image in images {
-        let disk = cut_short(rt, judge, recorded, moment.disk()?, place)?;
+        let disk = judge.look_cut(rt, recorded, moment.disk()?, place)?;
         let mut disk = left_by_opening(moment, disk)?;
         stop(&mut disk, &image)?;
-        open_again(rt, judge, recorded, disk, acknowledged)?;
+        judge.look(rt, recorded, disk, acknowledged)?;
     }
     Ok(())
 }

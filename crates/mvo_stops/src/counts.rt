@@ -1,4 +1,5 @@
 ghost use Rattle.std.specs.Prelude.{◌≡◌};
+ghost use Rattle.mvo_stops.specs.Counting.{counted_on};
 
 /// How much was looked at.
 #[derive(Clone, Copy, Debug, PartialEq, Eq)]
@@ -20,6 +21,28 @@ impl Counts {
             calls: 0,
             images: 0,
             openings: 0,
+        }
+    }
+
+    /// An opening more, of an image or cut short.
+    pub fn with_opening(self) -> Counts
+        ensures { result ≡ record self { openings = counted_on self.openings } }
+    {
+        Counts {
+            calls: self.calls,
+            images: self.images,
+            openings: self.openings.saturating_add(1),
+        }
+    }
+
+    /// An image more.
+    pub fn with_image(self) -> Counts
+        ensures { result ≡ record self { images = counted_on self.images } }
+    {
+        Counts {
+            calls: self.calls,
+            images: self.images.saturating_add(1),
+            openings: self.openings,
         }
     }
 

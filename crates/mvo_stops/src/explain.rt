@@ -7,7 +7,7 @@ use crate::judge::Judge;
 use crate::look_end::LookEnd;
 use crate::loose::loose_after;
 use crate::moment::Moment;
-use crate::opening::Opened;
+use crate::opening::{Opened, open};
 use crate::recorded::Recorded;
 use crate::step::step_of;
 use mvo_disk::{Call, DeviceWork, MemDisk};
@@ -227,7 +227,7 @@ fn write_one(
     text: &mut String,
 ) -> Result<(), StopsError> {
     let acknowledged = judge.acknowledged();
-    let (opened, _) = judge.open(rt, recorded, disk);
+    let (opened, _) = open(rt, recorded.alloc, recorded.seed, disk);
     write!(text, ": ")?;
     write_opened(text, &opened)?;
     match judge.judge(recorded, opened, acknowledged) {

@@ -38,9 +38,11 @@ impl Drop for Judge {
 }
 
 impl Judge {
-    ghost use Rattle.std.specs.Prelude.{◌≡◌, Ok, Err, IfOk, OnOk};
+    ghost use Rattle.std.specs.Prelude.{◌≡◌, ◌+◌, ℕ, Ok, Err, IfOk, OnOk};
     ghost use Rattle.mvo_types.specs.Keys.{Map};
-    ghost use Rattle.mvo_stops.specs.Judging.{Promises, LooksAtOne, OnlyOpens, NotesWrong};
+    ghost use Rattle.mvo_disk.specs.Record.{file_content};
+    ghost use Rattle.mvo_stops.specs.Judging.{Promises, OpensAsPromised};
+    ghost use Rattle.mvo_stops.specs.Judging.{JudgesImage, JudgesAgain, NotesWrong};
     ghost use Rattle.mvo_stops.specs.declared.wrong.Wrong.{Wrong};
 
     /// What the replies of a run promised.
@@ -73,21 +75,76 @@ impl Judge {
         self.history.acknowledged()
     }
 
-    /// Opens the store on a disk, which comes back.
-    pub fn open(
+    /// Opens the store on what a stop or a fault left, and compares what that answers with what was
+    /// promised, where this timestamp was acknowledged. The mark, and the disk behind the opening.
+    pub fn look(
         &mut self,
         rt: &(impl Threads + Sync),
         recorded: &Recorded,
         disk: MemDisk,
-    ) -> (Opened, MemDisk)
-        ensures { OnlyOpens self.old self.new }
+        acknowledged: Stamp,
+    ) -> Result<(Stamp, MemDisk), LookEnd>
+        ensures kept { IfOk result (λ x.
+            OpensAsPromised self.old recorded.now acknowledged.0 (file_content disk) x.0.0) }
+        ensures files { IfOk result (λ x. (n : ℕ) → file_content x.1 n ≡ file_content disk n) }
+        ensures judges { JudgesImage self.old self.new }
+        ensures noted { NotesWrong result self.old self.new }
     {
-        self.counts.openings = self.counts.openings.saturating_add(1);
-        open(rt, recorded.alloc, recorded.seed, disk)
+        let (opened, disk) = open(rt, recorded.alloc, recorded.seed, disk);
+        match self.judge(recorded, opened, acknowledged) {
+            Ok(mark) => Ok((mark, disk)),
+            Err(end) => Err(end),
+        }
     }
 
-    /// Compares what an opening answered with what was promised, where this timestamp was
-    /// acknowledged. The mark.
+    /// The same of a disk that was made anew as it stood when it was looked at: it is no other
+    /// image.
+    pub fn look_again(
+        &mut self,
+        rt: &(impl Threads + Sync),
+        recorded: &Recorded,
+        disk: MemDisk,
+        acknowledged: Stamp,
+    ) -> Result<(Stamp, MemDisk), LookEnd>
+        ensures kept { IfOk result (λ x.
+            OpensAsPromised self.old recorded.now acknowledged.0 (file_content disk) x.0.0) }
+        ensures files { IfOk result (λ x. (n : ℕ) → file_content x.1 n ≡ file_content disk n) }
+        ensures judges { JudgesAgain self.old self.new }
+        ensures noted { NotesWrong result self.old self.new }
+    {
+        let (opened, disk) = open(rt, recorded.alloc, recorded.seed, disk);
+        match self.judge_again(recorded, opened, acknowledged) {
+            Ok(mark) => Ok((mark, disk)),
+            Err(end) => Err(end),
+        }
+    }
+
+    /// Opens the store on a disk whose call at this place, from 0, fails. The disk behind that: it
+    /// has met a fault more.
+    pub fn look_cut(
+        &mut self,
+        rt: &(impl Threads + Sync),
+        recorded: &Recorded,
+        disk: MemDisk,
+        place: usize,
+    ) -> Result<MemDisk, LookEnd>
+        ensures fault { IfOk result (λ after. after.fault_count ≡ disk.fault_count + 1) }
+        ensures files { IfOk result (λ after.
+            (n : ℕ) → file_content after n ≡ file_content disk n) }
+        ensures judges { JudgesAgain self.old self.new }
+        ensures noted { NotesWrong result self.old self.new }
+    {
+        let mut disk = disk;
+        disk.fail_at(place as u64);
+        let (opened, disk) = open(rt, recorded.alloc, recorded.seed, disk);
+        match self.judge_cut(opened) {
+            Ok(()) => Ok(disk),
+            Err(end) => Err(end),
+        }
+    }
+
+    /// Compares what an opening of an image answered with what was promised, where this timestamp
+    /// was acknowledged. The mark.
     pub fn judge(
         &mut self,
         recorded: &Recorded,
@@ -98,10 +155,28 @@ impl Judge {
             Promises self.old recorded.now acknowledged.0 rows m.0) }
         ensures wrong { (w : Wrong) → result ≡ Err (LookEnd.Wrong w) → IfOk opened (λ o.
             ¬ Promises self.old recorded.now acknowledged.0 o.0 o.1.0) }
-        ensures looked { LooksAtOne self.old self.new }
+        ensures judges { JudgesImage self.old self.new }
         ensures noted { NotesWrong result self.old self.new }
     {
-        self.counts.images = self.counts.images.saturating_add(1);
+        self.counts = self.counts.with_image();
+        self.judge_again(recorded, opened, acknowledged)
+    }
+
+    /// The same of an image that was counted before.
+    fn judge_again(
+        &mut self,
+        recorded: &Recorded,
+        opened: Opened,
+        acknowledged: Stamp,
+    ) -> Result<Stamp, LookEnd>
+        ensures promised { IfOk result (λ m. (rows : Map) × (opened ≡ Ok (rows, m)) ×
+            Promises self.old recorded.now acknowledged.0 rows m.0) }
+        ensures wrong { (w : Wrong) → result ≡ Err (LookEnd.Wrong w) → IfOk opened (λ o.
+            ¬ Promises self.old recorded.now acknowledged.0 o.0 o.1.0) }
+        ensures judges { JudgesAgain self.old self.new }
+        ensures noted { NotesWrong result self.old self.new }
+    {
+        self.counts = self.counts.with_opening();
         let judged = self.judge_opened(recorded, opened, acknowledged);
         self.note(&judged);
         judged
@@ -109,12 +184,13 @@ impl Judge {
 
     /// Compares what an opening answered of which a call was made to fail: that is a fault of the
     /// disk.
-    pub fn judge_cut(&mut self, opened: Opened) -> Result<(), LookEnd>
+    fn judge_cut(&mut self, opened: Opened) -> Result<(), LookEnd>
         ensures fault { OnOk result (opened ≡ Err Refusal.DiskFault) }
         ensures answered { IfOk opened (λ _. result ≡ Err (LookEnd.Wrong Wrong.FaultMissed)) }
-        ensures rest { (self.new.history ≡ self.old.history) × (self.new.counts ≡ self.old.counts) }
+        ensures judges { JudgesAgain self.old self.new }
         ensures noted { NotesWrong result self.old self.new }
     {
+        self.counts = self.counts.with_opening();
         let judged = is_cut(opened);
         self.note(&judged);
         judged
