@@ -18,6 +18,7 @@ const MOST: usize = 5_000;
 #[derive(Clone, Copy)]
 pub enum Call {
     Begin,
+    BeginReadOnly,
     Read(u64, u64),
     Scan(u64, u64, u64),
     Insert(u64, u64, u64, u8),
@@ -167,6 +168,7 @@ impl Session {
             Call::Commit(tx) => self.commit(TxId(tx)),
             Call::Trim(upto) => self.trim(Stamp(upto)),
             Call::Collect => self.collect(),
+            Call::BeginReadOnly => self.begin_read_only(),
             _ => self.begin(),
         }
     }
@@ -177,6 +179,13 @@ impl Session {
 
     pub fn begin(&mut self) -> Reply {
         match self.core.begin_tx() {
+            Ok(id) => Reply::Began(id),
+            Err(refusal) => Reply::Refused(refusal),
+        }
+    }
+
+    fn begin_read_only(&mut self) -> Reply {
+        match self.core.begin_read_only() {
             Ok(id) => Reply::Began(id),
             Err(refusal) => Reply::Refused(refusal),
         }

@@ -1,8 +1,8 @@
 //! Sessions with the replies that are due.
 
 use crate::session::Call::{
-    Begin, Collect, Commit, Delete, Finish, Insert, Precommit, Read, Rollback, Scan, Settle, Trim,
-    Update, Validate,
+    Begin, BeginReadOnly, Collect, Commit, Delete, Finish, Insert, Precommit, Read, Rollback, Scan,
+    Settle, Trim, Update, Validate,
 };
 use crate::session::{Call, Session};
 use std::alloc::Global;
@@ -87,6 +87,43 @@ const OWN_ROWS_ARE_SCANNED: [(Call, &str); 7] = [
     (Commit(3), "committed 4"),
 ];
 
+/// A read-only transaction reads what was there at its begin, and commits there whatever others
+/// wrote since.
+const READS_WHAT_WAS_THERE: [(Call, &str); 9] = [
+    (BeginReadOnly, "began 3"),
+    (Read(3, 1), "row 10 61"),
+    (Begin, "began 4"),
+    (Update(4, 1, 10, 0x63), "updated"),
+    (Commit(4), "committed 5"),
+    (Read(3, 1), "row 10 61"),
+    (Insert(3, 6, 1, 0x63), "refused 60"),
+    (Commit(3), "committed 3"),
+    (Begin, "began 6"),
+];
+
+const READS_ONLY_AND_SPECULATIVELY: [(Call, &str); 8] = [
+    (Begin, "began 1"),
+    (Insert(1, 5, 50, 0x61), "inserted"),
+    (Precommit(1), "preparing 2"),
+    (BeginReadOnly, "began 3"),
+    (Read(3, 5), "row 50 61"),
+    (Precommit(3), "preparing 3"),
+    (Validate(3), "valid"),
+    (Settle(3), "waiting 1"),
+];
+
+/// The start of the tale doesn't come up to its begin before it is finished.
+const IT_COMMITS_AT_ITS_BEGIN: [(Call, &str); 8] = [
+    (Validate(1), "valid"),
+    (Settle(1), "committed 2"),
+    (Finish(1), "done"),
+    (Trim(3), "refused 56"),
+    (Settle(3), "committed 3"),
+    (Trim(3), "refused 56"),
+    (Finish(3), "done"),
+    (Trim(3), "trimmed 3"),
+];
+
 /// The replies are those of the parts, one behind the other.
 fn follow_parts(
     rt: &impl Abort,
@@ -145,6 +182,29 @@ fn a_speculative_read_of_what_is_rolled_back(rt: HostRuntime) -> Result<(), Fail
         &rt,
         rt.alloc(),
         &[&READS_SPECULATIVELY, &WHAT_IT_READ_IS_ROLLED_BACK],
+    )
+}
+
+#[test]
+fn a_read_only_one_reads_what_was_there(rt: HostRuntime) -> Result<(), Fail> {
+    follow(&rt, rt.alloc(), &[&SETUP, &READS_WHAT_WAS_THERE])
+}
+
+#[test]
+fn a_read_only_one_waits(rt: HostRuntime) -> Result<(), Fail> {
+    follow(
+        &rt,
+        rt.alloc(),
+        &[&READS_ONLY_AND_SPECULATIVELY, &IT_COMMITS_AT_ITS_BEGIN],
+    )
+}
+
+#[test]
+fn a_read_only_one_falls_with_what_it_read(rt: HostRuntime) -> Result<(), Fail> {
+    follow(
+        &rt,
+        rt.alloc(),
+        &[&READS_ONLY_AND_SPECULATIVELY, &WHAT_IT_READ_IS_ROLLED_BACK],
     )
 }
 
