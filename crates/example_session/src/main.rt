@@ -22,6 +22,20 @@ const FROM: RowKey = RowKey { table: 0, key: 1 };
 /// The key of the other.
 const TO: RowKey = RowKey { table: 0, key: 2 };
 
+/// Opens both accounts, the first one with 100.
+#[derive(Drop)]
+struct OpenAccounts {
+    alloc: Global,
+}
+
+impl<L: Run, D: Disk, G: Gate + Drop> Transaction<(), L, D, G> for OpenAccounts {
+    fn run<R: Wait>(&self, rt: &R, session: &mut Session<'_, L, D, G>) -> Result<(), Refusal> {
+        session.insert(rt, Row::from_slice(self.alloc, FROM, 100, &[])?)?;
+        session.insert(rt, Row::from_slice(self.alloc, TO, 0, &[])?)?;
+        Ok(())
+    }
+}
+
 /// Moves so much, if it is there. Answers what the other account has then.
 #[derive(Drop)]
 struct Transfer {
@@ -51,7 +65,7 @@ fn money_in(found: &Answer) -> u64 {
     }
 }
 
-/// Makes the accounts, moves money, waits until that is on the disk, and shuts the engine down.
+/// Opens the accounts, moves money, makes that durable, and shuts the engine down.
 fn run<L: Run, D: Disk + Drop, R: Wait>(
     rt: &R,
     alloc: Global,
@@ -61,15 +75,11 @@ fn run<L: Run, D: Disk + Drop, R: Wait>(
 {
     let engine = Engine::<L, D, OpenGate>::new(fresh, OpenGate);
     let mut session = engine.session(rt)?;
-    session.begin_tx(rt)?;
-    session.insert(rt, Row::from_slice(alloc, FROM, 100, &[])?)?;
-    session.insert(rt, Row::from_slice(alloc, TO, 0, &[])?)?;
-    session.commit_tx(rt)?;
+    session.transact(rt, 100, &OpenAccounts { alloc })?;
 
     let transfer = Transfer { alloc, amount: 30 };
     let (money, end) = session.transact(rt, 100, &transfer)?;
-    engine.flush(rt)?;
-    session.wait_durable(rt, end)?;
+    session.make_durable(rt, end)?;
 
     // What the session was told to be durable is on the disk that comes back: the commits of the
     // one history, up to a mark at least what it has seen.
