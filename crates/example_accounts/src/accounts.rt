@@ -134,7 +134,7 @@ fn seen_by<L: Run, D: Disk>(
 }
 
 /// The transfers of all threads: their sessions, how many each made, and where its last one ended.
-/// Meanwhile another thread flushes, makes checkpoints and merges, trims and collects.
+/// Meanwhile another thread makes checkpoints and merges, trims and collects.
 fn transfers<'e, L: Run + Send + Sync, D: Disk + Send, R: Threads + Wait + Sync>(
     rt: &R,
     alloc: Global,
@@ -185,8 +185,8 @@ fn open_accounts<L: Run, D: Disk, R: Wait>(
     session.commit_tx(rt)
 }
 
-/// The transfers of one thread: its session, how many they are, and where the last one ended. It
-/// waits until that is durable.
+/// The transfers of one thread, each durable before the next: its session, how many they are, and
+/// where the last one ended.
 fn work<'e, L: Run, D: Disk, R: Wait>(
     rt: &R,
     alloc: Global,
@@ -199,12 +199,11 @@ fn work<'e, L: Run, D: Disk, R: Wait>(
     for number in 0..TRANSFERS {
         let transfer = choice(alloc, worker, number);
         if let Some(end) = session.transact(rt, TIMES, &transfer)?.end {
+            session.make_durable(rt, end)?;
             made = made.saturating_add(1);
             last = end;
         }
     }
-    engine.flush(rt)?;
-    session.wait_durable(rt, last)?;
     Ok((session, made, last))
 }
 
@@ -243,14 +242,15 @@ fn ask_all<'e, L: Run, D: Disk>(
     Ok((transfers, durable))
 }
 
-/// What all accounts have, as one scan finds it.
+/// What all accounts have, as one scan finds it. All is durable then.
 fn total<L: Run, D: Disk, R: Wait>(
     rt: &R,
     session: &mut Session<'_, L, D, OpenGate>,
 ) -> Result<u64, Refusal> {
     session.begin_tx(rt)?;
     let total = total_of(&session.rows(rt, 0, 0, ACCOUNTS)?);
-    session.commit_tx(rt)?;
+    let end = session.commit_tx(rt)?;
+    session.make_durable(rt, end)?;
     Ok(total)
 }
 

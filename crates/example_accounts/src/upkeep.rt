@@ -23,15 +23,15 @@ pub fn keep_up<L: Run, D: Disk, G: Gate + Drop, R: Wait>(
     Ok(())
 }
 
-/// Makes durable what was committed, shortens the log, trims up to the stamp, which is the mark of
-/// an earlier turn, and collects. Answers the stamp for the next turn: the same one again while a
-/// transaction is open that began before it.
+/// Shortens the log, trims up to the stamp, up to which all was durable at an earlier turn, and
+/// collects. Answers the stamp for the next turn: the same one again while a transaction is open
+/// that began before it.
 fn turn<L: Run, D: Disk, G: Gate + Drop, R: Wait>(
     rt: &R,
     engine: &Engine<L, D, G>,
     upto: Stamp,
 ) -> Result<Stamp, Refusal> {
-    let mark = engine.flush(rt)?;
+    let mark = engine.lock_store(rt).mark();
     shorten_log(rt, engine)?;
     let is_trimmed = trim(rt, engine, upto);
     engine.collect(rt);

@@ -6,10 +6,8 @@ mod over_world;
 use mvo_disk::MemDisk;
 use mvo_engine::{Engine, OpenGate, Outcome, Program, Run, SeenDurable, Session, Transaction};
 use mvo_types::{Refusal, Row, RowKey};
-use std::sync::Wait;
 
 const FROM: RowKey = RowKey { table: 0, key: 1 };
-
 const TO: RowKey = RowKey { table: 0, key: 2 };
 
 /// Moves so much, if it is there. The sort of an account's row is the money in it, at first 100.
@@ -17,7 +15,7 @@ const TO: RowKey = RowKey { table: 0, key: 2 };
 struct Transfer(std::alloc::Global, u64);
 
 impl<L: Run> Transaction<u64, L, MemDisk, OpenGate> for Transfer {
-    fn run<R: Wait>(
+    fn run<R: std::sync::Wait>(
         &self,
         rt: &R,
         session: &mut Session<'_, L, MemDisk, OpenGate>,
@@ -34,7 +32,7 @@ impl<L: Run> Transaction<u64, L, MemDisk, OpenGate> for Transfer {
 }
 
 impl Program<u64, MemDisk> for Transfer {
-    fn run<L: Run + Send + Sync, R: std::thread::Threads + Wait + Sync>(
+    fn run<L: Run + Send + Sync, R: std::thread::Threads + std::sync::Wait + Sync>(
         &self,
         rt: &R,
         engine: &Engine<L, MemDisk, OpenGate>,
@@ -42,7 +40,9 @@ impl Program<u64, MemDisk> for Transfer {
     ) -> Result<u64, Refusal> {
         let mut session = engine.session(rt)?;
         let done = session.transact(rt, 100, self)?;
-        session.wait_durable(rt, engine.flush(rt)?)?;
+        if let Some(end) = done.end {
+            session.make_durable(rt, end)?;
+        }
         seen.push(session.seen())?;
         Ok(done.told)
     }
