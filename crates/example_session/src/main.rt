@@ -5,9 +5,10 @@ mod over_world;
 
 use mvo_disk::MemDisk;
 use mvo_engine::{Engine, OpenGate, Outcome, Program, Run, SeenDurable, Session, Transaction};
-use mvo_types::{Refusal, Row, RowKey};
+use mvo_types::{Refusal, Row, RowKey, Stamp};
 
 const FROM: RowKey = RowKey { table: 0, key: 1 };
+
 const TO: RowKey = RowKey { table: 0, key: 2 };
 
 /// Moves so much, if it is there. The sort of an account's row is the money in it, at first 100.
@@ -40,9 +41,7 @@ impl Program<u64, MemDisk> for Transfer {
     ) -> Result<u64, Refusal> {
         let mut session = engine.session(rt)?;
         let done = session.transact(rt, 100, self)?;
-        if let Some(end) = done.end {
-            session.make_durable(rt, end)?;
-        }
+        session.make_durable(rt, done.end.unwrap_or(Stamp(0)))?;
         seen.push(session.seen())?;
         Ok(done.told)
     }
