@@ -1,11 +1,7 @@
 //! What is found of a script.
 use crate::equal::{holds, same};
-use mvo_disk::MemDisk;
-use mvo_script::Driver;
 use mvo_stops::{Failed, Quiet, Recorded, Report, ScriptStart, Wrong, check_stops, lines_of};
-use mvo_store::Store;
 use mvo_types::{Refusal, Stamp};
-use mvo_world::World;
 use std::alloc::Global;
 use std::process::Abort;
 use std::test::Fail;
@@ -70,60 +66,6 @@ fn a_flush_is_ok(rt: HostRuntime) -> Result<(), Fail> {
     let report = is_ok(&rt, &recorded(&rt, rt.alloc(), FLUSHED)?, 4)?;
     same(&rt, &report.counts.images, &(45 + 85 * 9));
     same(&rt, &report.counts.openings, &(45 + 85 * 9 + 85 * 9 + 11));
-    Ok(())
-}
-
-/// File 2 is left, which no manifest names.
-const LEAVES_A_FILE: &[u8] =
-    b"begin t1\ninsert t1 0 5 50 61\ncommit t1\nflush\nrotate\ncheckpoint\n";
-
-/// The disk behind a script over a new store.
-fn disk_behind(rt: &(impl Threads + Sync), alloc: Global, script: &[u8]) -> Result<MemDisk, Fail> {
-    let disk = ScriptStart::formatted(alloc)?.disk()?;
-    let world = World::open(rt, alloc, 7, disk).map_err(|refused| refused.0)?;
-    let mut driver = Driver::over(alloc, world);
-    for line in lines_of(alloc, script)? {
-        driver.answer(&line);
-    }
-    Ok(driver.into_world().into_disk())
-}
-
-/// How many calls an opening makes.
-fn opening_calls(
-    rt: &(impl Threads + Sync),
-    alloc: Global,
-    start: &ScriptStart,
-) -> Result<u64, Fail> {
-    let (store, _, _) = Store::open(rt, alloc, 7, start.disk()?).map_err(|refused| refused.0)?;
-    Ok(store.into_disk().calls().len() as u64)
-}
-
-// A reclaim asks a file's length, cuts it and syncs it. Whatever is made of that, nothing is wrong.
-// Where a store goes on behind a fault, what a stop leaves there is opened and compared as behind
-// any other call, and so is the disk as it stands, here with the calls of an opening over a pair.
-// That makes of
-//
-// - the length 1 image, then 1 disk with 1 image; and behind it 1 image, and 1 disk with 1;
-// - the cut 1 and 5 images, then 1 disk with 1 image and 1 with 5; and behind each of these two 1
-//   image, and 1 disk with 1;
-// - its sync 5 images and 1 disk with 5, and 1 image at the script's end;
-// - each of the three 1 disk more, where it failed and the rest of the script ran.
-//
-// So there are 16 images of stops, 7 disks as they stand with 15 images, and 3 disks.
-#[test]
-fn what_goes_on_after_a_fault_is_looked_at(rt: HostRuntime) -> Result<(), Fail> {
-    let alloc = rt.alloc();
-    let start = ScriptStart::of(alloc, &disk_behind(&rt, alloc, LEAVES_A_FILE)?)?;
-    let calls = opening_calls(&rt, alloc, &start)?;
-    let mut recorded = Recorded::of(&rt, alloc, 7, start, lines_of(alloc, b"reclaim\n")?)?;
-    recorded.forget_faults();
-    let report = is_ok(&rt, &recorded, 3)?;
-    let images = calls
-        .saturating_mul(16 * 2 + 7 + 15)
-        .saturating_add(16 + 7 + 15 + 3);
-    same(&rt, &report.counts.images, &images);
-    let more = calls.saturating_mul(16 * 2 + 7 + 15).saturating_add(15);
-    same(&rt, &report.counts.openings, &images.saturating_add(more));
     Ok(())
 }
 
