@@ -49,8 +49,8 @@ may_trim s = nat_lt 0 s.tale_length
 
 -- ---- the list
 
-abbrev pub when : Bool → Chore → Option Chore
-when test chore = if test then Some chore else None
+abbrev pub chore_when : Bool → Chore → Option Chore
+chore_when test chore = if test then Some chore else None
 
 abbrev pub step_chore : Option StoreCall → Option Chore
 step_chore None = None
@@ -61,38 +61,38 @@ merge_chore None = None
 merge_chore (Some place) = Some (Merge place)
 
 -- of the neighbours that the choice allows
-abbrev pub merge_by : Policy → Choice → Standing → Option Chore
-merge_by p choice s = merge_chore (chosen_place p choice s.pairs.items)
+abbrev pub merge_chosen_by : Policy → Choice → Standing → Option Chore
+merge_chosen_by p choice s = merge_chore (chosen_place p choice s.pairs.items)
 
-abbrev pub or_next : Option Chore → Option Chore → Option Chore
-or_next None next = next
-or_next (Some chore) next = Some chore
+abbrev pub or_next_chore : Option Chore → Option Chore → Option Chore
+or_next_chore None next = next
+or_next_chore (Some chore) next = Some chore
 
-abbrev pub first_due : List (Option Chore) → Option Chore
-first_due [] = None
-first_due (c ∷ cs) = or_next c (first_due cs)
+abbrev pub first_chore : List (Option Chore) → Option Chore
+first_chore [] = None
+first_chore (c ∷ cs) = or_next_chore c (first_chore cs)
 
 abbrev pub merge_if : Bool → Option Chore → Option Chore
 merge_if test chore = if test then chore else None
 
 -- of the pairs, so that their number stays a logarithm of the rows, and dead records go
 abbrev pub tidying : Policy → Standing → Option Chore
-tidying p s = first_due (merge_by p LastSmall s ∷ merge_by p MostDead s ∷ [])
+tidying p s = first_chore (merge_chosen_by p LastSmall s ∷ merge_chosen_by p MostDead s ∷ [])
 
 -- of the memory
 abbrev pub forgetting : Policy → Standing → Option Chore
-forgetting p s = first_due (
-    when (may_trim s) (Trim s.earlier_mark)
-    ∷ when s.may_collect (Collect p.collected) ∷ [])
+forgetting p s = first_chore (
+    chore_when (may_trim s) (Trim s.earlier_mark)
+    ∷ chore_when s.may_collect (Collect p.collected) ∷ [])
 
-abbrev pub due_of : Policy → Standing → Option Chore
-due_of p s = first_due (
-    when (has_to_flush s) Flush
+abbrev pub due_chore : Policy → Standing → Option Chore
+due_chore p s = first_chore (
+    chore_when (has_to_flush s) Flush
     ∷ step_chore s.step
-    ∷ when s.may_reclaim Reclaim
-    ∷ merge_if (has_to_merge p s) (merge_by p LeastLive s)
-    ∷ when (may_checkpoint s) Checkpoint
-    ∷ when (has_to_rotate p s) Rotate
+    ∷ chore_when s.may_reclaim Reclaim
+    ∷ merge_if (has_to_merge p s) (merge_chosen_by p LeastLive s)
+    ∷ chore_when (may_checkpoint s) Checkpoint
+    ∷ chore_when (has_to_rotate p s) Rotate
     ∷ tidying p s
     ∷ forgetting p s
     ∷ [])
@@ -100,13 +100,13 @@ due_of p s = first_due (
 -- ---- what is due may be done
 
 -- the neighbours at the place are there, and together they aren't too large
-abbrev pub MayMerge : Policy → List Pair → ℕ → Type 0
-MayMerge p pairs place = (place + 1 < length pairs)
+abbrev pub MayMergeAt : Policy → List Pair → ℕ → Type 0
+MayMergeAt p pairs place = (place + 1 < length pairs)
     × ((none : Pair) → live_in (get_or pairs place none) + live_in (get_or pairs (place + 1) none)
     ≤ p.most_live)
 
 abbrev pub MayBeDone : Policy → Standing → Chore → Type 0
-MayBeDone p s (Merge place) = MayMerge p s.pairs.items place
+MayBeDone p s (Merge place) = MayMergeAt p s.pairs.items place
 MayBeDone p s Checkpoint = (1 < s.segments) × (length s.pairs.items < MAX_PAIRS)
 MayBeDone p s Rotate = s.segments < MAX_SEGMENTS
 MayBeDone p s (Trim upto) = (s.tale_start.0 < upto.0) × (upto.0 < s.oldest_begin.0)

@@ -1,6 +1,6 @@
 //! Which two neighbours are merged.
 ghost use Rattle.std.specs.Prelude.{◌≡◌, ◌<◌, ◌≤◌, ◌^◌};
-ghost use Rattle.mvo_keep.specs.Choosing.{live_of, dead_of, records_of, is_candidate, comes_before};
+ghost use Rattle.mvo_keep.specs.Choosing.{live_in_both, dead_in_both, records_in_both, is_candidate, comes_before};
 
 use crate::neighbours::Neighbours;
 use crate::policy::Policy;

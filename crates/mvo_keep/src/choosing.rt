@@ -1,7 +1,7 @@
 //! The place of the two neighbours that are merged.
 ghost use Rattle.std.specs.Prelude.{◌≡◌, IfSome};
-ghost use Rattle.mvo_keep.specs.Choosing.{chosen_from, chosen_place, IsOneOf};
-ghost use Rattle.mvo_keep.specs.Due.{MayMerge};
+ghost use Rattle.mvo_keep.specs.Choosing.{chosen_from, chosen_place, IsBetterOf};
+ghost use Rattle.mvo_keep.specs.Due.{MayMergeAt};
 
 use crate::choice::Choice;
 use crate::neighbours::Neighbours;
@@ -16,7 +16,7 @@ fn better(
     behind: Option<Neighbours>,
 ) -> Option<Neighbours>
     ensures value { result ≡ chosen_from policy.now choice two behind }
-    ensures one { IfSome result (λ t. IsOneOf policy.now two behind t) }
+    ensures one { IfSome result (λ t. IsBetterOf policy.now two behind t) }
 {
     if !choice.allows(policy, &two) {
         return behind;
@@ -30,7 +30,7 @@ fn better(
 /// The place of the neighbours that are chosen, if any are.
 pub fn chosen_place(policy: &Policy, choice: Choice, pairs: &[Pair]) -> Option<usize>
     ensures value { result ≡ chosen_place policy.now choice pairs.now }
-    ensures there { IfSome result (MayMerge policy.now pairs.now) }
+    ensures there { IfSome result (MayMergeAt policy.now pairs.now) }
 {
     let mut best = None;
     let mut place = pairs.len();

@@ -1,6 +1,6 @@
 //! Two pairs, one behind the other.
 ghost use Rattle.std.specs.Prelude.{◌≡◌, ◌<◌, ◌^◌};
-ghost use Rattle.mvo_keep.specs.Choosing.{live_in, live_of, dead_of, records_of, is_left_small};
+ghost use Rattle.mvo_keep.specs.Choosing.{live_in, live_in_both, dead_in_both, records_in_both, is_left_small};
 
 use mvo_pair::Pair;
 
@@ -26,14 +26,14 @@ fn live_in(pair: &Pair) -> u64
 impl Neighbours {
     /// How many records of both are live.
     pub fn live(&self) -> u64
-        ensures { result ≡ live_of self.now }
+        ensures { result ≡ live_in_both self.now }
     {
         live_in(&self.left) + live_in(&self.right)
     }
 
     /// How many records of both are dead.
     pub fn dead(&self) -> u64
-        ensures count { result ≡ dead_of self.now }
+        ensures count { result ≡ dead_in_both self.now }
         ensures few { result < 2 ^ 33 }
     {
         u64::from(self.left.entries) + u64::from(self.right.entries)
@@ -41,7 +41,7 @@ impl Neighbours {
 
     /// How many records both have.
     pub fn records(&self) -> u64
-        ensures { result ≡ records_of self.now }
+        ensures { result ≡ records_in_both self.now }
     {
         u64::from(self.left.records) + u64::from(self.right.records)
     }

@@ -1,8 +1,8 @@
 //! What is due.
 ghost use Rattle.std.specs.Prelude.{◌≡◌, IfSome};
-ghost use Rattle.mvo_keep.specs.Due.{due_of, has_to_flush, has_to_merge, has_sealed};
+ghost use Rattle.mvo_keep.specs.Due.{due_chore, has_to_flush, has_to_merge, has_sealed};
 ghost use Rattle.mvo_keep.specs.Due.{may_checkpoint, has_to_rotate, may_trim};
-ghost use Rattle.mvo_keep.specs.Due.{merge_by, merge_if, tidying, forgetting, MayBeDone};
+ghost use Rattle.mvo_keep.specs.Due.{merge_chosen_by, merge_if, tidying, forgetting, MayBeDone};
 
 use crate::choice::Choice;
 use crate::choosing::chosen_place;
@@ -51,7 +51,7 @@ fn may_trim(standing: &Standing) -> bool
 
 /// A merge of the neighbours that are chosen, if any are.
 fn merge_by(policy: &Policy, choice: Choice, standing: &Standing) -> Option<Chore>
-    ensures value { result ≡ merge_by policy.now choice standing.now }
+    ensures value { result ≡ merge_chosen_by policy.now choice standing.now }
     ensures done { IfSome result (MayBeDone policy.now standing.now) }
 {
     match chosen_place(policy, choice, &standing.pairs) {
@@ -64,7 +64,7 @@ fn merge_by(policy: &Policy, choice: Choice, standing: &Standing) -> Option<Chor
 fn first_merge(policy: &Policy, standing: &Standing) -> Option<Chore>
     ensures value { result ≡
         merge_if (has_to_merge policy.now standing.now)
-        (merge_by policy.now Choice.LeastLive standing.now) }
+        (merge_chosen_by policy.now Choice.LeastLive standing.now) }
     ensures done { IfSome result (MayBeDone policy.now standing.now) }
 {
     if !has_to_merge(policy, standing) {
@@ -112,7 +112,7 @@ fn forgetting(policy: &Policy, standing: &Standing) -> Option<Chore>
 ///
 /// Neighbours that together have too many live records are never merged.
 pub fn due(policy: &Policy, standing: &Standing) -> Option<Chore>
-    ensures first { result ≡ due_of policy.now standing.now }
+    ensures first { result ≡ due_chore policy.now standing.now }
     ensures done { IfSome result (MayBeDone policy.now standing.now) }
 {
     if standing.has_group || standing.has_commits {

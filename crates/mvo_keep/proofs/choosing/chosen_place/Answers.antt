@@ -1,4 +1,4 @@
-use Rattle.std.proofs.Common.{◌≡◌, ◌≤◌, ◌-◌, ◌<◌, ℕ, length, drop, get_or, arith, ap, sym, ◌∙◌}
+use Rattle.std.proofs.Common.{◌-◌, ◌<◌, length, get_or, arith, ap, sym, ◌∙◌}
 use Rattle.mvo_pair.specs.declared.pair.Pair.{Pair}
 use Rattle.mvo_keep.specs.declared.neighbours.Neighbours.{Neighbours}
 use Rattle.mvo_keep.specs.Choosing.{chosen_from}
