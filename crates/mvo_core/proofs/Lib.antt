@@ -84,3 +84,4 @@ pub mod WaitsOn
 pub mod ToldJust
 pub mod VersionCounts
 pub mod RowsHeld
+pub mod NextActive

@@ -54,7 +54,7 @@ use Rattle.mvo_core.proofs.ReaderOwn.{IsOwnOfReader, stages_moved}
 use Rattle.mvo_core.proofs.ReadersMoved.{reader_goes_on}
 
 -- ---- where it stands for the table
-abbrev core_state : ReaderStage → TxState
+abbrev pub core_state : ReaderStage → TxState
 core_state IsReading = Active
 core_state (IsPreparing n v) = Active
 core_state IsCommitted = Aborted

@@ -29,6 +29,7 @@ pub mod Spare
 pub mod Holding
 pub mod Receipts
 pub mod WholeAnswers
+pub mod Unfinished
 pub mod WholeEnds
 pub mod WholeClosing
 pub mod WholeTales

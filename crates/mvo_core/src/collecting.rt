@@ -5,7 +5,7 @@ ghost use Rattle.mvo_collect.specs.Waiting.{is_by};
 ghost use Rattle.mvo_work.specs.declared.word_place.WordPlace.{WordPlace as WordPlaceData};
 ghost use Rattle.mvo_core.specs.Collecting.{is_open_end_at, counted_off, WaitBehind};
 
-use crate::ending::number_of;
+use crate::bringing::number_of;
 use crate::event_core::Core;
 use mvo_chain::VersionNo;
 use mvo_collect::{Collection, Waiting, collect_one, is_dead};

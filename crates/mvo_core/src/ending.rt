@@ -1,5 +1,5 @@
 //! How a transaction ends.
-ghost use Rattle.std.specs.Prelude.{◌≡◌, ◌≤◌, [], true, false, Some, IsSome, IfOk, IfErr, OnOk, OnErr, is_none, length};
+ghost use Rattle.std.specs.Prelude.{◌≡◌, [], true, false, Some, IsSome, IfOk, IfErr, OnOk, OnErr};
 ghost use Rattle.mvo_theory.specs.Entries.{written_keys};
 ghost use Rattle.mvo_theory.specs.Told.{history_told};
 ghost use Rattle.mvo_theory.specs.Limits.{AreLimited};
@@ -8,43 +8,30 @@ ghost use Rattle.mvo_txn.specs.Txns.{table_after_prepare, table_after_change};
 ghost use Rattle.mvo_deps.specs.Data.{after_dependency_commit};
 ghost use Rattle.mvo_deps.specs.Nodes.{data_of, IsReported};
 ghost use Rattle.mvo_deps.specs.Graph.{KeepsGraphAtCommit};
-ghost use Rattle.mvo_chain.specs.Slots.{version_at};
 ghost use Rattle.mvo_tale.specs.Slots.{ends, AreRising};
-ghost use Rattle.mvo_representation.specs.Words.{ends_of, stamp_in};
-ghost use Rattle.mvo_representation.specs.Table.{phases_of};
-ghost use Rattle.mvo_representation.specs.Order.{is_put_by};
-ghost use Rattle.mvo_representation.specs.WordLists.{number_at_word};
 ghost use Rattle.mvo_core.specs.Data.{own_of};
-ghost use Rattle.mvo_core.specs.Standing.{words_in};
 ghost use Rattle.mvo_core.specs.Own.{own_place, own_history};
 ghost use Rattle.mvo_core.specs.Own.{own_check};
 ghost use Rattle.mvo_core.specs.Keeping.{IsWritten, IsWrittenThen, IsPlacedInTale, IsCounted, HasHandedOver};
 ghost use Rattle.mvo_core.specs.Keeping.{HasEndedIf, HasEndedAs, HasStartedChecks, HasHandedOverRead};
 ghost use Rattle.mvo_core.specs.Aborting.{HasOpenPlace, tale_left, has_pending_place, has_reading_place};
 ghost use Rattle.mvo_core.specs.Causes.{kind_kept, is_read_only as is_reader};
-ghost use Rattle.mvo_core.specs.Collecting.{WaitBehind};
-ghost use Rattle.mvo_core.specs.Fronts.{version_passes, comes_at_draw, IsInFrontIf, AreInFront};
 
 use crate::answers::{Settlement, Validation};
-use crate::collecting::await_end;
+use crate::bringing::{bring_puts, draw_words};
 use crate::event_core::Core;
 use crate::kept_transaction::{KeptTransaction, Table, TransactionKind};
 use crate::next_check::{NextCheck, check_next};
 use crate::readiness::{Readiness, readiness_of};
 use crate::refusing::{active, is_failure, is_read_only, not_undone};
-use mvo_chain::VersionNo;
-use mvo_collect::Waiting;
 use mvo_deps::{Node, report_abort, report_commit};
 use mvo_tale::{Tale, TaleEntry};
 use mvo_txn::{Located, TableSeat, TxState};
 use mvo_types::{MAX_STAMP, Refusal, Stamp, TxId};
-use mvo_versions::Versions;
-use mvo_visible::{Seen, names, seen_by_others};
-use mvo_word::Word;
-use mvo_work::{Operations, WordPlace, Work};
+use mvo_work::Operations;
 
 impl Core {
-    ghost use Rattle.std.specs.Prelude.{◌≡◌, ◌+◌, None, IfOk};
+    ghost use Rattle.std.specs.Prelude.{◌≡◌, ◌+◌, None, Some, IfOk, IfErr};
     ghost use Rattle.mvo_theory.specs.Calls.Call.{Precommit, Validate, Settle, Rollback};
     ghost use Rattle.mvo_txn.specs.Txns.{state_of, IsUnended};
     ghost use Rattle.mvo_core.specs.Steps.{IsStep, IsValidation, IsSettlement};
@@ -54,6 +41,7 @@ impl Core {
     ghost use Rattle.mvo_core.specs.WholeEnds.{IsReaderSettled, reader_settled_as, end_drawn};
     ghost use Rattle.mvo_core.specs.Aborting.{MayGiveUp, IsGivenUp, IsAborted};
     ghost use Rattle.mvo_core.specs.Aborting.{IsReaderGivenUp, IsReaderAborted};
+    ghost use Rattle.mvo_core.specs.Causes.{why_not_undo};
     ghost use Rattle.mvo_core.specs.Counting.{HasAsMany};
 
     /// Makes an Active transaction Preparing, with the next timestamp as its end, and takes all
@@ -177,6 +165,8 @@ impl Core {
     pub fn rollback_tx(&mut self, tx: TxId) -> Result<(), Refusal>
         ensures step { IsStep self.old (Rollback tx.0) result self.new }
         ensures whole { IsWholeStep self.old (Rollback tx.0) result self.new }
+        ensures cause { IfErr result (λ r.
+            why_not_undo (state_of self.old.table tx.0) ≡ Some r) }
         ensures count { HasAsMany self.old self.new }
     {
         let seat = self.table.seat_of(tx);
@@ -374,138 +364,5 @@ fn hand_over(table: &mut Table, tx: Located) -> (usize, Operations)
     match table.get_mut(tx) {
         Some(node) => node.own.hand_over(),
         None => unreachable!(),
-    }
-}
-
-/// What the words of the transaction come to as it draws this end, in the order of writing. What it
-/// put comes to the front of its key, and so does what it ended whose put has no stamp. What it
-/// ended waits behind the others. One that has written nothing isn't looked up.
-fn draw_words(
-    versions: &mut Versions,
-    waiting: &mut Waiting,
-    table: &Table,
-    tx: Located,
-    count: usize,
-    end: Stamp,
-)
-    requires count { count ≡ length (words_in table.now tx.id.0) }
-    requires room { count ≤ waiting.old.ended_room }
-    ensures fronts { AreInFront (comes_at_draw (state_of table.now) tx.id.0)
-        versions.old versions.new (words_in table.now tx.id.0) }
-    ensures waits { WaitBehind end (words_in table.now tx.id.0) waiting.old waiting.new }
-{
-    if count == 0 {
-        return;
-    }
-    if let Some(seat) = table.get(tx) {
-        draw_all(versions, waiting, table, tx.id, &seat.kept.own.work, end);
-    }
-}
-
-/// Does so in what is kept of the transaction.
-#[inline(always)]
-fn draw_all(
-    versions: &mut Versions,
-    waiting: &mut Waiting,
-    table: &Table,
-    tx: TxId,
-    work: &Work,
-    end: Stamp,
-)
-    requires { length work.now.words ≤ waiting.old.ended_room }
-    ensures fronts { AreInFront (comes_at_draw (state_of table.now) tx.0) versions.old versions.new
-        work.now.words }
-    ensures waits { WaitBehind end work.now.words waiting.old waiting.new }
-{
-    for place in 0..work.word_count() {
-        if let Some(word) = work.word_at(place) {
-            bring_unstamped(versions, table, tx, number_of(word));
-            await_end(waiting, word, end);
-        }
-    }
-}
-
-/// Brings to the front of their keys what the transaction put, in the order of writing.
-fn bring_puts(versions: &mut Versions, table: &Table, tx: Located)
-    ensures { AreInFront (is_put_by tx.id.0) versions.old versions.new
-        (words_in table.now tx.id.0) }
-{
-    if let Some(seat) = table.get(tx) {
-        bring_each_put(versions, tx.id, &seat.kept.own.work);
-    }
-}
-
-/// Does so in what is kept of the transaction.
-fn bring_each_put(versions: &mut Versions, tx: TxId, work: &Work)
-    ensures { AreInFront (is_put_by tx.0) versions.old versions.new work.now.words }
-{
-    for place in 0..work.word_count() {
-        if let Some(word) = work.word_at(place) {
-            bring_put(versions, tx, number_of(word));
-        }
-    }
-}
-
-/// The number of the version that has the word.
-pub fn number_of(word: WordPlace) -> VersionNo
-    ensures { result ≡ number_at_word word }
-{
-    match word {
-        WordPlace::Begin(number) => number,
-        WordPlace::End(number) => number,
-    }
-}
-
-/// Brings the version to the front of its key, if the transaction put it, or ended it and its put
-/// has no stamp.
-fn bring_unstamped(versions: &mut Versions, table: &Table, tx: TxId, number: VersionNo)
-    ensures { IsInFrontIf (comes_at_draw (state_of table.now) tx.0) versions.old versions.new
-        number }
-{
-    if comes_at_draw(versions, table, tx, number) {
-        versions.bring_to_front(number);
-    }
-}
-
-/// Brings the version to the front of its key, if the transaction put it.
-fn bring_put(versions: &mut Versions, tx: TxId, number: VersionNo)
-    ensures { IsInFrontIf (is_put_by tx.0) versions.old versions.new number }
-{
-    if is_put(versions, tx, number) {
-        versions.bring_to_front(number);
-    }
-}
-
-/// Whether the transaction put the version, or ended it and its put has no stamp for others.
-fn comes_at_draw(versions: &Versions, table: &Table, tx: TxId, number: VersionNo) -> bool
-    ensures { result ≡ version_passes (comes_at_draw (state_of table.now) tx.0)
-        (version_at versions.now.slots number) }
-{
-    match versions.get(number) {
-        Some(version) => {
-            names(version.begin, tx) || names(version.end, tx) && has_no_stamp(table, version.begin)
-        }
-        None => false,
-    }
-}
-
-/// Whether the transaction put the version.
-fn is_put(versions: &Versions, tx: TxId, number: VersionNo) -> bool
-    ensures { result ≡ version_passes (is_put_by tx.0) (version_at versions.now.slots number) }
-{
-    match versions.get(number) {
-        Some(version) => names(version.begin, tx),
-        None => false,
-    }
-}
-
-/// Whether the word has no stamp for others.
-fn has_no_stamp(table: &Table, word: Word) -> bool
-    ensures { result ≡ is_none (stamp_in (ends_of (phases_of (state_of table.now))) word) }
-{
-    match seen_by_others(table, word) {
-        Seen::Nothing => true,
-        Seen::Settled(_) => false,
-        Seen::Speculative(_, _) => false,
     }
 }

@@ -2,6 +2,7 @@
 #![tactic(auto)]
 
 mod answers;
+mod bringing;
 mod closing;
 mod collecting;
 mod depending;
@@ -19,6 +20,7 @@ mod refusing;
 mod scanning;
 mod spares;
 mod trimming;
+mod unfinished;
 mod whole_laws;
 
 pub use answers::{Closed, Finishing, Settlement, Validation};

@@ -35,3 +35,5 @@ mod transcripts;
 mod twin_runs;
 #[cfg(test)]
 mod twins;
+#[cfg(test)]
+mod unfinished;

@@ -108,6 +108,14 @@ impl Session {
         self.core.clock()
     }
 
+    /// The id of the first Active transaction that began there, or 0.
+    pub fn next_active(&self, from: u64, below: u64) -> u64 {
+        match self.core.next_active(Stamp(from), Stamp(below)) {
+            Some(id) => id.0,
+            None => 0,
+        }
+    }
+
     /// How many ends the tale has a place for.
     pub fn tale_len(&self) -> usize {
         self.core.tale().len()

@@ -2,6 +2,7 @@ pub mod Held
 pub mod Chairs
 pub mod Seated
 pub mod Queues
+pub mod NextStamps
 pub mod Few
 pub mod Stamps
 pub mod Tables

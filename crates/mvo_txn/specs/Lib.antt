@@ -5,3 +5,4 @@ pub mod Queue
 pub mod Txns
 pub mod Lends
 pub mod Sound
+pub mod Next

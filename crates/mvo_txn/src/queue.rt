@@ -1,7 +1,8 @@
-ghost use Rattle.std.specs.Prelude.{◌≡◌, ◌+◌, ◌<◌, [], drop, IfOk};
+ghost use Rattle.std.specs.Prelude.{◌≡◌, ◌+◌, ◌<◌, ◌≤◌, [], drop, IfOk};
 ghost use Rattle.std.specs.VecDeque.{deque_len, deque_capacity};
 ghost use Rattle.mvo_txn.specs.Queue.{first_stamp, with_mark};
 ghost use Rattle.mvo_txn.specs.Sound.{KeepsForm, KeepsQueue, TrimsQueue, HasPlace};
+ghost use Rattle.mvo_txn.specs.Next.{IsNextIn, IsPlaceOf};
 
 use crate::mark::{Kind, Mark};
 use crate::seats::Seats;
@@ -37,6 +38,29 @@ impl Queue {
             Some(mark) => Some(mark.stamp),
             None => None,
         }
+    }
+
+    /// The least timestamp of those that count, from this number on. Its place is found in the
+    /// logarithm of their number, and those there that no longer count are passed over.
+    pub(crate) fn next<P>(&self, seats: &Seats<P>, from: u64) -> Option<u64>
+        ensures { IsNextIn seats.now self.now from result }
+    {
+        let mut place = self.place_of(from);
+        while let Some(mark) = self.marks.get(place) {
+            if self.kind.is_current(seats, *mark) {
+                return Some(mark.stamp);
+            }
+            place += 1;
+        }
+        None
+    }
+
+    /// The place of the first timestamp that isn't below this number.
+    fn place_of(&self, from: u64) -> usize
+        ensures bound { result ≤ deque_len self.now.marks }
+        ensures place { IsPlaceOf self.now from result }
+    {
+        self.marks.partition_point(|mark| mark.stamp < from)
     }
 
     /// Makes room for one more: where room is short it drops those that no longer count. It takes

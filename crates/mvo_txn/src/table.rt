@@ -7,6 +7,7 @@ ghost use Rattle.mvo_txn.specs.Lends.{LendsKept, LendsPrepared, LendsCommitted};
 ghost use Rattle.mvo_txn.specs.Txns.{no_txns, state_of, kept_of, IsPreparingState, IsUnended, IsEnded, IsTable};
 ghost use Rattle.mvo_txn.specs.Txns.{table_after_begin, table_after_prepare, table_after_change, after_terminate};
 ghost use Rattle.mvo_txn.specs.Txns.{why_not_begun, spent_clock, IsTableRefusal, IsOldestBegin, IsLowWater};
+ghost use Rattle.mvo_txn.specs.Next.{IsNextBegin};
 
 use crate::located::{Located, SeatNo};
 use crate::mark::Kind;
@@ -219,6 +220,18 @@ impl<P> TxnTable<P> {
         match self.begins.first() {
             Some(begin) => Stamp(begin),
             None => Stamp(self.clock),
+        }
+    }
+
+    /// The unfinished transaction with the least begin from this one on, if there is one. It is
+    /// sought in the order of their begins, in the logarithm of their number; those that have left
+    /// since the last change there are passed over.
+    pub fn next_begin(&self, from: Stamp) -> Option<TxId>
+        ensures { IsNextBegin self.now from.0 result }
+    {
+        match self.begins.next(&self.seats, from.0) {
+            Some(begin) => Some(TxId(begin)),
+            None => None,
         }
     }
 

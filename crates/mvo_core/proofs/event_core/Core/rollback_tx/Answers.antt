@@ -22,3 +22,8 @@ pub returns-clause-whole : goal.returns-clause-whole
 returns-clause-whole c = λ opening steps own w h.
     let none = ap (λ (v : CoreData). why_not_undo (state_of v.table c.args.tx.0)) (sym c.self.view_is) ∙ sym c.not_undone.ensures ∙ c.in_default.is in
     rolled_back_whole opening steps own w c.args.self.now h c.args.tx.0 c.abort.new.self none c.abort.ensures.others c.abort.ensures.readers
+
+-- ---- why it is refused
+pub returns-in-Some-clause-cause : goal.returns-in-Some-clause-cause
+returns-in-Some-clause-cause c =
+    ap (λ (v : CoreData). why_not_undo (state_of v.table c.args.tx.0)) (sym c.self.view_is) ∙ sym c.not_undone.ensures ∙ c.in-Some.is

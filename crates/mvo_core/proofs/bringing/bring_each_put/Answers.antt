@@ -2,8 +2,8 @@ use Rattle.std.proofs.Common.{◌≡◌, ◌+◌, ◌∙◌, take, sym, subst, a
 use Rattle.mvo_representation.specs.Order.{is_put_by}
 use Rattle.mvo_core.specs.Fronts.{IsInFrontIf, AreInFront}
 use Rattle.mvo_core.proofs.Fronting.{front_first, front_more, front_same, front_all}
-use Rattle.mvo_core.proofs.ending.bring_each_put.Goals as goal
-use Rattle.mvo_core.proofs.ending.bring_each_put.Goals.{in-Some, in_default}
+use Rattle.mvo_core.proofs.bringing.bring_each_put.Goals as goal
+use Rattle.mvo_core.proofs.bringing.bring_each_put.Goals.{in-Some, in_default}
 
 pub loop-place-init : goal.loop-place-init
 loop-place-init c = front_first (is_put_by c.args.tx.0) c.args.versions.now

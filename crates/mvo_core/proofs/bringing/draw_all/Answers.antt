@@ -3,8 +3,8 @@ use Rattle.mvo_txn.specs.Txns.{state_of}
 use Rattle.mvo_core.specs.Fronts.{comes_at_draw, IsInFrontIf, AreInFront}
 use Rattle.mvo_core.proofs.Awaiting.{IsAwaitedTo, awaited_first, awaited_more, awaited_same, awaited_last}
 use Rattle.mvo_core.proofs.Fronting.{front_first, front_more, front_same, front_all}
-use Rattle.mvo_core.proofs.ending.draw_all.Goals as goal
-use Rattle.mvo_core.proofs.ending.draw_all.Goals.{in-Some, in_default}
+use Rattle.mvo_core.proofs.bringing.draw_all.Goals as goal
+use Rattle.mvo_core.proofs.bringing.draw_all.Goals.{in-Some, in_default}
 
 pub loop-place-init : goal.loop-place-init
 loop-place-init c = record {

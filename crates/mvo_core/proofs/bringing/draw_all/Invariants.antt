@@ -2,7 +2,7 @@ use Rattle.std.proofs.Common.{take}
 use Rattle.mvo_txn.specs.Txns.{state_of}
 use Rattle.mvo_core.specs.Fronts.{comes_at_draw, AreInFront}
 use Rattle.mvo_core.proofs.Awaiting.{IsAwaitedTo}
-use Rattle.mvo_core.proofs.ending.draw_all.Given as goal
+use Rattle.mvo_core.proofs.bringing.draw_all.Given as goal
 
 abbrev pub invariant-loop-place : goal.invariant-loop-place
 invariant-loop-place l = record {
