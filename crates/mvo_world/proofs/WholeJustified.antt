@@ -44,7 +44,7 @@ use Rattle.mvo_readonly.proofs.rests.Answering.{clock_drawn, answers_whole}
 use Rattle.mvo_readonly.proofs.rests.Justifying.{whole_justified, whole_tells}
 use Rattle.mvo_core.specs.WholeEnds.{end_by_stage}
 use Rattle.mvo_world.specs.Finishing.{mores_of, HaveCountedWords}
-use Rattle.mvo_world.specs.WholeJustified.{is_among, is_named_among, KnowsReaders, HasCause, NoneBefore, IsJustCall, IsEndOf, MayTrim}
+use Rattle.mvo_world.specs.WholeJustified.{is_among, is_named_among, KnowsReaders, HasCause, NoneBefore, IsJustCall, IsGivenEnd, MayTrim}
 use Rattle.mvo_world.proofs.Finishing.{more_is_left, none_is_left}
 use Rattle.mvo_world.proofs.Forgetting.{MayTrimOwn, may_be, may}
 use Rattle.mvo_world.proofs.WholeOrder.{never_absent, other_before, reader_before}
@@ -170,12 +170,12 @@ module _ (ids : List ℕ) (a o : Course) (w : WholeState) (f : IsFollowed a o w)
       go false e = e
       go true e = absurd (not_refused NoSuchTransaction (refused_so w call Accepted t i (absent_core t n (k.others t e n)) (subst (λ (v : Option ReaderStage). MayComeAtStage w call v Accepted) (ap (stage_named w.readers) i ∙ n) m)))
 
-  pub end_whole : (t : ℕ) → MayComeWhole w (CoreCall (Precommit t)) Accepted → IsEndOf (is_among t ids) a t (end_by_stage w.core t (stage_of t w.readers))
+  pub end_whole : (t : ℕ) → MayComeWhole w (CoreCall (Precommit t)) Accepted → IsGivenEnd (is_among t ids) a t (end_by_stage w.core t (stage_of t w.readers))
   end_whole t m = go (stage_of t w.readers) refl
     where
-      go : (p : Option ReaderStage) → stage_of t w.readers ≡ p → IsEndOf (is_among t ids) a t (end_by_stage w.core t p)
-      go (Some p) e = subst (λ (b : Bool). IsEndOf b a t t) (sym (k.all t p e)) refl
-      go None e = subst (λ (b : Bool). IsEndOf b a t (w.core.clock + 1)) (sym (answered_other (Precommit t) t refl m e)) (ap (λ (n : ℕ). n + 1) (clock_drawn a o w f))
+      go : (p : Option ReaderStage) → stage_of t w.readers ≡ p → IsGivenEnd (is_among t ids) a t (end_by_stage w.core t p)
+      go (Some p) e = subst (λ (b : Bool). IsGivenEnd b a t t) (sym (k.all t p e)) refl
+      go None e = subst (λ (b : Bool). IsGivenEnd b a t (w.core.clock + 1)) (sym (answered_other (Precommit t) t refl m e)) (ap (λ (n : ℕ). n + 1) (clock_drawn a o w f))
 
   -- ---- finishing
   finishes : (t : ℕ) → MayComeWhole w (CoreCall (Finish t)) Accepted → why_not_finish w.core t ≡ None

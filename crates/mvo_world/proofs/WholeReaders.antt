@@ -1,6 +1,6 @@
 -- Each call keeps who began read-only, and one of them that is gone is refused everything.
 use Rattle.std.proofs.Common.{◌≡◌, ◌≢◌, ℕ, ◌+◌, ◌≤◌, Bool, true, false, cond, not, ◌⊎◌, inl, inr, List, [], ◌∷◌, ◌++◌, Option, None, Some, refl, sym, ap, ◌∙◌, subst, arith}
-use Rattle.std.specs.Prelude.{◌==◌, ◌||◌}
+use Rattle.std.specs.Prelude.{◌==◌, eqb, ◌||◌}
 use Rattle.std.proofs.lemmas.Bool.{true≢false, false≢true, eq-eqb, eqb-true}
 use Rattle.mvo_types.specs.declared.refusal.Refusal.{Refusal}
 use Rattle.mvo_types.specs.declared.refusal.Refusal.TheVariants.{NoSuchTransaction}
@@ -48,19 +48,19 @@ no_id t e = cc
 
 -- ---- one more that began
 among_left : (t u : ℕ) (ids : List ℕ) → is_among t ids ≡ true → is_among t (ids ++ u ∷ []) ≡ true
-among_left t u ids e = any_left (λ i. i == t) ids (u ∷ []) e
+among_left t u ids e = any_left (eqb t) ids (u ∷ []) e
 
 among_last : (u : ℕ) (ids : List ℕ) → is_among u (ids ++ u ∷ []) ≡ true
-among_last u [] = or_left (u == u) false (eq-eqb u u refl)
-among_last u (i ∷ is) = or_right (i == u) (is_among u (is ++ u ∷ [])) (among_last u is)
+among_last u [] = or_left (eqb u u) false (eq-eqb u u refl)
+among_last u (i ∷ is) = or_right (eqb u i) (is_among u (is ++ u ∷ [])) (among_last u is)
 
 among_push : (t u : ℕ) (ids : List ℕ) → is_among t (ids ++ u ∷ []) ≡ true → (is_among t ids ≡ true) ⊎ (u ≡ t)
-among_push t u [] e = go (u == t) refl e
+among_push t u [] e = go (eqb t u) refl e
   where
-    go : (b : Bool) → (u == t) ≡ b → (b || false) ≡ true → (false ≡ true) ⊎ (u ≡ t)
-    go true f g = inr (eqb-true u t f)
+    go : (b : Bool) → eqb t u ≡ b → (b || false) ≡ true → (false ≡ true) ⊎ (u ≡ t)
+    go true f g = inr (sym (eqb-true t u f))
     go false f g = absurd (false≢true g)
-among_push t u (i ∷ is) e = go (i == t) e (among_push t u is)
+among_push t u (i ∷ is) e = go (eqb t i) e (among_push t u is)
   where
     go : (b : Bool) → (b || is_among t (is ++ u ∷ [])) ≡ true → (is_among t (is ++ u ∷ []) ≡ true → (is_among t is ≡ true) ⊎ (u ≡ t)) → ((b || is_among t is) ≡ true) ⊎ (u ≡ t)
     go true f k = inl refl

@@ -1,6 +1,6 @@
 -- What justifies what a call came to, by what happened and by who began read-only: a call of one of
 -- those has a list of causes of its own, a call of another has that of a core.
-use Rattle.std.specs.Prelude.{ℕ, ◌≡◌, ◌+◌, ◌<◌, ◌≤◌, ◌==◌, Bool, true, false, length, List, Option, None, Some, ⊤}
+use Rattle.std.specs.Prelude.{ℕ, ◌≡◌, ◌+◌, ◌<◌, ◌≤◌, Bool, true, false, eqb, length, List, Option, None, Some, ⊤}
 use Rattle.std.specs.List.{list_any}
 use Rattle.mvo_types.specs.declared.refusal.Refusal.{Refusal}
 use Rattle.mvo_model.specs.Trace.{Step, phase_of}
@@ -16,9 +16,9 @@ use Rattle.mvo_readonly.specs.WholeJustified.{ReaderCauseStands, IsReaderJustifi
 use Rattle.mvo_world.specs.Order.{cause_place}
 
 -- ---- who began read-only
--- t is one of these
+-- it is one of these
 abbrev pub is_among : ℕ → List ℕ → Bool
-is_among t ids = list_any (λ u. u == t) ids
+is_among n ns = list_any (eqb n) ns
 
 -- so is the one that is named; none is where nobody is named
 abbrev pub is_named_among : Option ℕ → List ℕ → Bool
@@ -63,9 +63,9 @@ IsJustCall ids c call r =
 
 -- ---- what is answered
 -- the end of a precommit: the timestamp behind those that were drawn, or its begin
-abbrev pub IsEndOf : Bool → Course → ℕ → ℕ → Type 0
-IsEndOf true c t e = e ≡ t
-IsEndOf false c t e = e ≡ c.mark + draws c.steps + 1
+abbrev pub IsGivenEnd : Bool → Course → ℕ → ℕ → Type 0
+IsGivenEnd true c t e = e ≡ t
+IsGivenEnd false c t e = e ≡ c.mark + draws c.steps + 1
 
 -- ---- a trim
 -- The tale may be trimmed to the stamp: it starts below, the stamp was drawn, no transaction that
