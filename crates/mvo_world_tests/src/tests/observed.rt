@@ -126,9 +126,9 @@ pub struct Counts {
     pub emptied: u64,
     pub polled_yes: u64,
     pub polled_no: u64,
-    /// Of read-only transactions: commits, and of them those that came when a group with a mark at
-    /// least there was closed; settlings that waited, and those that fell; writes that were refused;
-    /// trims that were refused for their sake; and groups that were closed while one was Preparing.
+    /// Of read-only transactions: commits, and of them those below the mark of the last closed
+    /// group or at it; settlings that waited; those that fell; writes that were refused; trims that
+    /// were refused for their sake; and groups that were closed while one was Preparing.
     pub read_only: u64,
     pub late: u64,
     pub awaited: u64,
