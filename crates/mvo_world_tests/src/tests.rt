@@ -11,6 +11,7 @@ mod jobs;
 mod observed;
 mod openings;
 mod random;
+mod read_only;
 mod runs;
 mod step;
 mod steps;
