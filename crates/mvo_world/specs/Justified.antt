@@ -33,8 +33,7 @@ use Rattle.mvo_world.specs.declared.reply.Reply.{Reply}
 use Rattle.mvo_world.specs.declared.reply.Reply.TheVariants.{Began, Answered, Prepared, Validated, Settled, RolledBack, Finished, Collected, Refused}
 
 -- what the call came to: with the first cause that stands where it is refused, and else with none;
--- and 22 just where one on whom its transaction rests was aborted. A read-only transaction has causes
--- of its own.
+-- and 22 just where one on whom its transaction rests was aborted. A read-only one has other causes
 abbrev pub IsJust : Past → theory.Call → theory.Result → Type 0
 IsJust p c r = IsJustCall p.read_only (course_of p) c r
 
