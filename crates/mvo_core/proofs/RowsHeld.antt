@@ -24,7 +24,8 @@ use Rattle.mvo_representation.specs.Words.{Ends, ends_of, with_effect, as_net_ef
 use Rattle.mvo_representation.specs.Words.NetEffect.{Untouched, Puts}
 use Rattle.mvo_core.specs.Counting.{version_count}
 use Rattle.mvo_core.specs.Data.{CoreData}
-use Rattle.mvo_core.specs.Standing.{StandsFor}
+use Rattle.mvo_core.specs.Readers.{Readers}
+use Rattle.mvo_core.specs.Standing.{StandsAmong}
 
 -- whether one of the versions is of the key
 abbrev is_key : RowKey → Version → Bool
@@ -82,5 +83,5 @@ rows_fit : (ends : Ends) (m : ℕ) (rows : Map) (vs : List Version) → HoldsRow
 rows_fit ends m rows vs h = keys_fit vs rows (λ k some. key_stands ends m k vs (fin.get rows k) (h k) some)
 
 -- a core has at least as many versions as rows stand at the start
-pub rows_have_versions : (opening : Map) (steps : List Step) (s : State) (c : CoreData) → StandsFor opening steps s c → fin.len s.base ≤ version_count c
+pub rows_have_versions : {rs : Readers} (opening : Map) (steps : List Step) (s : State) (c : CoreData) → StandsAmong rs opening steps s c → fin.len s.base ≤ version_count c
 rows_have_versions opening steps s c h = rows_fit (ends_of (phases_of (state_of c.table))) s.start s.base (all_versions c.versions.slots) h.versions.versions.stood

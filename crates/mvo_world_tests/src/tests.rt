@@ -11,6 +11,7 @@ mod jobs;
 mod observed;
 mod openings;
 mod random;
+mod read_only;
 mod readers;
 mod runs;
 mod step;
