@@ -19,7 +19,10 @@ use Rattle.mvo_theory.specs.Marks.{low_water, least_open, below_open}
 use Rattle.mvo_theory.specs.Sound.{IsRising, IsPlaced}
 use Rattle.mvo_theory.specs.Causes.{why_not_close}
 use Rattle.mvo_theory.specs.Calls.{IsKept, IsRefusal}
-use Rattle.mvo_theory.specs.Counted.{HasCounts}
+use Rattle.mvo_theory.specs.rests.Course.{Course}
+use Rattle.mvo_readonly.specs.Whole.{WholeState}
+use Rattle.mvo_readonly.specs.rests.Followed.{IsFollowed}
+use Rattle.mvo_readonly.proofs.rests.Answering.{clock_drawn}
 use Rattle.mvo_theory.proofs.Apart.{IsIn}
 use Rattle.mvo_theory.proofs.Each.{each_weaker}
 use Rattle.mvo_theory.proofs.Firsts.{FirstOf, first_is, none_is, when_none, when_some}
@@ -29,15 +32,17 @@ use Rattle.mvo_core.specs.Seen.{closed_mark_of}
 use Rattle.mvo_store.specs.Frames.{mark_after}
 use Rattle.mvo_store.specs.Seen.{mark_of}
 use Rattle.mvo_world.specs.WorldData.{WorldData, waiting, IsLinked}
-use Rattle.mvo_world.specs.Past.{Past}
+use Rattle.mvo_world.specs.Past.{Past, course_of}
+use Rattle.mvo_world.specs.WholeJustified.{KnowsReaders}
 use Rattle.mvo_world.specs.Ring.{is_full}
 use Rattle.mvo_world.specs.Standing.{IsAfter}
-use Rattle.mvo_world.specs.Closing.{NoneIsPreparing, IsLeastEnd, IsLowWaterOf, last_of_marks, last_closed, IsAllClosed, untaken, IsJustClosing}
+use Rattle.mvo_world.specs.Closing.{IsPreparingWriter, NoneIsPreparing, IsLeastEnd, IsLowWaterOf, last_of_marks, last_closed, IsAllClosed, untaken, IsJustClosing}
 use Rattle.mvo_world.specs.Replies.{IsReplyTo}
 use Rattle.mvo_world.specs.declared.event.Event.TheVariants.{CloseGroup}
 use Rattle.mvo_world.specs.declared.reply.Reply.TheVariants.{Closed, Refused}
 use Rattle.mvo_core.specs.declared.answers.Closed as closing
 use Rattle.mvo_world.proofs.Standing.{mark_after-append, follow_to}
+use Rattle.mvo_world.proofs.WholeJustified.{preparing_own, preparing_whole}
 
 -- ---- who is Preparing
 not_prepared : (q : Phase) (e : ℕ) → is_preparing q ≡ false → q ≡ Preparing e → ⊥
@@ -95,22 +100,35 @@ first_open (x ∷ xs) e rise q = go x.settled refl q (first_open xs e rise.1)
           least = ((λ _. omega (arith, same)), each_weaker (λ y. x.end < y.end) (λ y. y.settled ≡ false → e ≤ y.end) (λ y l _. omega (arith, l, same)) xs rise.0);
         }
 
-module _ (p : Past) (s : State) (kept : IsKept p.rows p.steps s) (counted : HasCounts p.mark p.steps s) where
-  prepares : (t e : ℕ) → phase_of t p.steps ≡ Preparing e → (x : StampedTx) × (preparing_of t s.stamped ≡ Some x) × (x.end ≡ e)
-  prepares t e q = who_prepares (active_of t s.active) (preparing_of t s.stamped) (ended_of t s.ended) e (sym (kept.after_trace.phases t) ∙ q)
+module _ (p : Past) (own : Course) (w : WholeState) (f : IsFollowed (course_of p) own w) (readers : KnowsReaders p.read_only p.steps w) where
+  abbrev s : State
+  s = w.core
+
+  abbrev kept : IsKept own.rows own.steps s
+  kept = f.kept.kept
+
+  -- who may have written is Preparing in both traces
+  own_phase : (t e : ℕ) → IsPreparingWriter p t e → phase_of t own.steps ≡ Preparing e
+  own_phase t e q = preparing_own p.read_only (course_of p) own w f readers t e q.writes q.preparing
+
+  is_writer : (t e : ℕ) → phase_of t own.steps ≡ Preparing e → IsPreparingWriter p t e
+  is_writer t e q = let both = preparing_whole p.read_only (course_of p) own w f readers t e q in record { preparing = both.1; writes = both.0 }
+
+  prepares : (t e : ℕ) → IsPreparingWriter p t e → (x : StampedTx) × (preparing_of t s.stamped ≡ Some x) × (x.end ≡ e)
+  prepares t e q = who_prepares (active_of t s.active) (preparing_of t s.stamped) (ended_of t s.ended) e (sym (kept.after_trace.phases t) ∙ own_phase t e q)
 
   none_prepares : AllByRecursion (λ x. x.settled ≡ true) s.stamped → NoneIsPreparing p
   none_prepares all t e q =
-      let f = prepares t e q in
-      let m = found_in t s.stamped f.0 f.1 in
-      true≢false (sym (m.0 (λ x. x.settled ≡ true) all) ∙ (split_at t s.stamped f.0 f.1).4)
+      let y = prepares t e q in
+      let m = found_in t s.stamped y.0 y.1 in
+      true≢false (sym (m.0 (λ x. x.settled ≡ true) all) ∙ (split_at t s.stamped y.0 y.1).4)
 
   least_end : (e n : ℕ) → IsFirstOpen s.stamped e → e ≡ n + 1 → IsLeastEnd p (n + 1)
   least_end e n i is = record {
     tx = i.x.id;
-    preparing = kept.after_trace.phases i.x.id ∙ preparing_phase s i.x i.among i.open' kept.single ∙ ap Preparing (i.ends ∙ is);
-    least = λ t f q.
-        let y = prepares t f q in
+    preparing = is_writer i.x.id (n + 1) (kept.after_trace.phases i.x.id ∙ preparing_phase s i.x i.among i.open' kept.single ∙ ap Preparing (i.ends ∙ is));
+    least = λ t g q.
+        let y = prepares t g q in
         let m = found_in t s.stamped y.0 y.1 in
         let l = m.0 (λ x. x.settled ≡ false → e ≤ x.end) i.least (split_at t s.stamped y.0 y.1).4 in
         let ends = y.2 in
@@ -121,7 +139,7 @@ module _ (p : Past) (s : State) (kept : IsKept p.rows p.steps s) (counted : HasC
   low_is = go (least_open s.stamped) refl
     where
       go : (o : Option ℕ) → least_open s.stamped ≡ o → IsLowWaterOf p (below_open s.clock o)
-      go None q = inl (none_prepares (all_settled s.stamped q), counted.clock)
+      go None q = inl (none_prepares (all_settled s.stamped q), clock_drawn (course_of p) own w f)
       go (Some e) q =
           let i = first_open s.stamped e kept.sound.rising q in
           let begun = (i.among (IsPlaced s.stamped s.clock) kept.sound.placed).begun in
@@ -142,20 +160,20 @@ last_marks m [] = refl
 last_marks m (g ∷ gs) = last_marks g.mark gs
 
 module _ {D : Type 0} (d : Ghosts D) (p : Past) (w : WorldData D) (h : IsAfter d p w) (linked : IsLinked w) where
-  closed_is : h.state.marks.closed ≡ last_closed p
+  closed_is : h.state.core.marks.closed ≡ last_closed p
   closed_is =
-      ap (λ (m : Marks). m.closed) h.core.marks
+      ap (λ (m : Marks). m.closed) h.core.core.marks
       ∙ sym (follow_to (mark_of w.store) (closed_mark_of w.core) (waiting w) linked)
       ∙ ap (λ (m : ℕ). mark_after m (waiting w)) h.mark
       ∙ sym (mark_after-append p.mark h.sent (waiting w))
       ∙ last_marks p.mark (h.sent ++ waiting w)
       ∙ ap (last_of_marks p.mark) h.marks
 
-  none_left : (low_water h.state == h.state.marks.closed) ≡ true → IsAllClosed p
-  none_left e = subst (IsLowWaterOf p) (eqb-true (low_water h.state) h.state.marks.closed e ∙ closed_is) (low_is p h.state h.core.versions.kept h.counted)
+  none_left : (low_water h.state.core == h.state.core.marks.closed) ≡ true → IsAllClosed p
+  none_left e = subst (IsLowWaterOf p) (eqb-true (low_water h.state.core) h.state.core.marks.closed e ∙ closed_is) (low_is p h.own h.state h.followed h.readers)
 
-  one_left : (low_water h.state == h.state.marks.closed) ≡ false → IsAllClosed p → ⊥
-  one_left e all = true≢false (sym (eq-eqb (low_water h.state) h.state.marks.closed (low_one p h.state h.core.versions.kept h.counted (last_closed p) all ∙ sym closed_is)) ∙ e)
+  one_left : (low_water h.state.core == h.state.core.marks.closed) ≡ false → IsAllClosed p → ⊥
+  one_left e all = true≢false (sym (eq-eqb (low_water h.state.core) h.state.core.marks.closed (low_one p h.own h.state h.followed h.readers (last_closed p) all ∙ sym closed_is)) ∙ e)
 
   has_room : is_full w.ring ≡ false → untaken p < RING_GROUPS
   has_room e =
@@ -168,30 +186,32 @@ module _ {D : Type 0} (d : Ghosts D) (p : Past) (w : WorldData D) (h : IsAfter d
   has_none e = let l = eqb-true (length w.ring) RING_GROUPS e in let u = h.untaken in omega (arith, l, u)
 
   abbrev nothing : Option Refusal
-  nothing = when (low_water h.state == h.state.marks.closed) NothingToDo
+  nothing = when (low_water h.state.core == h.state.core.marks.closed) NothingToDo
 
   abbrev full : Option Refusal
   full = when (is_full w.ring) RingFull
 
   -- neither stands
-  free : why_not_close h.state (is_full w.ring) ≡ None → (IsAllClosed p → ⊥) × (untaken p < RING_GROUPS)
+  free : why_not_close h.state.core (is_full w.ring) ≡ None → (IsAllClosed p → ⊥) × (untaken p < RING_GROUPS)
   free e =
       let none = none_is (nothing ∷ full ∷ []) e in
-      (one_left (when_none (low_water h.state == h.state.marks.closed) NothingToDo none.0), has_room (when_none (is_full w.ring) RingFull none.1.0))
+      (one_left (when_none (low_water h.state.core == h.state.core.marks.closed) NothingToDo none.0), has_room (when_none (is_full w.ring) RingFull none.1.0))
 
   stands : (r : Refusal) → FirstOf (nothing ∷ full ∷ []) r → IsJustClosing p (Refused r)
-  stands r (inl e) = let q = when_some (low_water h.state == h.state.marks.closed) NothingToDo r e in subst (λ (v : Refusal). IsJustClosing p (Refused v)) (sym q.1) (none_left q.0)
+  stands r (inl e) = let q = when_some (low_water h.state.core == h.state.core.marks.closed) NothingToDo r e in subst (λ (v : Refusal). IsJustClosing p (Refused v)) (sym q.1) (none_left q.0)
   stands r (inr (n, inl e)) =
       let q = when_some (is_full w.ring) RingFull r e in
-      subst (λ (v : Refusal). IsJustClosing p (Refused v)) (sym q.1) (one_left (when_none (low_water h.state == h.state.marks.closed) NothingToDo n), has_none q.0)
+      subst (λ (v : Refusal). IsJustClosing p (Refused v)) (sym q.1) (one_left (when_none (low_water h.state.core == h.state.core.marks.closed) NothingToDo n), has_none q.0)
   stands r (inr (n, inr m)) = absurd m.1
 
-  refused_so : (r : Refusal) (v : Option Refusal) → why_not_close h.state (is_full w.ring) ≡ v → IsRefusal true v r → IsJustClosing p (Refused r)
+  refused_so : (r : Refusal) (v : Option Refusal) → why_not_close h.state.core (is_full w.ring) ≡ v → IsRefusal true v r → IsJustClosing p (Refused r)
   refused_so r (Some why) e q = stands r (first_is (nothing ∷ full ∷ []) r (e ∙ ap (λ (v : Refusal). Some v) (sym q))).is
   refused_so r None e q = subst (λ (v : Refusal). IsJustClosing p (Refused v)) (sym q) (free e)
 
   pub closed_so : (c : closing.Closed) (w' : WorldData D) → IsReplyTo d w CloseGroup (Closed c) w' → IsJustClosing p (Closed c)
-  closed_so c w' q = free (q.closing p.rows p.steps h.state h.core).0
+  closed_so c w' q =
+      let told = q.closing p.rows p.steps h.own.steps h.state h.core in
+      free (subst (λ (b : Bool). why_not_close h.state.core b ≡ None) (sym told.0) told.1.2.leads.may.0)
 
   pub unclosed_so : (r : Refusal) (w' : WorldData D) → IsReplyTo d w CloseGroup (Refused r) w' → IsJustClosing p (Refused r)
-  unclosed_so r w' q = refused_so r (why_not_close h.state (is_full w.ring)) refl (q.closing p.rows p.steps h.state h.core).0.refused
+  unclosed_so r w' q = refused_so r (why_not_close h.state.core (is_full w.ring)) refl ((q.closing p.rows p.steps h.own.steps h.state h.core).0 (record { prev = 0; mark = 0; commits = [] })).may

@@ -18,19 +18,23 @@ use Rattle.mvo_theory.specs.Causes.{is_failure}
 use Rattle.mvo_theory.specs.Sound.{IsPast}
 use Rattle.mvo_theory.specs.State.{State, StampedTx, after_settled}
 use Rattle.mvo_theory.specs.Steps.{steps_of_refusal}
+use Rattle.mvo_theory.specs.rests.Course.{Course}
+use Rattle.mvo_readonly.specs.Whole.{WholeState}
+use Rattle.mvo_readonly.specs.rests.Followed.{IsFollowed}
+use Rattle.mvo_readonly.proofs.Serials.{rows_up_to_same}
 use Rattle.mvo_core.specs.declared.answers.Settlement.TheVariants.{Committed}
 use Rattle.mvo_core.specs.declared.answers.Finishing.TheVariants.{Done}
 use Rattle.mvo_core.specs.Collection.{Collection}
 use Rattle.mvo_core.specs.Collection.TheVariants.{Collected, Nothing}
 use Rattle.mvo_core.specs.Counting.{version_count, versions_put, HasAsMany, HasTakenOne, HasOneEach}
 use Rattle.mvo_core.specs.Data.{CoreData}
-use Rattle.mvo_core.specs.Standing.{StandsFor}
+use Rattle.mvo_core.specs.WholeStanding.{StandsWhole}
 use Rattle.mvo_core.proofs.RowsHeld.{rows_have_versions}
 use Rattle.mvo_world.specs.Collecting.{put_in, versions_ever, rows_at_start, IsJustCollection}
 use Rattle.mvo_world.specs.Forgetting.{tale_start}
-use Rattle.mvo_world.specs.Past.{Past, happened, collected_by}
+use Rattle.mvo_world.specs.Past.{Past, course_of, happened, collected_by}
 use Rattle.mvo_world.specs.declared.event.Event.{Event}
-use Rattle.mvo_world.specs.declared.event.Event.TheVariants.{Begin, Do, Precommit, Validate, Settle, Rollback, Finish, Collect}
+use Rattle.mvo_world.specs.declared.event.Event.TheVariants.{Begin, BeginReadOnly, Do, Precommit, Validate, Settle, Rollback, Finish, Collect}
 use Rattle.mvo_world.specs.declared.reply.Reply.{Reply}
 use Rattle.mvo_world.specs.declared.reply.Reply.TheVariants.{Began, Answered, Prepared, Validated, Settled, RolledBack, Finished, Refused, Collected as CollectedReply}
 
@@ -66,6 +70,7 @@ PutsNone e r = ⊤
 
 none_happened : (e : Event) (r : Reply) → PutsNone e r → put_in (happened e r) ≡ 0
 none_happened Begin (Began t) h = refl
+none_happened BeginReadOnly (Began t) h = refl
 none_happened (Do t op) (Answered a) h = absurd h
 none_happened (Do t op) (Refused r) h = none_refused t.0 r
 none_happened (Precommit t) (Prepared e) h = refl
@@ -132,11 +137,12 @@ base_is rows steps s k =
     ∙ sym k.after_trace.base
 
 -- each has a version
-pub rows_held : (p : Past) (s : State) (c : CoreData) → StandsFor p.rows p.steps s c → tale_start p ≡ s.start → fin.len (rows_at_start p) ≤ version_count c
-rows_held p s c stands start =
+pub rows_held : (p : Past) (own : Course) (w : WholeState) (c : CoreData) → IsFollowed (course_of p) own w → StandsWhole p.rows p.steps own.steps w c → fin.len (rows_at_start p) ≤ version_count c
+rows_held p own w c f stands =
+    let start : tale_start p ≡ w.core.start = f.joint.now ∙ f.knows.start in
     subst (λ (m : Map). fin.len m ≤ version_count c)
-    (sym (ap (λ (n : ℕ). rows_up_to n p.rows p.steps) start ∙ base_is p.rows p.steps s stands.versions.kept))
-    (rows_have_versions p.rows p.steps s c stands)
+    (sym (ap (λ (n : ℕ). rows_up_to n p.rows p.steps) start ∙ rows_up_to_same p.rows p.steps own.steps w w.core.start stands.kept ∙ base_is p.rows own.steps w.core stands.kept.kept))
+    (rows_have_versions p.rows own.steps w.core c stands.core)
 
 -- a version was there to be taken
 pub collected_so : (p : Past) (old new : CoreData) (c : Collection) → version_count old + p.collected ≡ versions_ever p → HasTakenOne old c new → fin.len (rows_at_start p) ≤ version_count new → IsJustCollection p c

@@ -1,5 +1,5 @@
 -- What the calls of the two ends of the ring make of it.
-use Rattle.std.proofs.Common.{◌≡◌, ◌≤◌, ◌+◌, ℕ, Bool, false, List, [], ◌∷◌, ◌++◌, length, drop, None, Result, Ok, Err, refl, sym, ap, ◌∙◌, subst, arith, append_assoc}
+use Rattle.std.proofs.Common.{◌≡◌, ◌≤◌, ◌+◌, ℕ, Bool, false, List, [], ◌∷◌, ◌++◌, length, drop, Result, Ok, Err, refl, sym, ap, ◌∙◌, subst, arith, append_assoc}
 use Rattle.std.specs.Prelude.{◌==◌}
 use Rattle.std.specs.Cmp.{both_ways}
 use Rattle.std.proofs.lemmas.Bool.{eqb-true, eq-eqb, ne_eqb}
@@ -9,11 +9,10 @@ use Rattle.mvo_types.specs.declared.refusal.Refusal.{Refusal}
 use Rattle.mvo_types.specs.Keys.{Map}
 use Rattle.mvo_model.specs.Trace.{Step}
 use Rattle.mvo_group.specs.Data.{GroupData}
-use Rattle.mvo_theory.specs.State.{State}
-use Rattle.mvo_theory.specs.Causes.{why_not_close}
+use Rattle.mvo_readonly.specs.Whole.{WholeState}
 use Rattle.mvo_core.specs.declared.answers.Closed.{Closed}
 use Rattle.mvo_core.specs.Data.{CoreData}
-use Rattle.mvo_core.specs.Closing.{HasClosed, IsNotClosed}
+use Rattle.mvo_core.specs.WholeClosing.{HasClosedWhole, IsNotClosedWhole}
 use Rattle.rtrb.specs.declared.producer.Producer.{Producer}
 use Rattle.rtrb.specs.declared.consumer.Consumer.{Consumer}
 use Rattle.rtrb.specs.Ring.{sent, received, known_free, known_items, producer_capacity, IsPair, SameProducer, SameConsumer, ProducerLooked, ConsumerLooked}
@@ -95,19 +94,19 @@ module _ {A P : Type 0} where
         let n = length-append (in_ring p0 c0) (g ∷ []) in
         ne_eqb (length (in_ring p0 c0)) RING_GROUPS (λ z. omega (arith, later, n, z))
 
-    pub closed_into : (opening : Map) (steps : List Step) (s : State) (result : Result Closed Refusal) (new : CoreData) → HasClosed opening steps s p1 result new p2 → HasClosedInto opening steps s (in_ring p0 c0) result new (in_ring p4 c4)
-    closed_into opening steps s (Ok c) new h =
-        let g = h.1.0 in
-        let is = h.1.1 in (
-          subst (λ (b : Bool). why_not_close s b ≡ None) (sym (not_full g is)) h.0,
+    pub closed_into : (opening : Map) (steps own : List Step) (s : WholeState) (result : Result Closed Refusal) (new : CoreData) → HasClosedWhole opening steps own s p1 result new p2 → HasClosedInto opening steps own s (in_ring p0 c0) result new (in_ring p4 c4)
+    closed_into opening steps own s (Ok c) new h =
+        let g = h.0 in
+        let is = h.1 in (
+          not_full g is,
           (
             g,
             in_ring_then (in_ring p0 c0 ++ g ∷ []) (is ∙ ap (λ gs. gs ++ g ∷ []) before ∙ append_assoc (received c0) (in_ring p0 c0) (g ∷ [])),
-            h.1.2,
+            h.2,
           ),
         )
-    closed_into opening steps s (Err r) new h = (
-      subst (λ (b : Bool). IsNotClosed opening steps s b r new) (full_is h.1.1 h.1.2) h.0,
+    closed_into opening steps own s (Err r) new h = (
+      subst (λ (b : Bool). IsNotClosedWhole opening steps own s b r new) (full_is h.1.1 h.1.2) h.0,
       in_ring_then (in_ring p0 c0) (h.1.1 ∙ before),
     )
 

@@ -1,12 +1,9 @@
--- When a trim is refused, by the past.
-use Rattle.std.proofs.Common.{◌≡◌, ℕ, ◌≤◌, ◌<◌, Bool, true, false, cond, not, List, [], ◌∷◌, ◌++◌, Option, None, Some, map, refl, sym, ap, ◌∙◌, subst, arith}
+-- When a trim is refused, by what happened to the core's own.
+use Rattle.std.proofs.Common.{◌≡◌, ℕ, ◌+◌, ◌≤◌, ◌<◌, Bool, true, false, cond, not, List, [], ◌∷◌, ◌++◌, Option, None, Some, length, map, refl, sym, ap, ◌∙◌, subst, arith}
 use Rattle.std.specs.Prelude.{◌==◌, nat_le, nat_lt, ◌&&◌}
 use Rattle.std.specs.List.{AllByRecursion}
 use Rattle.std.proofs.lemmas.Bool.{true≢false, false≢true, eqb-true, eq-eqb, and_parts, and_from, ltb-true, lt-ltb, leb-true, leb-false, le-leb}
-use Rattle.mvo_types.specs.declared.refusal.Refusal.{Refusal}
-use Rattle.mvo_types.specs.declared.refusal.Refusal.TheVariants.{NothingToDo, OutOfMemory}
-use Rattle.mvo_types.specs.Causes.{when, first_cause}
-use Rattle.mvo_model.specs.Trace.{Phase}
+use Rattle.mvo_model.specs.Trace.{Phase, phase_of}
 use Rattle.mvo_model.specs.Trace.Phase.{Absent}
 use Rattle.mvo_theory.specs.State.{State, ActiveTx, StampedTx, EndedTx, Outcome, active_of, preparing_of, ended_of}
 use Rattle.mvo_theory.specs.State.Outcome.{Committed, Aborted}
@@ -14,15 +11,12 @@ use Rattle.mvo_theory.specs.Phases.{ended_as, phase_by, is_absent}
 use Rattle.mvo_theory.specs.Marks.{oldest_begin, low_water, open_begins, least, least_open, below_open}
 use Rattle.mvo_theory.specs.Sound.{IsPlaced}
 use Rattle.mvo_theory.specs.Causes.{is_trim}
-use Rattle.mvo_theory.specs.Calls.{IsKept, IsRefusal, MayCome}
-use Rattle.mvo_theory.specs.Calls.Call.{Trim}
-use Rattle.mvo_theory.specs.Calls.Result.{Accepted, Refused as RefusedCall}
+use Rattle.mvo_theory.specs.Calls.{IsKept}
 use Rattle.mvo_theory.specs.Counted.{HasCounts}
+use Rattle.mvo_theory.specs.Counts.{draws}
+use Rattle.mvo_theory.specs.rests.Course.{Course, start_behind}
 use Rattle.mvo_theory.specs.rests.Known.{KnowsRests}
 use Rattle.mvo_theory.proofs.Each.{each_append, each_weaker}
-use Rattle.mvo_theory.proofs.Trimmed.{passes}
-use Rattle.mvo_world.specs.Past.{Past, course_of}
-use Rattle.mvo_world.specs.Forgetting.{MayBeTrimmed}
 
 absent_not : (p : Phase) → p ≡ Absent → is_absent p ≡ false → ⊥
 absent_not p e f = true≢false (sym (ap is_absent e) ∙ f)
@@ -157,8 +151,14 @@ low_from m clock (x ∷ xs) c h b = go x.settled h (low_from m clock xs c)
     go true g r = r g b.1
     go false g r = let l = g.0 in let e = b.0 in omega (arith, l, e)
 
-module _ (p : Past) (s : State) (kept : IsKept p.rows p.steps s) (counted : HasCounts p.mark p.steps s) (rests : KnowsRests (course_of p) s) (m : ℕ) where
-  may_be : is_trim s m ≡ true → MayBeTrimmed p m
+-- so may the core's own tale be trimmed, by what happened: as `MayTrim` without read-only ones
+pub record MayTrimOwn (c : Course) (stamp : ℕ) : Type 0 where
+  pub above : start_behind c.mark c.trims (length c.steps) < stamp
+  pub drawn : stamp ≤ c.mark + draws c.steps
+  pub finished : (t : ℕ) → t < stamp → phase_of t c.steps ≡ Absent
+
+module _ (p : Course) (s : State) (kept : IsKept p.rows p.steps s) (counted : HasCounts p.mark p.steps s) (rests : KnowsRests p s) (m : ℕ) where
+  pub may_be : is_trim s m ≡ true → MayTrimOwn p m
   may_be e =
       let parts = and_parts (nat_lt s.start m) (nat_le m (oldest_begin s) && nat_le m (low_water s)) e in
       let rest = and_parts (nat_le m (oldest_begin s)) (nat_le m (low_water s)) parts.1 in
@@ -171,7 +171,7 @@ module _ (p : Past) (s : State) (kept : IsKept p.rows p.steps s) (counted : HasC
         finished = λ t lt. kept.after_trace.phases t ∙ absent_by (active_of t s.active) (preparing_of t s.stamped) (ended_of t s.ended) (active_none m s.active first.0 t lt) (preparing_none m s.stamped others.0 t lt) (ended_none m s.ended others.1 t lt);
       }
 
-  may : MayBeTrimmed p m → is_trim s m ≡ true
+  pub may : MayTrimOwn p m → is_trim s m ≡ true
   may h =
       let none : (t : ℕ) → t < m → (active_of t s.active ≡ None) × (preparing_of t s.stamped ≡ None) × (ended_of t s.ended ≡ None) = λ t lt. nowhere (active_of t s.active) (preparing_of t s.stamped) (ended_of t s.ended) (sym (kept.after_trace.phases t) ∙ h.finished t lt) in
       let drawn : m ≤ s.clock = subst (λ (n : ℕ). m ≤ n) (sym counted.clock) h.drawn in
@@ -181,16 +181,3 @@ module _ (p : Past) (s : State) (kept : IsKept p.rows p.steps s) (counted : HasC
       and_from (nat_lt s.start m) (nat_le m (oldest_begin s) && nat_le m (low_water s)) (lt-ltb s.start m (subst (λ (n : ℕ). n < m) rests.start h.above))
       (and_from (nat_le m (oldest_begin s)) (nat_le m (low_water s)) (le-leb m (oldest_begin s) (least_from m s.clock (map (λ (r : ActiveTx). r.id) s.active ++ (open_begins s.stamped ++ map (λ (u : EndedTx). u.id) s.ended)) drawn all))
       (le-leb m (low_water s) (low_from m s.clock s.stamped drawn begins (each_weaker (IsPlaced s.stamped s.clock) (λ x. x.id < x.end) (λ x g. g.begun) s.stamped kept.sound.placed))))
-
-  pub trimmed_so : MayCome s (Trim m) Accepted → MayBeTrimmed p m
-  trimmed_so q = may_be (passes (is_trim s m) q.0)
-
-  pub nothing_so : MayCome s (Trim m) (RefusedCall NothingToDo) → MayBeTrimmed p m → ⊥
-  nothing_so q h = go (is_trim s m) (may h) q
-    where
-      no_memory : ◌≡◌ {A = Refusal} NothingToDo OutOfMemory → ⊥
-      no_memory e = cc
-
-      go : (b : Bool) → b ≡ true → IsRefusal true (first_cause (when (not b) NothingToDo ∷ [])) NothingToDo → ⊥
-      go true e f = no_memory f
-      go false e f = false≢true e

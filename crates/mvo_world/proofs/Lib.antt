@@ -4,6 +4,10 @@ pub mod Standing
 mod Forgetting
 mod Closing
 mod Finishing
+mod WholeFinishing
+pub mod WholeReaders
+mod WholeOrder
+mod WholeJustified
 pub mod Collecting
 mod Order
 pub mod Justified

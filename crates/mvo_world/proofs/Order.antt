@@ -23,23 +23,24 @@ use Rattle.mvo_theory.specs.Calls.Result.{Accepted, Refused}
 use Rattle.mvo_theory.specs.Counts.{unfinished_in}
 use Rattle.mvo_theory.specs.Counted.{HasCounts}
 use Rattle.mvo_theory.specs.Justified.{table_asked, data_len_of, IsWriteTooMany, CauseStands, IsJustified}
+use Rattle.mvo_theory.specs.rests.Course.{Course}
 use Rattle.mvo_theory.proofs.Firsts.{FirstOf, first_is, when_none, when_some, flagged_some, conflicts_some, differs_some, none_refusal, runs}
 use Rattle.mvo_theory.proofs.Conflicting.{told_so}
-use Rattle.mvo_world.specs.Past.{Past}
-use Rattle.mvo_world.specs.Order.{cause_place, NoneBefore}
+use Rattle.mvo_world.specs.Order.{cause_place}
+use Rattle.mvo_world.specs.WholeJustified.{NoneBefore}
 
 -- ---- what is known only where one number is below another
-abbrev Given : Bool → Type 0 → Type 0
+abbrev pub Given : Bool → Type 0 → Type 0
 Given true A = A
 Given false A = ⊤
 
-abbrev If : ℕ → ℕ → Type 0 → Type 0
+abbrev pub If : ℕ → ℕ → Type 0 → Type 0
 If k n A = Given (nat_lt k n) A
 
-known : (A : Type 0) (k n : ℕ) → k < n → If k n A → A
+pub known : (A : Type 0) (k n : ℕ) → k < n → If k n A → A
 known A k n lt a = subst (λ (b : Bool). Given b A) (lt-ltb k n lt) a
 
-not_above : (m n : ℕ) → nat_lt m n ≡ false → m < n → ⊥
+pub not_above : (m n : ℕ) → nat_lt m n ≡ false → m < n → ⊥
 not_above m n e f = true≢false (sym (lt-ltb m n f) ∙ e)
 
 not_at_least : (m n : ℕ) → nat_le m n ≡ false → m ≤ n → ⊥
@@ -58,7 +59,7 @@ fails stamped (Some x) r e = go x.valid (slice_get (entries x.history) x.checked
     go false None q = absurd (none_refusal r q)
     go false (Some y) q = ap cause_place (differs_some (change_of stamped x.id x.end y) r q).2
 
-module _ (p : Past) (s : State) (kept : IsKept p.rows p.steps s) (counted : HasCounts p.mark p.steps s) where
+module _ (p : Course) (s : State) (kept : IsKept p.rows p.steps s) (counted : HasCounts p.mark p.steps s) where
   -- no cause at a place below n stands
   abbrev Below : Call → ℕ → Type 0
   Below c n = (v : Refusal) → cause_place v < n → CauseStands p.rows p.mark p.steps c v → ⊥
@@ -303,7 +304,7 @@ module _ (p : Past) (s : State) (kept : IsKept p.rows p.steps s) (counted : HasC
   no_memory (Rollback t) just v lt e = just v e
   no_memory (Finish t) just v lt e = just v e
 
-  pub first_cause_stands : (c : Call) (r : Result) → MayCome s c r → IsJustified p.rows p.mark p.steps c r → NoneBefore p c r
+  pub first_cause_stands : (c : Call) (r : Result) → MayCome s c r → IsJustified p.rows p.mark p.steps c r → NoneBefore false p c r
   first_cause_stands c Accepted m just = tt
   first_cause_stands c (Refused r) m just = go (why_not s c) refl (takes_memory c) m
     where

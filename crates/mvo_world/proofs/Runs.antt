@@ -17,7 +17,9 @@ use Rattle.mvo_store.specs.Opening.{IsAnswer, HasBegun, LeavesAsBefore}
 use Rattle.mvo_store.proofs.Marked.{same_answer, same_rows}
 use Rattle.std.specs.Option.{option_to_list}
 use Rattle.mvo_group.specs.Data.{GroupData}
-use Rattle.mvo_theory.specs.State.{Marks, opened}
+use Rattle.mvo_theory.specs.State.{Marks}
+use Rattle.mvo_readonly.specs.Whole.{opened_whole}
+use Rattle.mvo_readonly.proofs.WholeRuns.{whole_opened}
 use Rattle.mvo_theory.proofs.Chain.{chained_opened}
 use Rattle.mvo_core.specs.Counting.{HasOneEach}
 use Rattle.mvo_core.specs.Seen.{closed_mark_of}
@@ -69,7 +71,7 @@ module _ {D : Type 0} (d : Ghosts D) where
     sound_here =
         let wait : waiting w ≡ [] = ap (λ (q : Option GroupData). option_to_list q ++ w.ring) begins.pending ∙ none in
         record {
-          core = record { opening = rows; steps = []; state = opened rows mark; stands = core; closed = (chained_opened rows mark).closed };
+          core = record { opening = rows; steps = []; own = []; whole = opened_whole rows mark; stands = record { core = core; kept = whole_opened rows mark }; closed = (chained_opened rows mark).closed };
           linked = subst (λ (gs : List GroupData). Follow (mark_of w.store) gs (closed_mark_of w.core)) (sym wait) (begins.mark_is ∙ ap (λ (m : Marks). m.closed) core.marks);
         }
 

@@ -7,8 +7,10 @@ use Rattle.mvo_disk.specs.declared.disk.Disk.{Ghosts}
 use Rattle.mvo_disk.specs.Disk.{Image}
 use Rattle.mvo_group.specs.Data.{GroupData}
 use Rattle.mvo_theory.specs.State.{State}
+use Rattle.mvo_theory.specs.Calls.{IsKept}
 use Rattle.mvo_theory.proofs.AfterTrace.{rising_all}
 use Rattle.mvo_theory.proofs.Each.{each_weaker}
+use Rattle.mvo_readonly.proofs.Serials.{rows_up_to_same}
 use Rattle.mvo_store.specs.Frames.{mark_after}
 use Rattle.mvo_store.specs.Rows.{after_groups}
 use Rattle.mvo_store.proofs.Grown.{after_groups-append}
@@ -61,7 +63,13 @@ opening_pending s g e = go _ _ e
     go false o f = absurd cc
 
 module _ {D : Type 0} (d : Ghosts D) (p : Past) (w : WorldData D) (h : IsAfter d p w) where
-  prefix_of : (image : Image) → HasSlots image → (gs hs : List GroupData) → HaveRecordsOf h.state p.mark (gs ++ hs) → map (λ g. g.mark) (gs ++ hs) ≡ p.closed → AllByRecursion (λ m. m ≤ mark_after p.mark gs) p.acknowledged → Gives (after_groups p.rows gs) (mark_after p.mark gs) image → RecoversPrefix p image
+  abbrev s : State
+  s = h.state.core
+
+  kept : IsKept p.rows h.own.steps s
+  kept = h.core.kept.kept
+
+  prefix_of : (image : Image) → HasSlots image → (gs hs : List GroupData) → HaveRecordsOf s p.mark (gs ++ hs) → map (λ g. g.mark) (gs ++ hs) ≡ p.closed → AllByRecursion (λ m. m ≤ mark_after p.mark gs) p.acknowledged → Gives (after_groups p.rows gs) (mark_after p.mark gs) image → RecoversPrefix p image
   prefix_of image slots gs hs groups marks covers gives = record {
     slots = slots;
     rows = after_groups p.rows gs;
@@ -69,8 +77,9 @@ module _ {D : Type 0} (d : Ghosts D) (p : Past) (w : WorldData D) (h : IsAfter d
     gives = gives;
     prefix = record {
       rows_are = ap (λ cs. after_groups (left_by_all cs p.rows) gs) (sym h.none)
-          ∙ chain_rows h.state p.mark gs p.rows (rising_all h.state h.core.versions.kept.sound h.core.versions.kept.started) (groups_front h.state p.mark gs hs groups)
-          ∙ sym (rows_up_to_is (mark_after p.mark gs) p.rows p.steps h.state h.core.versions.kept.after_trace);
+          ∙ chain_rows s p.mark gs p.rows (rising_all s kept.sound kept.started) (groups_front s p.mark gs hs groups)
+          ∙ sym (rows_up_to_is (mark_after p.mark gs) p.rows h.own.steps s kept.after_trace)
+          ∙ sym (rows_up_to_same p.rows p.steps h.own.steps h.state (mark_after p.mark gs) h.core.kept);
       known = subst (λ (ms : List ℕ). IsOneOf (mark_after p.mark gs) (p.mark ∷ ms)) marks (one_after p.mark gs hs);
       covers = covers;
     };
@@ -85,9 +94,9 @@ module _ {D : Type 0} (d : Ghosts D) (p : Past) (w : WorldData D) (h : IsAfter d
   with_opening image slots g e gives =
       let wait : waiting w ≡ g ∷ w.ring = ap (λ (q : Option GroupData). option_to_list q ++ w.ring) e in
       let list : h.sent ++ waiting w ≡ (h.sent ++ g ∷ []) ++ w.ring = ap (λ (gs : List GroupData). h.sent ++ gs) wait ∙ sym (append_assoc h.sent (g ∷ []) (w.ring)) in
-      let groups = subst (HaveRecordsOf h.state p.mark) list h.groups in
+      let groups = subst (HaveRecordsOf s p.mark) list h.groups in
       let last : mark_after p.mark (h.sent ++ g ∷ []) ≡ g.mark = mark_after-append p.mark h.sent (g ∷ []) in
-      let up : mark_after p.mark h.sent ≤ g.mark = marks_rise h.state (mark_after p.mark h.sent) (g ∷ []) (groups_back h.state p.mark h.sent (g ∷ []) (groups_front h.state p.mark (h.sent ++ g ∷ []) (w.ring) groups)) in
+      let up : mark_after p.mark h.sent ≤ g.mark = marks_rise s (mark_after p.mark h.sent) (g ∷ []) (groups_back s p.mark h.sent (g ∷ []) (groups_front s p.mark (h.sent ++ g ∷ []) (w.ring) groups)) in
       prefix_of image slots (h.sent ++ g ∷ []) (w.ring) groups (ap (map (λ x. x.mark)) (sym list) ∙ h.marks)
       (each_weaker (λ n. n ≤ mark_of w.store) (λ n. n ≤ mark_after p.mark (h.sent ++ g ∷ [])) (λ n le. omega (arith, le, h.mark, up, last)) p.acknowledged h.covers)
       (subst (λ (m : ℕ). Gives (after_groups p.rows (h.sent ++ g ∷ [])) m image) (sym last)

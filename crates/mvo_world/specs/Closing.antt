@@ -1,23 +1,30 @@
 -- What the past says of the closing of a group: up to where all are settled, and what was closed.
-use Rattle.std.specs.Prelude.{◌≡◌, ◌⊎◌, ◌+◌, ◌-◌, ◌<◌, ◌≤◌, ℕ, List, [], ◌∷◌, length}
+use Rattle.std.specs.Prelude.{◌≡◌, false, ◌⊎◌, ◌+◌, ◌-◌, ◌<◌, ◌≤◌, ℕ, List, [], ◌∷◌, length}
 use Rattle.mvo_types.specs.declared.limits.TheConstants.{RING_GROUPS}
 use Rattle.mvo_types.specs.declared.refusal.Refusal.TheVariants.{NothingToDo, RingFull, OutOfMemory}
 use Rattle.mvo_model.specs.Trace.{phase_of}
 use Rattle.mvo_model.specs.Trace.Phase.{Preparing}
 use Rattle.mvo_world.specs.Past.{Past}
 use Rattle.mvo_world.specs.Forgetting.{last_drawn}
+use Rattle.mvo_world.specs.WholeJustified.{is_among}
 use Rattle.mvo_world.specs.declared.reply.Reply.{Reply}
 use Rattle.mvo_world.specs.declared.reply.Reply.TheVariants.{Closed, Refused}
 
--- no transaction is Preparing
+-- The transaction is Preparing with the end e, and may have written. A read-only one writes
+-- nothing, so no group waits for it.
+pub record IsPreparingWriter (p : Past) (t e : ℕ) : Type 0 where
+  pub preparing : phase_of t p.steps ≡ Preparing e
+  pub writes : is_among t p.read_only ≡ false
+
+-- no such transaction is Preparing
 abbrev pub NoneIsPreparing : Past → Type 0
-NoneIsPreparing p = (t e : ℕ) → phase_of t p.steps ≡ Preparing e → ⊥
+NoneIsPreparing p = (t e : ℕ) → IsPreparingWriter p t e → ⊥
 
 -- it is the least end of those that are Preparing
 pub record IsLeastEnd (p : Past) (e : ℕ) : Type 0 where
   pub tx : ℕ
-  pub preparing : phase_of tx p.steps ≡ Preparing e
-  pub least : (t f : ℕ) → phase_of t p.steps ≡ Preparing f → e ≤ f
+  pub preparing : IsPreparingWriter p tx e
+  pub least : (t f : ℕ) → IsPreparingWriter p t f → e ≤ f
 
 -- the low-water: the last draw, or just below the least end of those that are Preparing
 abbrev pub IsLowWaterOf : Past → ℕ → Type 0

@@ -12,9 +12,7 @@ use Rattle.mvo_theory.specs.Calls as theory
 use Rattle.mvo_theory.specs.Calls.Call.{Begin as BeginCall, Precommit as PrecommitCall, Validate as ValidateCall, Settle as SettleCall, Rollback as RollbackCall, Finish as FinishCall, Do as DoCall}
 use Rattle.mvo_theory.specs.Calls.Result.{Accepted, Refused as RefusedCall}
 use Rattle.mvo_theory.specs.Counts.{draws, checks_in}
-use Rattle.mvo_theory.specs.Justified.{IsJustified}
 use Rattle.mvo_theory.specs.rests.Resting.{IsFirstAwaited, AwaitsNone}
-use Rattle.mvo_theory.specs.rests.Laws.{TellsRests}
 use Rattle.mvo_core.specs.declared.answers.Validation.{Validation}
 use Rattle.mvo_core.specs.declared.answers.Validation.TheVariants.{More, Valid}
 use Rattle.mvo_theory.specs.Words.{word_count}
@@ -28,21 +26,24 @@ use Rattle.mvo_world.specs.Collecting.{IsJustCollection}
 use Rattle.mvo_world.specs.Replies.{HasRow}
 use Rattle.mvo_world.specs.Forgetting.{IsJustTrim}
 use Rattle.mvo_world.specs.Closing.{IsJustClosing}
-use Rattle.mvo_world.specs.Order.{NoneBefore}
+use Rattle.mvo_world.specs.WholeJustified.{is_among, IsJustCall, IsGivenEnd}
 use Rattle.mvo_world.specs.declared.event.Event.{Event}
-use Rattle.mvo_world.specs.declared.event.Event.TheVariants.{Begin, Do, Precommit, Validate, Settle, Rollback, Finish, Collect, Trim, CloseGroup}
+use Rattle.mvo_world.specs.declared.event.Event.TheVariants.{Begin, BeginReadOnly, Do, Precommit, Validate, Settle, Rollback, Finish, Collect, Trim, CloseGroup}
 use Rattle.mvo_world.specs.declared.reply.Reply.{Reply}
 use Rattle.mvo_world.specs.declared.reply.Reply.TheVariants.{Began, Answered, Prepared, Validated, Settled, RolledBack, Finished, Collected, Refused}
 
 -- what the call came to: with the first cause that stands where it is refused, and else with none;
--- and 22 just where one on whom its transaction rests was aborted
+-- and 22 just where one on whom its transaction rests was aborted. A read-only one has other causes
 abbrev pub IsJust : Past → theory.Call → theory.Result → Type 0
-IsJust p c r =
-    IsJustified p.rows p.mark p.steps c r × NoneBefore p c r × TellsRests (course_of p) c r
+IsJust p c r = IsJustCall p.read_only (course_of p) c r
 
 -- the timestamp behind those that were drawn
 abbrev pub IsNextStamp : Past → ℕ → Type 0
 IsNextStamp p n = n ≡ p.mark + draws p.steps + 1
+
+-- the end of a precommit: the next timestamp, or of a read-only one its begin
+abbrev pub IsJustEnd : Past → ℕ → ℕ → Type 0
+IsJustEnd p t e = IsGivenEnd (is_among t p.read_only) (course_of p) t e
 
 -- an operation, with the answer of the serial step on what the transaction sees
 abbrev pub IsJustOperation : Past → ℕ → Op → Reply → Type 0
@@ -77,9 +78,12 @@ abbrev pub IsJustifiedBy : Past → Event → Reply → Type 0
 IsJustifiedBy p Begin (Began t) = IsJust p BeginCall Accepted × IsNextStamp p t.0
 IsJustifiedBy p Begin (Refused r) = IsJust p BeginCall (RefusedCall r)
 IsJustifiedBy p Begin r = ⊥
+IsJustifiedBy p BeginReadOnly (Began t) = IsJust p BeginCall Accepted × IsNextStamp p t.0
+IsJustifiedBy p BeginReadOnly (Refused r) = IsJust p BeginCall (RefusedCall r)
+IsJustifiedBy p BeginReadOnly r = ⊥
 IsJustifiedBy p (Do t op) r = IsJustOperation p t.0 op r
 IsJustifiedBy p (Precommit t) (Prepared e) =
-    IsJust p (PrecommitCall t.0) Accepted × IsNextStamp p e.0
+    IsJust p (PrecommitCall t.0) Accepted × IsJustEnd p t.0 e.0
 IsJustifiedBy p (Precommit t) (Refused r) = IsJust p (PrecommitCall t.0) (RefusedCall r)
 IsJustifiedBy p (Precommit t) r = ⊥
 IsJustifiedBy p (Validate t) (Validated v) =

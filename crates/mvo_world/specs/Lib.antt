@@ -10,6 +10,7 @@ pub mod Collecting
 pub mod Forgetting
 pub mod Closing
 pub mod Order
+pub mod WholeJustified
 pub mod Justified
 pub mod Steps
 pub mod Promise

@@ -1,11 +1,7 @@
 -- The order of the causes: that of a call's refusal is the first of its list that stands.
-use Rattle.std.specs.Prelude.{ℕ, ◌<◌, ⊤}
+use Rattle.std.specs.Prelude.{ℕ}
 use Rattle.mvo_types.specs.declared.refusal.Refusal.{Refusal}
-use Rattle.mvo_types.specs.declared.refusal.Refusal.TheVariants.{NoSuchTransaction, Ended, NotActive, NotPreparing, NotValidated, NotEnded, WriteConflict, ValidationFailed, DependencyAborted, TableFull, TooManyWrites, TooManyReads, DataTooLong, BadTable, ClockSpent}
-use Rattle.mvo_theory.specs.Calls.{Call, Result}
-use Rattle.mvo_theory.specs.Calls.Result.{Accepted, Refused}
-use Rattle.mvo_theory.specs.Justified.{CauseStands}
-use Rattle.mvo_world.specs.Past.{Past}
+use Rattle.mvo_types.specs.declared.refusal.Refusal.TheVariants.{NoSuchTransaction, Ended, NotActive, NotPreparing, NotValidated, NotEnded, WriteConflict, ValidationFailed, DependencyAborted, TableFull, TooManyWrites, TooManyReads, DataTooLong, BadTable, ClockSpent, ReadOnly}
 
 -- Where it stands in the list of its call: one order for the lists of all calls, none of which has
 -- two at one place.
@@ -16,6 +12,7 @@ cause_place NotActive = 2
 cause_place NotPreparing = 2
 cause_place NotEnded = 2
 cause_place (DependencyAborted by) = 3
+cause_place ReadOnly = 4
 cause_place BadTable = 4
 cause_place NotValidated = 4
 cause_place (ValidationFailed stamp) = 4
@@ -26,9 +23,3 @@ cause_place TooManyReads = 6
 cause_place TooManyWrites = 7
 cause_place (WriteConflict cause) = 8
 cause_place r = 9
-
--- no cause stands that comes before the one which is answered
-abbrev pub NoneBefore : Past → Call → Result → Type 0
-NoneBefore p c (Refused r) = (v : Refusal)
-    → cause_place v < cause_place r → CauseStands p.rows p.mark p.steps c v → ⊥
-NoneBefore p c Accepted = ⊤

@@ -11,7 +11,7 @@ use Rattle.mvo_core.specs.declared.answers.Finishing.TheVariants.{More, Done}
 use Rattle.mvo_core.specs.Collection.TheVariants as collection
 use Rattle.mvo_store.specs.declared.call.StoreCall.TheVariants.{AppendOpen}
 use Rattle.mvo_world.specs.declared.event.Event.{Event}
-use Rattle.mvo_world.specs.declared.event.Event.TheVariants.{Begin, Do, Precommit, Validate, Settle, Rollback, Finish, Collect, Trim, CloseGroup, TakeGroup, Store, Poll}
+use Rattle.mvo_world.specs.declared.event.Event.TheVariants.{Begin, BeginReadOnly, Do, Precommit, Validate, Settle, Rollback, Finish, Collect, Trim, CloseGroup, TakeGroup, Store, Poll}
 use Rattle.mvo_world.specs.declared.reply.Reply.{Reply}
 use Rattle.mvo_world.specs.declared.reply.Reply.TheVariants.{Began, Answered, Prepared, Validated, Settled, RolledBack, Finished, Collected, Trimmed, Closed, Taken, Durable, Polled, Refused}
 
@@ -32,6 +32,8 @@ pub record Past : Type 0 where
   pub mores : List ℕ
   -- how many versions were collected
   pub collected : ℕ
+  -- the transactions that began read-only
+  pub read_only : List ℕ
 
 -- just opened over these rows at this mark
 abbrev pub opened_over : Map → ℕ → Past
@@ -45,6 +47,7 @@ opened_over rows mark = record {
   taken = 0;
   mores = [];
   collected = 0;
+  read_only = [];
 }
 
 -- what happened to its transactions, and the trims
@@ -60,6 +63,7 @@ IsSerialPast p = IsSerial p.rows p.steps
 -- What it is in the trace. A refusal that is a failure aborts its transaction.
 abbrev pub happened : Event → Reply → List Step
 happened Begin (Began t) = Begins t.0 ∷ []
+happened BeginReadOnly (Began t) = Begins t.0 ∷ []
 happened (Do t op) (Answered a) = Answers t.0 op (answer_data a) ∷ []
 happened (Do t op) (Refused r) = steps_of_refusal t.0 r
 happened (Precommit t) (Prepared e) = Prepares t.0 e.0 ∷ []
@@ -104,6 +108,11 @@ abbrev pub collected_by : Event → Reply → ℕ
 collected_by Collect (Collected collection.Collected) = 1
 collected_by e r = 0
 
+-- the transaction that began read-only
+abbrev pub read_only_by : Event → Reply → List ℕ
+read_only_by BeginReadOnly (Began t) = t.0 ∷ []
+read_only_by e r = []
+
 abbrev pub with_event : Past → Event → Reply → Past
 with_event p e r = record {
   rows = p.rows;
@@ -115,6 +124,7 @@ with_event p e r = record {
   taken = p.taken + taken_by e r;
   mores = mores_after e r p.mores;
   collected = p.collected + collected_by e r;
+  read_only = p.read_only ++ read_only_by e r;
 }
 
 -- one event with its reply after another

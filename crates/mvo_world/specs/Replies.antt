@@ -8,16 +8,18 @@ use Rattle.mvo_types.specs.declared.answer.Answer.{Answer}
 use Rattle.mvo_types.specs.declared.op.Op.{Op}
 use Rattle.mvo_types.specs.Keys.{Map}
 use Rattle.mvo_model.specs.Trace.{Step}
-use Rattle.mvo_theory.specs.State.{State}
+use Rattle.mvo_readonly.specs.Whole.{WholeState}
+use Rattle.mvo_readonly.specs.WholeCauses.{WholeCall}
+use Rattle.mvo_readonly.specs.WholeCauses.WholeCall.{CoreCall, BeginReadOnly as BeginReadOnlyCall}
 use Rattle.mvo_theory.specs.Calls as theory
 use Rattle.mvo_theory.specs.Calls.Call.{Begin as BeginCall, Precommit as PrecommitCall, Validate as ValidateCall, Settle as SettleCall, Rollback as RollbackCall, Finish as FinishCall, Trim as TrimCall, Do as DoCall}
 use Rattle.mvo_theory.specs.Calls.Result.{Accepted, Refused as RefusedCall}
 use Rattle.mvo_core.specs.Collection.{Collection}
 use Rattle.mvo_core.specs.declared.answers.Closed as closing
 use Rattle.mvo_core.specs.Seen.{closed_mark_of, HasNewVersions}
-use Rattle.mvo_core.specs.Standing.{StandsFor}
-use Rattle.mvo_core.specs.Steps.{LeadsOn, InEach, IsAnswered, IsValidation, IsSettlement, IsFinishing}
-use Rattle.mvo_core.specs.Collecting.{StandsAsBefore, AreFewer}
+use Rattle.mvo_core.specs.WholeStanding.{StandsWhole, LeadsWhole}
+use Rattle.mvo_core.specs.WholeAnswers.{InEachWhole, IsAnsweredWhole, IsFinishingWhole, StandsWholeAsBefore, AreFewerWhole}
+use Rattle.mvo_core.specs.WholeEnds.{IsEndWhole, IsValidationWhole, IsSettlementWhole}
 use Rattle.mvo_core.specs.Trimming.{HasForgotten}
 use Rattle.mvo_store.specs.Seen.{mark_of}
 use Rattle.mvo_store.specs.Causes.{why_not_take}
@@ -30,7 +32,7 @@ use Rattle.mvo_core.specs.Operations.{PutsRow}
 use Rattle.mvo_world.specs.Ring.{oldest, IsClosingInto}
 use Rattle.mvo_world.specs.WorldData.{WorldData}
 use Rattle.mvo_world.specs.declared.event.Event.{Event}
-use Rattle.mvo_world.specs.declared.event.Event.TheVariants.{Begin, Do, Precommit, Validate, Settle, Rollback, Finish, Collect, Trim, CloseGroup, TakeGroup, Store, Poll}
+use Rattle.mvo_world.specs.declared.event.Event.TheVariants.{Begin, BeginReadOnly, Do, Precommit, Validate, Settle, Rollback, Finish, Collect, Trim, CloseGroup, TakeGroup, Store, Poll}
 use Rattle.mvo_world.specs.declared.reply.Reply.{Reply}
 use Rattle.mvo_world.specs.declared.reply.Reply.TheVariants.{Began, Answered, Prepared, Validated, Settled, RolledBack, Finished, Collected, Trimmed, Closed, Taken, Written, Durable, Polled, Ready, Progress, Shut, Installed, Reclaimed, Refused}
 
@@ -47,28 +49,31 @@ why_not_taken w = or_nothing (why_not_take w.store) (oldest w.ring)
 
 -- ---- what an accepted event makes of a world
 
--- The core was asked: from each state that it stands for the call may come to this, and it stands
--- for what that leaves. The ring and the store stay.
-pub record IsAsked {D : Type 0} (w : WorldData D) (c : theory.Call) (r : theory.Result)
+-- The core was asked: from each state that it stands for, read-only transactions among the others,
+-- the call may come to this, and it stands for what that leaves. The ring and the store stay.
+pub record IsAskedWhole {D : Type 0} (w : WorldData D) (c : WholeCall) (r : theory.Result)
     (w' : WorldData D) : Type 0 where
-  pub leads : (opening : Map) (steps : List Step) (s : State) → StandsFor opening steps s w.core
-      → LeadsOn opening steps s c r w'.core
+  pub leads : (opening : Map) (steps own : List Step) (s : WholeState)
+      → StandsWhole opening steps own s w.core → LeadsWhole opening steps own s c r w'.core
   pub rest : w' ≡ record w { core = w'.core }
+
+abbrev pub IsAsked : {D : Type 0} → WorldData D → theory.Call → theory.Result → WorldData D → Type 0
+IsAsked w c r w' = IsAskedWhole w (CoreCall c) r w'
 
 -- an operation was answered: as the serial step answers on the transaction's snapshot
 abbrev pub IsOpAnswered : {D : Type 0} → WorldData D → ℕ → Op → Answer → WorldData D → Type 0
-IsOpAnswered w t op a w' = IsAsked w (DoCall t op) Accepted w' × IsAnswered w.core t op a
+IsOpAnswered w t op a w' = IsAsked w (DoCall t op) Accepted w' × IsAnsweredWhole w.core t op a
 
 -- it is the next timestamp
 abbrev pub IsDrawn : {D : Type 0} → WorldData D → ℕ → Type 0
-IsDrawn w n = InEach w.core (λ s. n ≡ s.clock + 1)
+IsDrawn w n = InEachWhole w.core (λ s. n ≡ s.core.clock + 1)
 
 -- A collection came to this: of the core's versions one that is garbage is fewer, or none was. It
 -- stands for each state that it stood for. All else stays.
 pub record HasCollected {D : Type 0} (w : WorldData D) (c : Collection) (w' : WorldData D) :
     Type 0 where
-  pub counts : AreFewer w.core c w'.core
-  pub stands : StandsAsBefore w.core w'.core
+  pub counts : AreFewerWhole w.core c w'.core
+  pub stands : StandsWholeAsBefore w.core w'.core
   pub versions : HasNewVersions w.core w'.core
   pub rest : w' ≡ record w { core = w'.core }
 
@@ -122,21 +127,24 @@ reply_of (Err r) = Refused r
 abbrev pub IsReplyTo : {D : Type 0} → Ghosts D → WorldData D → Event → Reply → WorldData D → Type 0
 IsReplyTo d w Begin (Began t) w' = IsAsked w BeginCall Accepted w' × IsDrawn w t.0
 IsReplyTo d w Begin (Refused r) w' = IsAsked w BeginCall (RefusedCall r) w'
+IsReplyTo d w BeginReadOnly (Began t) w' =
+    IsAskedWhole w BeginReadOnlyCall Accepted w' × IsDrawn w t.0
+IsReplyTo d w BeginReadOnly (Refused r) w' = IsAskedWhole w BeginReadOnlyCall (RefusedCall r) w'
 IsReplyTo d w (Do t op) (Answered a) w' = IsOpAnswered w t.0 op a w'
 IsReplyTo d w (Do t op) (Refused r) w' = IsAsked w (DoCall t.0 op) (RefusedCall r) w'
 IsReplyTo d w (Precommit t) (Prepared e) w' =
-    IsAsked w (PrecommitCall t.0) Accepted w' × IsDrawn w e.0
+    IsAsked w (PrecommitCall t.0) Accepted w' × IsEndWhole w.core t.0 e
 IsReplyTo d w (Precommit t) (Refused r) w' = IsAsked w (PrecommitCall t.0) (RefusedCall r) w'
 IsReplyTo d w (Validate t) (Validated v) w' =
-    IsAsked w (ValidateCall t.0) Accepted w' × IsValidation w.core t.0 v
+    IsAsked w (ValidateCall t.0) Accepted w' × IsValidationWhole w.core t.0 v
 IsReplyTo d w (Validate t) (Refused r) w' = IsAsked w (ValidateCall t.0) (RefusedCall r) w'
 IsReplyTo d w (Settle t) (Settled a) w' =
-    IsAsked w (SettleCall t.0) Accepted w' × IsSettlement w.core t.0 a
+    IsAsked w (SettleCall t.0) Accepted w' × IsSettlementWhole w.core t.0 a
 IsReplyTo d w (Settle t) (Refused r) w' = IsAsked w (SettleCall t.0) (RefusedCall r) w'
 IsReplyTo d w (Rollback t) RolledBack w' = IsAsked w (RollbackCall t.0) Accepted w'
 IsReplyTo d w (Rollback t) (Refused r) w' = IsAsked w (RollbackCall t.0) (RefusedCall r) w'
 IsReplyTo d w (Finish t) (Finished a) w' =
-    IsAsked w (FinishCall t.0) Accepted w' × IsFinishing w.core t.0 a
+    IsAsked w (FinishCall t.0) Accepted w' × IsFinishingWhole w.core t.0 a
 IsReplyTo d w (Finish t) (Refused r) w' = IsAsked w (FinishCall t.0) (RefusedCall r) w'
 IsReplyTo d w Collect (Collected c) w' = HasCollected w c w'
 IsReplyTo d w (Trim upto) (Trimmed stamp) w' = (stamp ≡ upto) × HasTrimmed w upto.0 w'

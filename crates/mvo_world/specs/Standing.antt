@@ -6,12 +6,13 @@ use Rattle.mvo_model.specs.Trace.{rows_up_to}
 use Rattle.mvo_disk.specs.declared.disk.Disk.{Ghosts}
 use Rattle.mvo_disk.specs.Disk.{Image, AllOf, LeavesOnly, IsHonest}
 use Rattle.mvo_group.specs.Data.{GroupData}
-use Rattle.mvo_theory.specs.State.{State, timeline}
+use Rattle.mvo_theory.specs.State.{timeline}
 use Rattle.mvo_theory.specs.Marks.{IsClosedAt, settled_to}
-use Rattle.mvo_theory.specs.Counted.{HasCounts}
-use Rattle.mvo_theory.specs.rests.Known.{KnowsRests}
+use Rattle.mvo_theory.specs.rests.Course.{Course}
+use Rattle.mvo_readonly.specs.Whole.{WholeState}
+use Rattle.mvo_readonly.specs.rests.Followed.{IsFollowed}
 use Rattle.mvo_core.specs.Counting.{version_count}
-use Rattle.mvo_core.specs.Standing.{StandsFor}
+use Rattle.mvo_core.specs.WholeStanding.{StandsWhole}
 use Rattle.mvo_store.specs.Frames.{mark_after}
 use Rattle.mvo_store.specs.Rows.{after_groups}
 use Rattle.mvo_store.specs.Seen.{disk_of, mark_of}
@@ -20,6 +21,7 @@ use Rattle.mvo_world.specs.Past.{Past, course_of}
 use Rattle.mvo_world.specs.Finishing.{HaveCountedWords}
 use Rattle.mvo_world.specs.Collecting.{versions_ever}
 use Rattle.mvo_types.specs.declared.limits.TheConstants.{RING_GROUPS}
+use Rattle.mvo_world.specs.WholeJustified.{KnowsReaders}
 use Rattle.mvo_world.specs.WorldData.{WorldData, waiting}
 use Rattle.mvo_core.specs.Groups.{HaveRecordsOf}
 
@@ -51,25 +53,27 @@ HasHonestDisk d w = IsHonest (d.moment (disk_of w.store))
 pub record IsAfter {D : Type 0} (d : Ghosts D) (p : Past) (w : WorldData D) : Type 0 where
   -- the groups that are durable since the opening
   pub sent : List GroupData
-  -- the state that the steps since the opening lead to
-  pub state : State
-  pub core : StandsFor p.rows p.steps state w.core
-  -- the opening mark, the clock, the unfinished and the checks are those of the steps
-  pub counted : HasCounts p.mark p.steps state
+  -- what happened in the core since the opening, for which a read-only transaction is Active until
+  -- it ends and is rolled back then; and the state that the steps lead to, with the read-only ones
+  pub own : Course
+  pub state : WholeState
+  pub core : StandsWhole p.rows p.steps own.steps state w.core
+  -- What it keeps and counts, and on whom its transactions rest, is what was asked and answered.
+  pub followed : IsFollowed (course_of p) own state
+  -- its read-only transactions are those that began so
+  pub readers : KnowsReaders p.read_only p.steps state
   -- of those that ended, the words that are left are those that no More took
-  pub words : HaveCountedWords p.mores p.steps state
+  pub words : HaveCountedWords p.mores own.steps state.core
   -- of the versions that there ever were it has those that weren't collected
   pub versions : version_count w.core + p.collected ≡ versions_ever p
-  -- it knows on whom its transactions rest
-  pub rests : KnowsRests (course_of p) state
-  -- up to the mark of the group that was closed last all are settled
-  pub closed : IsClosedAt state.marks.closed state
+  -- up to the mark of the group that was closed last all that write are settled
+  pub closed : IsClosedAt state.core.marks.closed state.core
   -- no commit ends at or below the opening mark
-  pub before : IsClosedAt p.mark state
-  pub none : settled_to p.mark (timeline state) ≡ []
+  pub before : IsClosedAt p.mark state.core
+  pub none : settled_to p.mark (timeline state.core) ≡ []
   pub store : HasHonestDisk d w → KeepsRows d w.store (after_groups p.rows sent)
   pub mark : mark_of w.store ≡ mark_after p.mark sent
-  pub groups : HaveRecordsOf state p.mark (sent ++ waiting w)
+  pub groups : HaveRecordsOf state.core p.mark (sent ++ waiting w)
   pub marks : map (λ g. g.mark) (sent ++ waiting w) ≡ p.closed
   pub covers : AllByRecursion (λ m. m ≤ mark_of w.store) p.acknowledged
   -- those that the store hasn't taken are in the ring, which has no more than it may

@@ -6,7 +6,8 @@ use Rattle.mvo_group.specs.Data.{GroupData}
 use Rattle.mvo_core.specs.Counting.{HasOneEach}
 use Rattle.mvo_core.specs.Data.{CoreData}
 use Rattle.mvo_core.specs.Seen.{closed_mark_of}
-use Rattle.mvo_core.specs.Standing.{Stands, HasOpenedOver}
+use Rattle.mvo_core.specs.Standing.{HasOpenedOver}
+use Rattle.mvo_core.specs.WholeStanding.{StandsInWhole}
 use Rattle.mvo_store.specs.Seen.{mark_of, pending_of, IsAtRest}
 use Rattle.mvo_store.specs.StoreData.{StoreData}
 
@@ -29,9 +30,9 @@ Follow mark (g ∷ gs) last = (g.prev ≡ mark) × Follow g.mark gs last
 abbrev pub IsLinked : {D : Type 0} → WorldData D → Type 0
 IsLinked w = Follow (mark_of w.store) (waiting w) (closed_mark_of w.core)
 
--- the core stands for a state, whatever steps led there, and the groups that wait are linked
+-- the core stands for a whole state, whatever steps led there, and the groups that wait are linked
 pub record IsSoundWorld {D : Type 0} (w : WorldData D) : Type 0 where
-  pub core : Stands w.core
+  pub core : StandsInWhole w.core
   pub linked : IsLinked w
 
 -- nothing happened since the opening over these rows

@@ -8,6 +8,8 @@ use std::alloc::AllocError;
 pub enum Event {
     /// A transaction is to begin.
     Begin,
+    /// A read-only transaction is to begin.
+    BeginReadOnly,
     /// A transaction asks for an operation.
     Do(TxId, Op),
     /// A transaction draws its end timestamp.
@@ -45,6 +47,7 @@ impl Event {
     {
         match self {
             Event::Begin => Ok(Event::Begin),
+            Event::BeginReadOnly => Ok(Event::BeginReadOnly),
             Event::Do(tx, op) => Ok(Event::Do(*tx, copy_of(op)?)),
             Event::Precommit(tx) => Ok(Event::Precommit(*tx)),
             Event::Validate(tx) => Ok(Event::Validate(*tx)),

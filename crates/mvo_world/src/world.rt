@@ -184,6 +184,7 @@ impl<D: Disk> World<D> {
     {
         match event {
             Event::Begin => self.begin(),
+            Event::BeginReadOnly => self.begin_read_only(),
             Event::Do(tx, op) => self.operate(tx, op),
             Event::Precommit(tx) => self.precommit(tx),
             Event::Validate(tx) => self.validate(tx),

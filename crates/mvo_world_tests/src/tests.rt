@@ -11,6 +11,8 @@ mod jobs;
 mod observed;
 mod openings;
 mod random;
+mod read_only;
+mod readers;
 mod runs;
 mod step;
 mod steps;

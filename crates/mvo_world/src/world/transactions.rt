@@ -18,6 +18,15 @@ impl<D: Disk> World<D> {
         }
     }
 
+    pub(super) fn begin_read_only(&mut self) -> Reply
+        ensures { IsWorldStep D.Disk self.old Event.BeginReadOnly result self.new }
+    {
+        match self.core.begin_read_only() {
+            Ok(tx) => Reply::Began(tx),
+            Err(refusal) => Reply::Refused(refusal),
+        }
+    }
+
     pub(super) fn operate(&mut self, tx: TxId, op: Op) -> Reply
         ensures { IsWorldStep D.Disk self.old (Event.Do tx op) result self.new }
     {

@@ -47,14 +47,35 @@ fn assert_counts(rt: &impl Abort, counts: &Counts) {
     assert_floors(rt, &floors);
 }
 
+/// Nor is one of those that are to happen to read-only transactions.
+fn assert_readers(rt: &impl Abort, counts: &Counts) {
+    let floors = [
+        (counts.commits, 730),
+        (counts.collected, 145),
+        (counts.trimmed, 90),
+        (counts.groups, 480),
+        (counts.read_only, 250),
+        (counts.late, 190),
+        (counts.awaited, 5),
+        (counts.fallen, 2),
+        (counts.unwritten, 540),
+        (counts.held, 90),
+        (counts.beside_reader, 115),
+    ];
+    same(rt, &counts.strange, &0);
+    assert_floors(rt, &floors);
+}
+
 /// The run of this number, from a new store.
 fn compare_run(
     rt: &(impl Abort + Threads + Sync),
     alloc: Global,
     number: u64,
+    has_readers: bool,
     counts: Counts,
 ) -> Result<Counts, Fail> {
     let mut draws = Draws::new(alloc, number.wrapping_mul(0x9e37_79b9_7f4a_7c15));
+    draws.has_readers = has_readers;
     let run = Run::of(rt, fresh(alloc)?, &mut draws, counts, 0)?;
     let compared = run.compare_answers(rt);
     let counts = run.into_counts();
@@ -62,13 +83,29 @@ fn compare_run(
     Ok(counts)
 }
 
-#[test]
-fn committed_answers_are_serial(rt: HostRuntime) -> Result<(), Fail> {
-    let alloc = rt.alloc();
+/// What all runs met.
+fn compare_all(
+    rt: &(impl Abort + Threads + Sync),
+    alloc: Global,
+    has_readers: bool,
+) -> Result<Counts, Fail> {
     let mut counts = Counts::new();
     for number in 1..=RUNS_IN_ALL {
-        counts = compare_run(&rt, alloc, number, counts)?;
+        counts = compare_run(rt, alloc, number, has_readers, counts)?;
     }
+    Ok(counts)
+}
+
+#[test]
+fn committed_answers_are_serial(rt: HostRuntime) -> Result<(), Fail> {
+    let counts = compare_all(&rt, rt.alloc(), false)?;
     assert_counts(&rt, &counts);
+    Ok(())
+}
+
+#[test]
+fn answers_to_readers_are_serial(rt: HostRuntime) -> Result<(), Fail> {
+    let counts = compare_all(&rt, rt.alloc(), true)?;
+    assert_readers(&rt, &counts);
     Ok(())
 }

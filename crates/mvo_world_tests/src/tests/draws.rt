@@ -6,12 +6,18 @@ use std::alloc::Global;
 #[derive(Drop)]
 pub struct Draws {
     pub alloc: Global,
+    /// Whether read-only transactions begin among the others.
+    pub has_readers: bool,
     seed: u64,
 }
 
 impl Draws {
     pub fn new(alloc: Global, seed: u64) -> Draws {
-        Draws { alloc, seed }
+        Draws {
+            alloc,
+            has_readers: false,
+            seed,
+        }
     }
 
     pub fn draw(&mut self) -> u64 {

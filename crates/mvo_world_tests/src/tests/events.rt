@@ -176,11 +176,48 @@ impl Draws {
     /// A step of a transaction that begins or of one that is open.
     fn due_step(&mut self, observed: &Observed, key: RowKey) -> Result<Event, AllocError> {
         match self.one_of(observed) {
-            None => Ok(Event::Begin),
-            Some((id, Phase::Active)) => self.step_of_active(id, key, is_settling(observed)),
-            Some((id, Phase::Preparing)) => Ok(self.step_of_preparing(id)),
-            Some((id, Phase::Valid)) => Ok(self.step_of_valid(id)),
-            Some((id, Phase::Over)) => Ok(Event::Finish(id)),
+            None => Ok(self.begin()),
+            Some((id, phase)) => self.step_of(observed, id, phase, key),
+        }
+    }
+
+    fn step_of(
+        &mut self,
+        observed: &Observed,
+        id: TxId,
+        phase: Phase,
+        key: RowKey,
+    ) -> Result<Event, AllocError> {
+        if matches!(phase, Phase::Active) && self.leaves_open(observed, id) {
+            return Ok(self.event_beside(observed));
+        }
+        match phase {
+            Phase::Active => self.step_of_active(id, key, is_settling(observed)),
+            Phase::Preparing => Ok(self.step_of_preparing(id)),
+            Phase::Valid => Ok(self.step_of_valid(id)),
+            Phase::Over => Ok(Event::Finish(id)),
+        }
+    }
+
+    fn begin(&mut self) -> Event {
+        if self.has_readers && self.below(3) == 0 {
+            Event::BeginReadOnly
+        } else {
+            Event::Begin
+        }
+    }
+
+    /// Whether a read-only transaction is left alone: so it is open over many steps of the others.
+    fn leaves_open(&mut self, observed: &Observed, id: TxId) -> bool {
+        self.has_readers && observed.is_reader(id) && self.below(8) < 5
+    }
+
+    /// A step of the groups, a collection, or a trim.
+    fn event_beside(&mut self, observed: &Observed) -> Event {
+        if self.below(2) == 0 {
+            self.event_of_groups(observed)
+        } else {
+            self.event_of_memory(observed)
         }
     }
 

@@ -2,7 +2,7 @@
 
 use super::observed::{Observed, count};
 use mvo_core::Collection;
-use mvo_types::{Refusal, Stamp};
+use mvo_types::{Refusal, Stamp, TxId};
 use mvo_world::Event;
 
 impl Observed {
@@ -31,9 +31,10 @@ impl Observed {
     }
 
     /// Whether the tale may be trimmed up to there. No transaction that is Preparing ends at the
-    /// oldest begin or below, so the low-water is never lower.
+    /// oldest begin or below but a read-only one, which the low-water leaves out, so it is never
+    /// lower.
     fn may_trim(&self, upto: Stamp) -> bool {
-        self.tale_start < upto && upto.0 <= self.oldest_begin()
+        self.tale_start < upto && upto.0 <= self.oldest_begin() && !self.is_reader(TxId(upto.0))
     }
 
     /// A trim that is answered with this start.
@@ -52,6 +53,9 @@ impl Observed {
         match refusal {
             Refusal::NothingToDo if !self.may_trim(upto) => count(&mut self.counts.untrimmed),
             _ => count(&mut self.counts.strange),
+        }
+        if self.tale_start < upto && self.is_reader(TxId(upto.0)) {
+            count(&mut self.counts.held);
         }
     }
 }

@@ -29,6 +29,7 @@ impl Phase {
 /// An unfinished transaction, with what it asked for and what it was told.
 pub struct Open {
     pub id: TxId,
+    pub reads_only: bool,
     pub phase: Phase,
     ops: Vec<Op>,
     answers: Vec<Answer>,
@@ -38,6 +39,7 @@ impl Drop for Open {
     fn drop(self) {
         let Open {
             id: _,
+            reads_only: _,
             phase: _,
             ops: _,
             answers: _,
@@ -124,6 +126,16 @@ pub struct Counts {
     pub emptied: u64,
     pub polled_yes: u64,
     pub polled_no: u64,
+    /// Of read-only transactions: commits, and of them those below the mark of the last closed
+    /// group or at it; settlings that waited; those that fell; writes that were refused; trims that
+    /// were refused for their sake; and groups that were closed while one was Preparing.
+    pub read_only: u64,
+    pub late: u64,
+    pub awaited: u64,
+    pub fallen: u64,
+    pub unwritten: u64,
+    pub held: u64,
+    pub beside_reader: u64,
     pub strange: u64,
 }
 
@@ -158,6 +170,13 @@ impl Counts {
             emptied: 0,
             polled_yes: 0,
             polled_no: 0,
+            read_only: 0,
+            late: 0,
+            awaited: 0,
+            fallen: 0,
+            unwritten: 0,
+            held: 0,
+            beside_reader: 0,
             strange: 0,
         }
     }
@@ -243,7 +262,7 @@ impl Observed {
     /// A reply to a begin, to a collection, a trim or a poll, or to a step of the log.
     fn note_reply(&mut self, event: &Event, reply: Reply) -> Result<(), AllocError> {
         match reply {
-            Reply::Began(id) => self.note_begin(id)?,
+            Reply::Began(id) => self.note_begin(id, event)?,
             Reply::Collected(collection) => self.note_collection(collection),
             Reply::Trimmed(start) => self.note_trim(event, start),
             Reply::Closed(closed) => self.note_closed(closed.mark)?,
@@ -284,9 +303,7 @@ impl Observed {
             mark,
         })?;
         self.waiting.push_back(mark)?;
-        if self.open.iter().any(|tx| tx.phase.is_preparing()) {
-            count(&mut self.counts.beside_preparing);
-        }
+        self.note_beside();
         if self.waiting.len() > 1 && !self.has_queued {
             self.has_queued = true;
             count(&mut self.counts.queued);
@@ -327,10 +344,11 @@ impl Observed {
         }
     }
 
-    fn note_begin(&mut self, id: TxId) -> Result<(), AllocError> {
+    fn note_begin(&mut self, id: TxId, event: &Event) -> Result<(), AllocError> {
         self.latest = id.0;
         self.open.push(Open {
             id,
+            reads_only: matches!(event, Event::BeginReadOnly),
             phase: Phase::Active,
             ops: Vec::new(self.alloc),
             answers: Vec::new(self.alloc),
@@ -376,7 +394,7 @@ impl Observed {
             Reply::Validated(Validation::More) => {}
             Reply::Validated(Validation::Valid) => tx.phase = Phase::Valid,
             Reply::Settled(Settlement::Committed(end)) => self.keep(tx, end)?,
-            Reply::Settled(Settlement::Waiting(_)) => count(&mut self.counts.waiting),
+            Reply::Settled(Settlement::Waiting(_)) => self.note_waiting(tx.reads_only),
             Reply::RolledBack => {
                 tx.phase = Phase::Over;
                 count(&mut self.counts.rolled_back);
@@ -389,6 +407,9 @@ impl Observed {
     }
 
     fn note_end(&mut self, tx: &mut Open, end: Stamp) {
+        if tx.reads_only {
+            return self.note_reader_end(tx, end);
+        }
         if self.open.iter().any(|other| other.phase.is_preparing()) {
             count(&mut self.counts.together);
         }
@@ -398,6 +419,9 @@ impl Observed {
 
     /// A refusal to a step of a transaction, which may abort it.
     fn note_failure(&mut self, tx: &mut Open, refusal: Refusal) {
+        if tx.reads_only {
+            return self.note_reader_refusal(tx, refusal);
+        }
         match refusal {
             Refusal::WriteConflict(_) => count(&mut self.counts.conflicts),
             Refusal::ValidationFailed(_) => count(&mut self.counts.failed),
@@ -423,7 +447,7 @@ impl Observed {
         Ok(())
     }
 
-    fn note_refusal(&mut self, refusal: Refusal) {
+    pub fn note_refusal(&mut self, refusal: Refusal) {
         let counts = &mut self.counts;
         match refusal {
             Refusal::Busy => count(&mut counts.busy),
@@ -458,6 +482,9 @@ impl Observed {
         };
         tx.phase = Phase::Over;
         count(&mut self.counts.commits);
+        if tx.reads_only {
+            self.note_reader_commit(tx.id, end);
+        }
         let before = |other: &&Commit| other.end < end;
         let at = self.commits.iter().filter(before).count();
         if at > self.commits.len() {

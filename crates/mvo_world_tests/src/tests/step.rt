@@ -11,6 +11,7 @@ use std::alloc::{AllocError, Global};
 #[derive(Clone, Copy)]
 pub enum Step {
     Begin,
+    BeginReadOnly,
     Read(u64),
     /// Of the sorts 0 to 100.
     Scan(u64),
@@ -73,6 +74,7 @@ impl Step {
             Step::Trim(stamp) => Event::Trim(Stamp(stamp)),
             Step::Poll(stamp) => Event::Poll(Stamp(stamp)),
             Step::Store(call) => Event::Store(call),
+            Step::BeginReadOnly => Event::BeginReadOnly,
             Step::Collect => Event::Collect,
             Step::CloseGroup => Event::CloseGroup,
             Step::TakeGroup => Event::TakeGroup,

@@ -19,7 +19,7 @@ invariant_of-self c =
     d.ensures.producer d.ensures.looked d.ensures.fifo
 
 pub returns-clause-closing : goal.returns-clause-closing
-returns-clause-closing c = λ opening steps s h.
+returns-clause-closing c = λ opening steps own s h.
     let f = c.self.inside in
     let a = c.slots_beside in
     let b = c.slots_beside-2 in
@@ -32,4 +32,4 @@ returns-clause-closing c = λ opening steps s h.
     c.close_group-result.ensures.ring
     b.ensures.looked b.ensures.consumer (subst (λ (n : ℕ). n + length (sent p3) ≡ producer_capacity p3 + length (received b.new.consumer)) b.ensures.value b.ensures.all_free)
     d.ensures.producer d.ensures.looked d.ensures.fifo
-    opening steps s c.close_group-result.result c.close_group-result.new.self (c.close_group-result.ensures.step opening steps s h))
+    opening steps own s c.close_group-result.result c.close_group-result.new.self (c.close_group-result.ensures.whole opening steps own s h))

@@ -1,6 +1,7 @@
-use Rattle.std.proofs.Common.{refl}
+use Rattle.std.proofs.Common.{refl, append-nil}
 use Rattle.mvo_world.specs.View.{world_data}
-use Rattle.mvo_world.proofs.Justified.{finished, counted}
+use Rattle.mvo_world.proofs.Justified.{finished, counted, refused_is}
+use Rattle.mvo_theory.specs.Calls.Call.{Finish as FinishCall}
 use Rattle.mvo_world.proofs.Moves.{told}
 use Rattle.mvo_world.proofs.Collecting.{as_many}
 use Rattle.mvo_world.specs.declared.event.Event.TheVariants.{Finish}
@@ -9,11 +10,11 @@ use Rattle.mvo_world.proofs.Sound.{sound_asked}
 use Rattle.mvo_world.proofs.world.World.finish.Goals as goal
 
 pub invariant_of-self : goal.invariant_of-self
-invariant_of-self g c = sound_asked (world_data c.self.inside) c.self.invariant c.finish_one.result c.finish_one.ensures.step refl
+invariant_of-self g c = sound_asked (world_data c.self.inside) c.self.invariant c.finish_one.result c.finish_one.ensures.whole refl
 
 pub returns : goal.returns
 returns g c =
     elim c.match-finish_one.branch [
-      | goal.in-Ok w ↦ rw (w.result-is, ← c.self.view_is) (told g.D.Disk g.met.D.Disk.only_now (world_data c.self.inside) w.in-Ok.ensures.step (λ asked. (asked, w.in-Ok.ensures.answer)) (λ o xs s h. (finished s c.args.tx w.in-Ok.finishing (w.in-Ok.ensures.answer o xs s h), λ ms. counted s c.args.tx w.in-Ok.finishing (w.in-Ok.ensures.answer o xs s h) ms)) (as_many c.self.inside.core c.finish_one.new.self (Finish c.args.tx) (Finished w.in-Ok.finishing) tt w.in-Ok.ensures.count) (refl, refl, tt))
-      | goal.in-Err w ↦ rw (w.result-is, ← c.self.view_is) (told g.D.Disk g.met.D.Disk.only_now (world_data c.self.inside) w.in-Err.ensures.step (λ asked. asked) (λ o xs s h. (refl, λ ms. refl)) (as_many c.self.inside.core c.finish_one.new.self (Finish c.args.tx) (Refused w.in-Err.refusal) tt w.in-Err.ensures.count) (refl, refl, tt))
+      | goal.in-Ok w ↦ rw (w.result-is, ← c.self.view_is) (told g.D.Disk g.met.D.Disk.only_now (world_data c.self.inside) w.in-Ok.ensures.whole (λ asked. (asked, w.in-Ok.ensures.whole_answer)) (λ o xs ys s h. (finished s c.args.tx w.in-Ok.finishing (w.in-Ok.ensures.whole_answer o xs ys s h), (λ ms. counted s.core c.args.tx w.in-Ok.finishing (w.in-Ok.ensures.whole_answer o xs ys s h) ms), append-nil)) (as_many c.self.inside.core c.finish_one.new.self (Finish c.args.tx) (Finished w.in-Ok.finishing) tt w.in-Ok.ensures.count) (refl, refl, tt))
+      | goal.in-Err w ↦ rw (w.result-is, ← c.self.view_is) (told g.D.Disk g.met.D.Disk.only_now (world_data c.self.inside) w.in-Err.ensures.whole (λ asked. asked) (λ o xs ys s h. (refused_is s (FinishCall c.args.tx.0) w.in-Err.refusal, (λ ms. refl), append-nil)) (as_many c.self.inside.core c.finish_one.new.self (Finish c.args.tx) (Refused w.in-Err.refusal) tt w.in-Err.ensures.count) (refl, refl, tt))
     ]

@@ -1,6 +1,6 @@
 use Rattle.std.proofs.Common.{arith, ◌≡◌, ◌++◌, ◌∷◌, ◌+◌, [], List, length, take, refl, ap, ◌∙◌, sym, subst, length-append}
 use Rattle.std.proofs.lemmas.List.{take_more, take_all, length-take-le}
-use Rattle.mvo_theory.proofs.Tales.{serial_after_trace}
+use Rattle.mvo_readonly.proofs.Serials.{whole_is_serial}
 use Rattle.mvo_world.specs.Past.{Past, with_events}
 use Rattle.mvo_world.specs.Standing.{IsAfter}
 use Rattle.mvo_world.specs.Steps.{IsRunStep, AreSteps}
@@ -59,7 +59,7 @@ pub returns-clause-serial : goal.returns-clause-serial
 returns-clause-serial g c = λ past h.
     let after = returns-clause-after g c past h in
     let p = with_events past c.args.events.now c.loop-event.replies.items in
-    serial_after_trace p.rows p.steps after.state after.core.versions.kept.sound after.core.versions.kept.after_trace
+    whole_is_serial p.rows p.steps after.own.steps after.state after.core.kept
 
 pub returns-clause-each : goal.returns-clause-each
 returns-clause-each g c =

@@ -13,7 +13,7 @@ use Rattle.mvo_world.proofs.world.World.take_group.Goals as goal
 
 pub returns-in-Some : goal.returns-in-Some
 returns-in-Some g c =
-    rw (← c.self.view_is) (still g.D.Disk g.met.D.Disk.only_now (IsReplyTo g.D.Disk) IsJustifiedBy (world_data c.self.inside) TakeGroup (Refused c.in-Some.refusal) (refl, refl, refl, λ ms. refl)
+    rw (← c.self.view_is) (still g.D.Disk g.met.D.Disk.only_now (IsReplyTo g.D.Disk) IsJustifiedBy (world_data c.self.inside) TakeGroup (Refused c.in-Some.refusal) (refl, refl, refl, (λ ms. refl), refl)
     (ap (λ why. or_nothing why (oldest c.self.inside.ring)) (sym c.can_take.ensures ∙ c.in-Some.is), refl) (λ p h. tt))
 
 pub returns-in_default-take : goal.returns-in_default-take
@@ -21,7 +21,7 @@ returns-in_default-take g c =
     let none : why_not_take c.self.inside.store ≡ None = sym c.can_take.ensures ∙ c.in_default.is in
     let nothing = c.in_default-take.ensures.0 in
     let same = c.in_default-take.ensures.1 ∙ sym nothing in
-    rw (same, ← c.self.view_is) (still g.D.Disk g.met.D.Disk.only_now (IsReplyTo g.D.Disk) IsJustifiedBy (world_data c.self.inside) TakeGroup (Refused NothingToDo) (refl, refl, refl, λ ms. refl)
+    rw (same, ← c.self.view_is) (still g.D.Disk g.met.D.Disk.only_now (IsReplyTo g.D.Disk) IsJustifiedBy (world_data c.self.inside) TakeGroup (Refused NothingToDo) (refl, refl, refl, (λ ms. refl), refl)
     (ap (λ why. or_nothing why (oldest c.self.inside.ring)) none ∙ ap (λ (gs : List GroupData). or_nothing None (oldest gs)) nothing, refl) (λ p h. tt))
 
 pub returns : goal.returns
