@@ -6,6 +6,8 @@ mod counts;
 #[cfg(test)]
 mod equal;
 #[cfg(test)]
+mod keeping;
+#[cfg(test)]
 mod marks;
 #[cfg(test)]
 mod tests;
