@@ -1,5 +1,5 @@
 -- A reply to a world that stands after a past is justified by the past, and what it is in the trace is what its call is.
-use Rattle.std.proofs.Common.{◌≡◌, ℕ, ◌≤◌, List, [], ◌∷◌, ◌++◌, ◌+◌, Bool, true, false, cond, not, Option, None, Some, length, refl, sym, ap, ◌∙◌, subst}
+use Rattle.std.proofs.Common.{◌≡◌, ℕ, List, [], ◌∷◌, ◌++◌, ◌+◌, Bool, true, false, cond, not, Option, None, Some, length, refl, sym, ap, ◌∙◌, subst}
 use Rattle.std.specs.Prelude.{nat_le, ◌==◌, ⊤}
 use Rattle.std.proofs.lemmas.Bool.{leb-true, leb-false}
 use Rattle.mvo_types.specs.declared.ids.TxId.{TxId}

@@ -1,6 +1,6 @@
 -- Each call of a state with its read-only transactions keeps the count of the words that finishing
 -- replaces, and what others committed up to a closed mark.
-use Rattle.std.proofs.Common.{◌≡◌, ℕ, Bool, true, false, List, [], ◌∷◌, ◌++◌, Option, None, Some, refl, sym, ap, ◌∙◌, subst, append-nil, append_assoc}
+use Rattle.std.proofs.Common.{◌≡◌, ℕ, Bool, true, false, List, [], ◌∷◌, ◌++◌, Option, None, Some, refl, sym, subst, append-nil, append_assoc}
 use Rattle.std.specs.Prelude.{if◌then◌else◌}
 use Rattle.mvo_types.specs.declared.refusal.Refusal.{Refusal}
 use Rattle.mvo_types.specs.Keys.{Map}
@@ -16,7 +16,7 @@ use Rattle.mvo_theory.proofs.Stays.{stays_after_run}
 use Rattle.mvo_readonly.specs.Whole.{ReaderStage, WholeState, id_named, stage_named}
 use Rattle.mvo_readonly.specs.WholeCauses.{WholeCall, MayComeWhole, awaited_by_reader}
 use Rattle.mvo_readonly.specs.WholeCauses.WholeCall.{CoreCall, BeginReadOnly}
-use Rattle.mvo_readonly.specs.WholeCalls.{rolled_back, unless_awaited, core_failed, core_reader, core_other, core_at_stage, core_calls, after_whole_call}
+use Rattle.mvo_readonly.specs.WholeCalls.{rolled_back, unless_awaited, core_failed, core_reader, core_other, core_at_stage, core_calls}
 use Rattle.mvo_readonly.specs.WholeKept.{IsWholeKept}
 use Rattle.mvo_readonly.proofs.CoreRuns.{may_core}
 use Rattle.mvo_world.specs.Finishing.{HaveCountedWords}
