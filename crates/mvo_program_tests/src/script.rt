@@ -7,6 +7,7 @@ mod full_segment;
 mod lines;
 mod logs;
 mod merges;
+mod read_only;
 mod rotations;
 mod streams;
 mod texts;

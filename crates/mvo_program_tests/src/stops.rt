@@ -5,3 +5,4 @@ mod forgotten;
 mod longer;
 mod looked_at;
 mod random;
+mod read_only;

@@ -57,6 +57,7 @@ pub has_event : (l : Line) (tx : TxId) → IsSome (name_in l) → ((n : Bor (Lis
     ((n : Bor (List ℕ)) → l ≢ line.Commit n) → ((n : Bor (List ℕ)) → l ≢ line.Poll n) →
     (e : Event) × (event_by l tx ≡ Some e)
 has_event (line.Begin n) tx is i u s c p = absurd (not_some None refl is)
+has_event (line.BeginReadOnly n) tx is i u s c p = absurd (not_some None refl is)
 has_event (line.Read n k) tx is i u s c p = (event.Do tx (op.Read k), refl)
 has_event (line.Scan n k) tx is i u s c p = (event.Do tx (op.Scan k.table k.lo k.hi), refl)
 has_event (line.Insert n k) tx is i u s c p = absurd (i n k refl)
@@ -80,36 +81,38 @@ has_event (line.Merge j) tx is i u s c p = absurd (not_some None refl is)
 has_event (line.Store call) tx is i u s c p = absurd (not_some None refl is)
 
 -- that of a line of no transaction, which is none of these
-pub has_step : (l : Line) → name_in l ≡ None → ((n : Bor (List ℕ)) → l ≢ line.Begin n) → l ≢ line.Flush → l ≢ line.Rotate →
+pub has_step : (l : Line) → name_in l ≡ None → ((n : Bor (List ℕ)) → l ≢ line.Begin n) → ((n : Bor (List ℕ)) → l ≢ line.BeginReadOnly n) → l ≢ line.Flush → l ≢ line.Rotate →
     l ≢ line.Checkpoint → ((i : ℕ) → l ≢ line.Merge i) → (e : Event) × (event_of_line l ≡ Some e)
-has_step (line.Begin n) is b f r c m = absurd (b n refl)
-has_step (line.Read n k) is b f r c m = absurd (cc)
-has_step (line.Scan n k) is b f r c m = absurd (cc)
-has_step (line.Insert n k) is b f r c m = absurd (cc)
-has_step (line.Update n k) is b f r c m = absurd (cc)
-has_step (line.Delete n k) is b f r c m = absurd (cc)
-has_step (line.Precommit n) is b f r c m = absurd (cc)
-has_step (line.Validate n) is b f r c m = absurd (cc)
-has_step (line.Settle n) is b f r c m = absurd (cc)
-has_step (line.Rollback n) is b f r c m = absurd (cc)
-has_step (line.Finish n) is b f r c m = absurd (cc)
-has_step (line.Commit n) is b f r c m = absurd (cc)
-has_step (line.Poll n) is b f r c m = absurd (cc)
-has_step line.Collect is b f r c m = (event.Collect, refl)
-has_step (line.Trim j) is b f r c m = (event.Trim j, refl)
-has_step line.Group is b f r c m = (event.CloseGroup, refl)
-has_step line.Take is b f r c m = (event.TakeGroup, refl)
-has_step line.Flush is b f r c m = absurd (f refl)
-has_step line.Rotate is b f r c m = absurd (r refl)
-has_step line.Checkpoint is b f r c m = absurd (c refl)
-has_step (line.Merge i) is b f r c m = absurd (m i refl)
-has_step (line.Store call) is b f r c m = (event.Store call, refl)
+has_step (line.Begin n) is b o f r c m = absurd (b n refl)
+has_step (line.BeginReadOnly n) is b o f r c m = absurd (o n refl)
+has_step (line.Read n k) is b o f r c m = absurd (cc)
+has_step (line.Scan n k) is b o f r c m = absurd (cc)
+has_step (line.Insert n k) is b o f r c m = absurd (cc)
+has_step (line.Update n k) is b o f r c m = absurd (cc)
+has_step (line.Delete n k) is b o f r c m = absurd (cc)
+has_step (line.Precommit n) is b o f r c m = absurd (cc)
+has_step (line.Validate n) is b o f r c m = absurd (cc)
+has_step (line.Settle n) is b o f r c m = absurd (cc)
+has_step (line.Rollback n) is b o f r c m = absurd (cc)
+has_step (line.Finish n) is b o f r c m = absurd (cc)
+has_step (line.Commit n) is b o f r c m = absurd (cc)
+has_step (line.Poll n) is b o f r c m = absurd (cc)
+has_step line.Collect is b o f r c m = (event.Collect, refl)
+has_step (line.Trim j) is b o f r c m = (event.Trim j, refl)
+has_step line.Group is b o f r c m = (event.CloseGroup, refl)
+has_step line.Take is b o f r c m = (event.TakeGroup, refl)
+has_step line.Flush is b o f r c m = absurd (f refl)
+has_step line.Rotate is b o f r c m = absurd (r refl)
+has_step line.Checkpoint is b o f r c m = absurd (c refl)
+has_step (line.Merge i) is b o f r c m = absurd (m i refl)
+has_step (line.Store call) is b o f r c m = (event.Store call, refl)
 
 module _ {D : Type 0} (P : WorldData D → Event → Reply → WorldData D → Type 0) where
   by_text : (d : Driver D) (l : Line) (b : BoundTx) (r : Reply) (d' : Driver D) → bound_by d.names (text_of (name_in l)) ≡ Some b →
       IsAnswerBy P d l (text_of (name_in l)) b r d' → IsAnswerTo P d l r d'
   unfolding text_of
   by_text d (line.Begin n) b r d' bound it = absurd it
+  by_text d (line.BeginReadOnly n) b r d' bound it = absurd it
   by_text d (line.Read n k) b r d' bound it = given _ b (λ b. IsAnswerBy P d (line.Read n k) n.now b r d') bound it
   by_text d (line.Scan n k) b r d' bound it = given _ b (λ b. IsAnswerBy P d (line.Scan n k) n.now b r d') bound it
   by_text d (line.Insert n k) b r d' bound it = given _ b (λ b. IsAnswerBy P d (line.Insert n k) n.now b r d') bound it
@@ -144,6 +147,7 @@ module _ {D : Type 0} (P : WorldData D → Event → Reply → WorldData D → T
   pub by_event : (d : Driver D) (l : Line) (name : List ℕ) (b : BoundTx) (e : Event) (r : Reply) (d' : Driver D) → event_by l b.tx ≡ Some e →
       IsStepOf P d e r d' → IsAnswerBy P d l name b r d'
   by_event d (line.Begin n) name b e r d' is it = absurd (cc)
+  by_event d (line.BeginReadOnly n) name b e r d' is it = absurd (cc)
   by_event d (line.Read n k) name b e r d' is it = subst (λ (x : Event). IsStepOf P d x r d') (sym (event_same _ _ is)) it
   by_event d (line.Scan n k) name b e r d' is it = subst (λ (x : Event). IsStepOf P d x r d') (sym (event_same _ _ is)) it
   by_event d (line.Insert n k) name b e r d' is it = absurd (cc)
@@ -169,6 +173,7 @@ module _ {D : Type 0} (P : WorldData D → Event → Reply → WorldData D → T
   -- the one step that a line of no transaction asks for
   pub by_step : (d : Driver D) (l : Line) (e : Event) (r : Reply) (d' : Driver D) → event_of_line l ≡ Some e → IsStepOf P d e r d' → IsAnswerTo P d l r d'
   by_step d (line.Begin n) e r d' is it = absurd (cc)
+  by_step d (line.BeginReadOnly n) e r d' is it = absurd (cc)
   by_step d (line.Read n k) e r d' is it = absurd (cc)
   by_step d (line.Scan n k) e r d' is it = absurd (cc)
   by_step d (line.Insert n k) e r d' is it = absurd (cc)

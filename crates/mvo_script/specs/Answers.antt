@@ -71,10 +71,11 @@ module _ {D : Type 0} (IsStep : WorldData D → Event → Reply → WorldData D 
     pub step : IsStep d.world e r d'.world
     pub names : d'.names ≡ d.names
 
-  -- begun, as a transaction that the name is bound to; or refused without memory for the name
-  abbrev pub IsBeginStep : Driver D → List ℕ → Reply → Driver D → Type 0
-  IsBeginStep d name r d' =
-      (IsStep d.world event.Begin r d'.world × BindsBegun d.names d'.names name r)
+  -- begun by this step, as a transaction that the name is bound to; or refused without memory for
+  -- the name
+  abbrev pub IsBeginStep : Driver D → List ℕ → Event → Reply → Driver D → Type 0
+  IsBeginStep d name e r d' =
+      (IsStep d.world e r d'.world × BindsBegun d.names d'.names name r)
       ⊎ ((r ≡ Refused OutOfMemory) × (d'.world ≡ d.world) × KeepsBound d.names d'.names)
 
   -- one step with the row that a line gives
@@ -158,7 +159,8 @@ module _ {D : Type 0} (IsStep : WorldData D → Event → Reply → WorldData D 
 
   -- a line is answered
   abbrev pub IsAnswerTo : Driver D → Line → Reply → Driver D → Type 0
-  IsAnswerTo d (line.Begin name) r d' = IsBeginStep d name.now r d'
+  IsAnswerTo d (line.Begin name) r d' = IsBeginStep d name.now event.Begin r d'
+  IsAnswerTo d (line.BeginReadOnly name) r d' = IsBeginStep d name.now event.BeginReadOnly r d'
   IsAnswerTo d (line.Read name key) r d' = IsTxOp d name.now (op.Read key) r d'
   IsAnswerTo d (line.Scan name range) r d' =
       IsTxOp d name.now (op.Scan range.table range.lo range.hi) r d'

@@ -160,7 +160,8 @@ impl<D: Disk> Driver<D> {
             IsSomeAnd result (λ r. IsAnswerTo step self.old line.entry r self.new) }
     {
         match line {
-            Line::Begin(name) => Some(self.begin(name)),
+            Line::Begin(name) => Some(self.begin(name, Event::Begin)),
+            Line::BeginReadOnly(name) => Some(self.begin(name, Event::BeginReadOnly)),
             Line::Flush => Some(flush(&mut self.world)),
             Line::Rotate => Some(reply_of(run_rotation(&mut self.world))),
             Line::Checkpoint => Some(reply_of(run_checkpoint(&mut self.world))),
@@ -195,11 +196,12 @@ impl<D: Disk> Driver<D> {
         self.world.step(event)
     }
 
-    fn begin(&mut self, name: &str) -> Reply
+    /// Begins a transaction by this step, and binds the name to it.
+    fn begin(&mut self, name: &str, event: Event) -> Reply
         ensures { let step = IsReplyTo D.Disk in
-            IsBeginStep step self.old name.now result self.new }
+            IsBeginStep step self.old name.now event result self.new }
     {
-        match self.names.begin(name, &mut self.world) {
+        match self.names.begin(name, event, &mut self.world) {
             Ok(reply) => reply,
             Err(_) => Reply::Refused(Refusal::OutOfMemory),
         }

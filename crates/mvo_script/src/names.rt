@@ -40,18 +40,23 @@ impl Names {
         self.bound.get(name).copied().flatten()
     }
 
-    /// Asks the world to begin a transaction, and binds the name to it, as one that isn't
-    /// Committed. Where that is refused, each name stays as it was. Room for the name is taken
-    /// first: an error has asked for nothing.
-    pub fn begin<D: Disk>(&mut self, name: &str, world: &mut World<D>) -> Result<Reply, AllocError>
-        ensures asked { IfOk result (λ r. IsReplyTo D.Disk world.old Event.Begin r world.new) }
+    /// Asks the world for this step, a begin of either kind, and binds the name to the transaction
+    /// that it began, as one that isn't Committed. Where none was begun, each name stays as it was.
+    /// Room for the name is taken first: an error has asked for nothing.
+    pub fn begin<D: Disk>(
+        &mut self,
+        name: &str,
+        event: Event,
+        world: &mut World<D>,
+    ) -> Result<Reply, AllocError>
+        ensures asked { IfOk result (λ r. IsReplyTo D.Disk world.old event r world.new) }
         ensures names { IfOk result (BindsBegun self.old self.new name.now) }
         ensures names_err { OnErr result (KeepsBound self.old self.new) }
         ensures world_err { OnErr result (world.new ≡ world.old) }
     {
         let name = String::from_str(self.alloc, name)?;
         let place = self.bound.entry(name)?.or_insert(None);
-        let reply = world.step(Event::Begin);
+        let reply = world.step(event);
         if let Reply::Began(tx) = &reply {
             *place = Some(BoundTx::begun(*tx));
         }

@@ -71,6 +71,15 @@ fn name_of<'a>(line: Line<'a>) -> Option<&'a str> {
     }
 }
 
+/// Whether a line may draw a timestamp, and then one. The end of a read-only transaction is its
+/// begin, so that its precommit and its commit draw none: the clock is a bound.
+fn may_draw(line: Line<'_>) -> bool {
+    matches!(
+        line,
+        Line::Begin(_) | Line::BeginReadOnly(_) | Line::Precommit(_) | Line::Commit(_)
+    )
+}
+
 impl History {
     ghost use Rattle.std.specs.Prelude.{◌≡◌};
 
@@ -115,12 +124,11 @@ impl History {
     }
 
     fn note_line(&mut self, line: Line<'_>, reply: &Reply) -> Result<(), AllocError> {
-        if let Line::Begin(_) | Line::Precommit(_) | Line::Commit(_) = line {
-            // It draws one timestamp at most.
+        if may_draw(line) {
             self.clock = Stamp(self.clock.0.saturating_add(1));
         }
         match (line, reply) {
-            (Line::Begin(name), Reply::Began(_)) => self.begin(name),
+            (Line::Begin(name) | Line::BeginReadOnly(name), Reply::Began(_)) => self.begin(name),
             (_, Reply::Durable(mark)) => {
                 self.acknowledge(*mark);
                 Ok(())

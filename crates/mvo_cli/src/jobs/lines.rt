@@ -3,13 +3,14 @@ use mvo_core::Settlement;
 use mvo_disk::Disk;
 use mvo_engine::{Gate, Run, Session};
 use mvo_script::{Line, LineReply, RowText, SortRange};
-use mvo_types::{Answer, Refusal, Row, RowKey};
+use mvo_types::{Answer, Refusal, Row, RowKey, TxId};
 use mvo_world::Reply;
 use std::alloc::Global;
 use std::sync::Wait;
 
 /// Answers the lines of a job, one after another, by the calls of its session. Only `begin`,
-/// `read`, `scan`, `insert`, `update`, `delete`, `commit` and `rollback` are lines of a job.
+/// `begin-read`, `read`, `scan`, `insert`, `update`, `delete`, `commit` and `rollback` are lines of
+/// a job.
 pub struct Lines<'e, L: Run, D: Disk, G: Gate + Drop> {
     alloc: Global,
     session: Session<'e, L, D, G>,
@@ -69,6 +70,7 @@ impl<'e, L: Run, D: Disk, G: Gate + Drop> Lines<'e, L, D, G> {
     fn reply_to<R: Wait>(&mut self, rt: &R, line: Line<'_>) -> Option<Reply> {
         match line {
             Line::Begin(name) => Some(self.begin(rt, name)),
+            Line::BeginReadOnly(name) => Some(self.begin_read_only(rt, name)),
             Line::Read(name, key) if self.is_present(name) => Some(self.read(rt, key)),
             Line::Scan(name, range) if self.is_present(name) => Some(self.scan(rt, range)),
             Line::Insert(name, text) if self.is_present(name) => Some(self.insert(rt, text)),
@@ -94,7 +96,22 @@ impl<'e, L: Run, D: Disk, G: Gate + Drop> Lines<'e, L, D, G> {
         let Ok(name) = String::from_str(self.alloc, name) else {
             return Reply::Refused(Refusal::OutOfMemory);
         };
-        match self.session.begin_tx(rt) {
+        let begun = self.session.begin_tx(rt);
+        self.begun(name, begun)
+    }
+
+    /// The same of a read-only transaction.
+    fn begin_read_only<R: Wait>(&mut self, rt: &R, name: &str) -> Reply {
+        let Ok(name) = String::from_str(self.alloc, name) else {
+            return Reply::Refused(Refusal::OutOfMemory);
+        };
+        let begun = self.session.begin_read_only(rt);
+        self.begun(name, begun)
+    }
+
+    /// The reply to a begin. Where it is refused, the present transaction's name stays.
+    fn begun(&mut self, name: String, begun: Result<TxId, Refusal>) -> Reply {
+        match begun {
             Ok(tx) => {
                 self.name = Some(name);
                 Reply::Began(tx)

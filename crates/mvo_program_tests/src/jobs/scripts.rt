@@ -15,7 +15,7 @@ use std::thread::Threads;
 const SEED: u64 = 7;
 
 /// Each script alone, what is printed of it, and of the flush behind it.
-const SCRIPTS: [(&str, &str); 9] = [
+const SCRIPTS: [(&str, &str); 11] = [
     ("", "job 1\ndurable 0\n"),
     ("\n", "job 1\nbad line\ndurable 0\n"),
     (
@@ -47,6 +47,17 @@ const SCRIPTS: [(&str, &str); 9] = [
     (
         "begin t\nread t 16 0\ninsert t 0 1 2 61\ncommit t\ncommit t\n",
         "job 1\nbegan 1\nrefused 34\ninserted\ncommitted 2\nbad line\ndurable 2\n",
+    ),
+    // A read-only one goes on where it would write, and no second begin is inside it.
+    (
+        "begin-read r\nbegin-read s\nbegin s\ninsert r 0 5 50 61\nread r 0 5\ncommit r\ncommit r\n\
+         begin t\nbegin-read r\ncommit t\n",
+        "job 1\nbegan 1\nrefused 52\nrefused 52\nrefused 60\nnone\ncommitted 1\nbad line\n\
+         began 2\nrefused 52\ncommitted 3\ndurable 3\n",
+    ),
+    (
+        "begin-read r\nrollback r\nread r 0 5\nbegin-read r\nupdate r 0 5 50 61\n",
+        "job 1\nbegan 1\nrolled back\nbad line\nbegan 2\nrefused 60\ndurable 2\n",
     ),
     // What a script began and didn't end is rolled back.
     (

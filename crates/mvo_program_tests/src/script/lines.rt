@@ -5,7 +5,7 @@ use std::alloc::AllocError;
 use std::test::Fail;
 
 /// Lines that are none of a script, where t1 was begun.
-const BAD_LINES: [&[u8]; 94] = [
+const BAD_LINES: [&[u8]; 100] = [
     b"",
     b" ",
     b"begin",
@@ -25,6 +25,12 @@ const BAD_LINES: [&[u8]; 94] = [
     b"begin t2\0",
     b"begin t\xff",
     b"begin t\xc3\xa4",
+    b"begin-read",
+    b"begin-read ",
+    b"begin-read t2 t3",
+    b"begin-read tX",
+    b"begin-reads t2",
+    b"begin_read t2",
     b"read t2 0 5",
     b"commit t2",
     b"read t1 0",
@@ -103,11 +109,12 @@ const BAD_LINES: [&[u8]; 94] = [
 ];
 
 /// Lines of each kind. Which line each is says a clause.
-const LINES: [&[u8]; 49] = [
+const LINES: [&[u8]; 50] = [
     b"begin t",
     b"begin 0",
     b"begin z",
     b"begin 0123456789abcdef",
+    b"begin-read t",
     b"read t 0 0",
     b"read t 9 10",
     b"read ghijklmnopqrstuv 255 18446744073709551615",

@@ -86,7 +86,7 @@ no_trim P first word rest words is split fails a left kept form range e =
     let found = trim_only a left word words (sym (kind_told a left) ∙ ap kind_by whole) range whole in
     no_number 64 word (lit≤ tt) fails found.0 found.1 found.2
 
-merge_read_only : (a : Line) (left : List (List ℕ)) (word : List ℕ) (words : List (List ℕ)) → kind a ≡ 25 → IsInRange a → line_words a ++ left ≡ codes "merge-read" ∷ word ∷ words → (n : ℕ) × (n < 2 ^ 64) × (decimal n ≡ word)
+merge_read_only : (a : Line) (left : List (List ℕ)) (word : List ℕ) (words : List (List ℕ)) → kind a ≡ 26 → IsInRange a → line_words a ++ left ≡ codes "merge-read" ∷ word ∷ words → (n : ℕ) × (n < 2 ^ 64) × (decimal n ≡ word)
 merge_read_only (line.Store (MergeRead place)) left word words is range e = (place, range, cc)
 merge_read_only _ left word words is range e = absurd (omega arith)
 

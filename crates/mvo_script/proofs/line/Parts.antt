@@ -152,6 +152,7 @@ call_parts Reclaim range = (refl, tt)
 
 line_parts : (a : Line) → HasForm a → IsInRange a → AreParts (line_words a)
 line_parts (line.Begin name) form range = (refl, (name_part name.now form, tt))
+line_parts (line.BeginReadOnly name) form range = (refl, (name_part name.now form, tt))
 line_parts (line.Read name key) form range =
     (refl, (name_part name.now form, key_parts key range))
 line_parts (line.Scan name bounds) form range = (

@@ -32,10 +32,10 @@ place_in w [] = 0
 place_in w (v ∷ vs) = cond (is_word w v) 0 (suc (place_in w vs))
 
 abbrev first_words : List (List ℕ)
-first_words = codes "begin" ∷ codes "read" ∷ codes "scan" ∷ codes "insert" ∷ codes "update" ∷ codes "delete" ∷ codes "precommit" ∷ codes "validate" ∷ codes "settle" ∷ codes "rollback" ∷ codes "finish" ∷ codes "commit" ∷ codes "poll" ∷ codes "collect" ∷ codes "trim" ∷ codes "group" ∷ codes "take" ∷ codes "flush" ∷ codes "rotate" ∷ codes "checkpoint" ∷ codes "merge" ∷ codes "body" ∷ codes "open" ∷ codes "rotate-write" ∷ codes "checkpoint-read" ∷ codes "merge-read" ∷ codes "reclaim" ∷ codes "checkpoint-data" ∷ codes "checkpoint-delta" ∷ codes "merge-data" ∷ codes "merge-delta" ∷ codes "install-close" ∷ codes "install-body" ∷ codes "install-open" ∷ []
+first_words = codes "begin" ∷ codes "read" ∷ codes "scan" ∷ codes "insert" ∷ codes "update" ∷ codes "delete" ∷ codes "precommit" ∷ codes "validate" ∷ codes "settle" ∷ codes "rollback" ∷ codes "finish" ∷ codes "commit" ∷ codes "poll" ∷ codes "collect" ∷ codes "trim" ∷ codes "group" ∷ codes "take" ∷ codes "flush" ∷ codes "rotate" ∷ codes "checkpoint" ∷ codes "merge" ∷ codes "begin-read" ∷ codes "body" ∷ codes "open" ∷ codes "rotate-write" ∷ codes "checkpoint-read" ∷ codes "merge-read" ∷ codes "reclaim" ∷ codes "checkpoint-data" ∷ codes "checkpoint-delta" ∷ codes "merge-data" ∷ codes "merge-delta" ∷ codes "install-close" ∷ codes "install-body" ∷ codes "install-open" ∷ []
 
 abbrev counts : List ℕ
-counts = 2 ∷ 4 ∷ 5 ∷ 6 ∷ 6 ∷ 4 ∷ 2 ∷ 2 ∷ 2 ∷ 2 ∷ 2 ∷ 2 ∷ 2 ∷ 1 ∷ 2 ∷ 1 ∷ 1 ∷ 1 ∷ 1 ∷ 1 ∷ 2 ∷ 1 ∷ 1 ∷ 1 ∷ 1 ∷ 2 ∷ 1 ∷ 1 ∷ 1 ∷ 1 ∷ 1 ∷ 1 ∷ 1 ∷ 1 ∷ []
+counts = 2 ∷ 4 ∷ 5 ∷ 6 ∷ 6 ∷ 4 ∷ 2 ∷ 2 ∷ 2 ∷ 2 ∷ 2 ∷ 2 ∷ 2 ∷ 1 ∷ 2 ∷ 1 ∷ 1 ∷ 1 ∷ 1 ∷ 1 ∷ 2 ∷ 2 ∷ 1 ∷ 1 ∷ 1 ∷ 1 ∷ 2 ∷ 1 ∷ 1 ∷ 1 ∷ 1 ∷ 1 ∷ 1 ∷ 1 ∷ 1 ∷ []
 
 abbrev pub kind_by : List (List ℕ) → ℕ
 kind_by [] = 99
@@ -88,10 +88,12 @@ kind line.Flush = 17
 kind line.Rotate = 18
 kind line.Checkpoint = 19
 kind (line.Merge _) = 20
-kind (line.Store call) = 21 + call_kind call
+kind (line.BeginReadOnly _) = 21
+kind (line.Store call) = 22 + call_kind call
 
 pub kind_told : (a : Line) (left : List (List ℕ)) → kind_by (line_words a ++ left) ≡ kind a
 kind_told (line.Begin _) left = refl
+kind_told (line.BeginReadOnly _) left = refl
 kind_told (line.Read _ _) left = refl
 kind_told (line.Scan _ _) left = refl
 kind_told (line.Insert _ _) left = refl
@@ -128,6 +130,7 @@ kind_told (line.Store Reclaim) left = refl
 
 count_told : (a : Line) (left : List (List ℕ)) → count_by (line_words a ++ left) ≡ length (line_words a)
 count_told (line.Begin _) left = refl
+count_told (line.BeginReadOnly _) left = refl
 count_told (line.Read _ _) left = refl
 count_told (line.Scan _ _) left = refl
 count_told (line.Insert _ _) left = refl
@@ -217,6 +220,7 @@ calls_tell _ _ range least alike same = absurd (omega arith)
 
 words_tell : (a b : Line) → HasForm a → HasForm b → IsInRange a → IsInRange b → kind a ≡ kind b → line_words a ≡ line_words b → IsSameLine a b
 words_tell (line.Begin a) (line.Begin b) form other range least alike same = cc
+words_tell (line.BeginReadOnly a) (line.BeginReadOnly b) form other range least alike same = cc
 words_tell (line.Read a key) (line.Read b next) form other range least alike same =
     (cc, key_told key next range least (cc) (cc))
 words_tell (line.Scan a bounds) (line.Scan b next) form other range least alike same = (

@@ -15,6 +15,7 @@ IsData digits = (digits ≡ []) ⊎ IsHex digits
 -- a name has the form of one, and data that of data
 abbrev pub HasForm : Line → Type 0
 HasForm (line.Begin name) = IsName name.now
+HasForm (line.BeginReadOnly name) = IsName name.now
 HasForm (line.Read name key) = IsName name.now
 HasForm (line.Scan name range) = IsName name.now
 HasForm (line.Insert name row) = IsName name.now × IsData row.digits.now

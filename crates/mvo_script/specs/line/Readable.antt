@@ -25,6 +25,7 @@ BeginNoRow words = (row : RowText) (left : List (List ℕ)) → IsRowInRange row
 -- it is one of a transaction
 abbrev pub IsOfTransaction : Line → Type 0
 IsOfTransaction (line.Begin _) = Unit {0}
+IsOfTransaction (line.BeginReadOnly _) = Unit {0}
 IsOfTransaction (line.Read _ _) = Unit {0}
 IsOfTransaction (line.Scan _ _) = Unit {0}
 IsOfTransaction (line.Insert _ _) = Unit {0}

@@ -20,6 +20,7 @@ IsSameRow a b = IsSameKey a.key b.key × (a.sort ≡ b.sort) × (a.digits.now �
 -- of one kind, with the same name, the same numbers and the same data
 abbrev pub IsSameLine : Line → Line → Type 0
 IsSameLine (line.Begin a) (line.Begin b) = a.now ≡ b.now
+IsSameLine (line.BeginReadOnly a) (line.BeginReadOnly b) = a.now ≡ b.now
 IsSameLine (line.Read a key) (line.Read b other) = (a.now ≡ b.now) × IsSameKey key other
 IsSameLine (line.Scan a range) (line.Scan b other) = (a.now ≡ b.now) × IsSameRange range other
 IsSameLine (line.Insert a row) (line.Insert b other) = (a.now ≡ b.now) × IsSameRow row other

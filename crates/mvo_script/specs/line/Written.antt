@@ -43,6 +43,7 @@ call_words Reclaim = codes "reclaim" ∷ []
 
 abbrev pub line_words : Line → List (List ℕ)
 line_words (line.Begin name) = codes "begin" ∷ name.now ∷ []
+line_words (line.BeginReadOnly name) = codes "begin-read" ∷ name.now ∷ []
 line_words (line.Read name key) = codes "read" ∷ name.now ∷ key_words key
 line_words (line.Scan name range) = codes "scan" ∷ name.now ∷ range_words range
 line_words (line.Insert name row) = codes "insert" ∷ name.now ∷ row_words row

@@ -19,6 +19,8 @@ pub const MAX_LINE_LEN: usize = 4_096;
 pub enum Line<'a> {
     /// `begin NAME`
     Begin(&'a str),
+    /// `begin-read NAME`
+    BeginReadOnly(&'a str),
     /// `read NAME TABLE KEY`
     Read(&'a str, RowKey),
     /// `scan NAME TABLE LO HI`
@@ -141,6 +143,7 @@ fn named_line_of<'a>(first: &str, rest: &mut LineRest<'a>) -> Option<Line<'a>>
     let name = name_of(rest.next()?)?;
     match first {
         "begin" => Some(Line::Begin(name)),
+        "begin-read" => Some(Line::BeginReadOnly(name)),
         "read" => Some(Line::Read(name, key_of(rest)?)),
         "scan" => Some(Line::Scan(name, range_of(rest)?)),
         "insert" => Some(Line::Insert(name, row_of(rest)?)),

@@ -9,7 +9,7 @@ returns-in-Flush g c = λ is.
 
 pub returns-in_default : goal.returns-in_default
 returns-in_default g c = λ is.
-    let f = has_step c.args.line is c.in_default.not-Begin c.in_default.not-Flush c.in_default.not-Rotate c.in_default.not-Checkpoint c.in_default.not-Merge in
+    let f = has_step c.args.line is c.in_default.not-Begin c.in_default.not-BeginReadOnly c.in_default.not-Flush c.in_default.not-Rotate c.in_default.not-Checkpoint c.in_default.not-Merge in
     some_weaker c.ask_if.result _ _
     (λ r it. by_step (IsReplyTo g.D.Disk) c.args.self.now c.args.line f.0 r c.ask_if.new.self f.1 it)
     (c.ask_if.ensures f.0 (c.event_of_line.ensures ∙ f.1))
