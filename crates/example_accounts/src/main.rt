@@ -1,14 +1,17 @@
 //! Eight threads move money between a hundred accounts, while another makes checkpoints, merges
 //! them, trims and collects. No money is lost or made, all of it is durable at the end, and what
-//! nobody can ask for any more is gone from memory and from the log.
+//! nobody can ask for any more is gone from memory and from the log. Then four threads order from a
+//! small stock, and nothing is sold that isn't there.
 #![tactic(auto)]
 
 mod accounts;
+mod orders;
 mod transfers;
 mod upkeep;
 
 use accounts::{Told, formatted, on_disk, total_on_disk};
 use anyhow::bail;
+use orders::sell_out;
 use std::io;
 use std::random::RandomSource;
 
@@ -24,7 +27,7 @@ fn main(rt: HostRuntime) -> Result<(), anyhow::Error> {
         Ok(total) => println!(rt; "total {total} on the disk")?,
         Err(refusal) => bail!("the disk isn't opened: {refusal}"),
     }
-    Ok(())
+    sell_out(&rt, alloc, draw_seed(&rt)?, formatted(alloc)?)
 }
 
 fn tell(rt: &impl Print, told: &Told) -> io::Result<()> {
