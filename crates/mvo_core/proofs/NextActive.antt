@@ -22,14 +22,14 @@ use Rattle.mvo_core.specs.declared.kept_transaction.TransactionKind.TheVariants.
 use Rattle.mvo_core.specs.Causes.{kind_kept}
 use Rattle.mvo_core.specs.Data.{CoreData, own_of}
 use Rattle.mvo_core.specs.Readers.{kind_at, reader_in, HasStage}
-use Rattle.mvo_core.specs.Unfinished.{is_active_as, is_active_in, IsBetween, IsFirst, IsNextBegun, IsNextActive}
+use Rattle.mvo_core.specs.Unfinished.{is_active_by, is_active_in, IsBetween, IsEarliest, IsNextBegun, IsNextActive}
 use Rattle.mvo_core.specs.WholeStanding.{StandsWhole}
 use Rattle.mvo_core.proofs.ReaderCalled.{core_state, state_is, kept_is}
 use Rattle.mvo_core.proofs.ReaderStages.{none_of_stage, none_kind}
 
 -- ---- in the table
 module _ (table : Txns (Node KeptTransaction)) where
-  seated : (o : Option (TableSeat (Node KeptTransaction))) (kind : TransactionKind) → is_active_as (option_map (λ seat. seat.state) o) kind ≡ true → IsSome o
+  seated : (o : Option (TableSeat (Node KeptTransaction))) (kind : TransactionKind) → is_active_by (option_map (λ seat. seat.state) o) kind ≡ true → IsSome o
   seated None kind e = absurd (false≢true e)
   seated (Some seat) kind e = refl
 
@@ -77,7 +77,7 @@ active_phase (PreparingPhase d) e = absurd (false≢true e)
 active_phase (CommittedPhase d) e = absurd (false≢true e)
 active_phase AbortedPhase e = absurd (false≢true e)
 
-other_active : (o : Option TxState) → is_active_as o Other ≡ is_active (phase_as o)
+other_active : (o : Option TxState) → is_active_by o Other ≡ is_active (phase_as o)
 other_active None = refl
 other_active (Some Active) = refl
 other_active (Some (Preparing d)) = refl
@@ -88,9 +88,9 @@ module _ (opening : Map) (steps own : List Step) (w : WholeState) (c : CoreData)
   reader_active : (t : ℕ) (p : ReaderStage) → stage_of t w.readers ≡ Some p → is_active_in c.table t ≡ is_active (phase_at_stage t p)
   reader_active t p k =
       let kept = kept_is opening steps own w c h t p k in
-      (λ i. is_active_as (state_is opening steps own w c h t p k i) ((ap kind_kept kept.kept ∙ kept.kind) i)) ∙ by_stage t p
+      (λ i. is_active_by (state_is opening steps own w c h t p k i) ((ap kind_kept kept.kept ∙ kept.kind) i)) ∙ by_stage t p
     where
-      by_stage : (t : ℕ) (p : ReaderStage) → is_active_as (Some (core_state p)) (kind_at p) ≡ is_active (phase_at_stage t p)
+      by_stage : (t : ℕ) (p : ReaderStage) → is_active_by (Some (core_state p)) (kind_at p) ≡ is_active (phase_at_stage t p)
       by_stage t IsReading = refl
       by_stage t (IsPreparing n v) = refl
       by_stage t IsCommitted = refl
@@ -102,11 +102,11 @@ module _ (opening : Map) (steps own : List Step) (w : WholeState) (c : CoreData)
       go : (o : Option ReaderStage) → stage_of t w.readers ≡ o → is_active_in c.table t ≡ is_active (phase_by_stage w.core t o)
       go (Some p) k = reader_active t p k
       go None k =
-          ap (is_active_as (state_of c.table t)) (none_kind (own_of c.table t) (none_of_stage c.tale t (reader_in (own_of c.table t)) (subst (HasStage c.tale t (reader_in (own_of c.table t))) k (h.core.stages t))))
+          ap (is_active_by (state_of c.table t)) (none_kind (own_of c.table t) (none_of_stage c.tale t (reader_in (own_of c.table t)) (subst (HasStage c.tale t (reader_in (own_of c.table t))) k (h.core.stages t))))
           ∙ other_active (state_of c.table t)
           ∙ ap is_active (h.core.dependencies.stands.phases t)
 
-  pub next_whole : (from below : ℕ) (next : Option TxId) → IsNextActive c.table from below next → IsFirst (λ t. IsBetween from below t × (phase_in_whole w t ≡ ActivePhase)) next
+  pub next_whole : (from below : ℕ) (next : Option TxId) → IsNextActive c.table from below next → IsEarliest (λ t. IsBetween from below t × (phase_in_whole w t ≡ ActivePhase)) next
   next_whole from below None none = λ n is. none n (is.0, active_is n ∙ ap is_active is.1)
   next_whole from below (Some id) first =
       ((first.0.0, active_phase (phase_in_whole w id.0) (sym (active_is id.0) ∙ first.0.1)), λ n is. first.1 n (is.0, active_is n ∙ ap is_active is.1))

@@ -22,12 +22,12 @@ is_open_kind Reading = true
 is_open_kind kind = false
 
 -- whether one that stands so is Active: for the table a read-only one that is Preparing is, too
-abbrev pub is_active_as : Option TxState → TransactionKind → Bool
-is_active_as (Some Active) kind = is_open_kind kind
-is_active_as state kind = false
+abbrev pub is_active_by : Option TxState → TransactionKind → Bool
+is_active_by (Some Active) kind = is_open_kind kind
+is_active_by state kind = false
 
 abbrev pub is_active_in : Txns (Node KeptTransaction) → ℕ → Bool
-is_active_in table t = is_active_as (state_of table t) (kind_kept (own_of table t))
+is_active_in table t = is_active_by (state_of table t) (kind_kept (own_of table t))
 
 -- ---- the next one
 -- the transaction began from the first stamp on and below the second
@@ -35,20 +35,20 @@ abbrev pub IsBetween : ℕ → ℕ → ℕ → Type 0
 IsBetween from below t = (from ≤ t) × (t < below)
 
 -- the transaction with the least begin of those that are so, if there is one
-abbrev pub IsFirst : (ℕ → Type 0) → Option TxId → Type 0
-IsFirst Is None = HasNone Is
-IsFirst Is (Some t) = IsLeastOf Is t.0
+abbrev pub IsEarliest : (ℕ → Type 0) → Option TxId → Type 0
+IsEarliest Is None = HasNone Is
+IsEarliest Is (Some t) = IsLeastOf Is t.0
 
 -- the first of those that began there
 abbrev pub IsNextBegun : Txns (Node KeptTransaction) → ℕ → ℕ → Option TxId → Type 0
-IsNextBegun table from below next = IsFirst (λ t. IsBetween from below t × HasBegin table t) next
+IsNextBegun table from below next = IsEarliest (λ t. IsBetween from below t × HasBegin table t) next
 
 -- the first of them that is Active
 abbrev pub IsNextActive : Txns (Node KeptTransaction) → ℕ → ℕ → Option TxId → Type 0
 IsNextActive table from below next =
-    IsFirst (λ t. IsBetween from below t × (is_active_in table t ≡ true)) next
+    IsEarliest (λ t. IsBetween from below t × (is_active_in table t ≡ true)) next
 
 -- so it is by its phase in each whole state
 abbrev pub IsNextActiveWhole : CoreData → ℕ → ℕ → Option TxId → Type 0
 IsNextActiveWhole c from below next = InEachWhole c (λ w.
-    IsFirst (λ t. IsBetween from below t × (phase_in_whole w t ≡ IsActivePhase)) next)
+    IsEarliest (λ t. IsBetween from below t × (phase_in_whole w t ≡ IsActivePhase)) next)

@@ -1,6 +1,6 @@
 //! Which of the unfinished transactions are Active.
 ghost use Rattle.std.specs.Prelude.{◌≡◌};
-ghost use Rattle.mvo_core.specs.Unfinished.{IsNextActive, IsNextBegun, is_active_as, is_active_in, is_open_kind};
+ghost use Rattle.mvo_core.specs.Unfinished.{IsNextActive, IsNextBegun, is_active_by, is_active_in, is_open_kind};
 
 use crate::event_core::Core;
 use crate::kept_transaction::{KeptTransaction, Table, TransactionKind};
@@ -63,7 +63,7 @@ fn is_active(table: &Table, id: TxId) -> bool
 
 /// Whether one that is unfinished is Active.
 fn is_active_seat(seat: &TableSeat<Node<KeptTransaction>>) -> bool
-    ensures { result ≡ is_active_as (Some seat.now.state) seat.now.kept.own.kind }
+    ensures { result ≡ is_active_by (Some seat.now.state) seat.now.kept.own.kind }
 {
     match seat.state {
         TxState::Active => is_open_kind(seat.kept.own.kind),

@@ -10,7 +10,7 @@ use Rattle.mvo_txn.specs.declared.queue.Queue.{Queue}
 use Rattle.mvo_txn.specs.declared.table_seat.TableSeat.{TableSeat}
 use Rattle.mvo_txn.specs.Seats.{SeatMap}
 use Rattle.mvo_txn.specs.Queue.{queue_stamp, first_stamp, IsListing, IsQueue}
-use Rattle.mvo_txn.specs.Next.{IsNextStamp, IsNextIn, IsNextBegin}
+use Rattle.mvo_txn.specs.Next.{IsNextCounted, IsNextIn, IsNextBegin}
 use Rattle.mvo_txn.specs.Sound.{IsQueueOf, AreSeatsSound}
 use Rattle.mvo_txn.specs.Txns.{HasOpenEnd, IsOldestBegin, IsLowWater, IsTable}
 use Rattle.mvo_txn.proofs.Queues.{Stamps, same_some, listed_above, listed_below}
@@ -89,11 +89,11 @@ module _ {P : Type 0} where
   -- ---- the next begin
   pub next_none : (clock : ℕ) (m : SeatMap P) (q : Queue) (from : ℕ) → IsQueueOf Begin clock m q → IsNextIn m q from None → IsNextBegin (record { clock = clock; seats = m }) from None
   next_none clock m q from is next n h =
-      subst (λ k. IsNextStamp (queue_stamp k m) from None) is.kind_is (next (clock + 1) (subst (λ k. IsListing (queue_stamp k m) (clock + 1) q.marks.items) (sym is.kind_is) is.queue.listing)) n (h.0, (n, begin_of (get m n) n h.1))
+      subst (λ k. IsNextCounted (queue_stamp k m) from None) is.kind_is (next (clock + 1) (subst (λ k. IsListing (queue_stamp k m) (clock + 1) q.marks.items) (sym is.kind_is) is.queue.listing)) n (h.0, (n, begin_of (get m n) n h.1))
 
   pub next_some : (clock : ℕ) (m : SeatMap P) (q : Queue) (from begin : ℕ) → IsQueueOf Begin clock m q → IsNextIn m q from (Some begin) → IsNextBegin (record { clock = clock; seats = m }) from (Some (record { 0 = begin }))
   next_some clock m q from begin is next =
-      let there = subst (λ k. IsNextStamp (queue_stamp k m) from (Some begin)) is.kind_is (next (clock + 1) (subst (λ k. IsListing (queue_stamp k m) (clock + 1) q.marks.items) (sym is.kind_is) is.queue.listing)) in (
+      let there = subst (λ k. IsNextCounted (queue_stamp k m) from (Some begin)) is.kind_is (next (clock + 1) (subst (λ k. IsListing (queue_stamp k m) (clock + 1) q.marks.items) (sym is.kind_is) is.queue.listing)) in (
         (there.0.0, subst (λ k. IsSome (get m k)) (begin_is_id m there.0.1.0 begin there.0.1.1) (some_begin (get m there.0.1.0) there.0.1.0 begin there.0.1.1)),
         λ k h. there.1 k (h.0, (k, begin_of (get m k) k h.1)),
       )

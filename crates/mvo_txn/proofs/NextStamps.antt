@@ -5,7 +5,7 @@ use Rattle.std.specs.List.Sorted.{IsNonDecreasingBy, IsPartitionPoint}
 use Rattle.std.proofs.lemmas.Bool.{cases_lt, false≢true}
 use Rattle.mvo_txn.specs.declared.mark.Mark.{Mark}
 use Rattle.mvo_txn.specs.Queue.{HasRisingStamps, IsListed, IsListing, is_current}
-use Rattle.mvo_txn.specs.Next.{CountsFrom, IsNextStamp}
+use Rattle.mvo_txn.specs.Next.{CountsFrom, IsNextCounted}
 use Rattle.mvo_txn.proofs.Queues.{Stamps, if_current, current_if}
 
 -- from a place on the timestamps aren't below the first
@@ -59,13 +59,13 @@ module _ (f : Stamps) (high from start place : ℕ) (ms : List Mark) (l : IsList
       (λ after. after)
       (cases_lt at.place place)
 
-  pub none_next : length ms ≤ place → IsNextStamp f from None
+  pub none_next : length ms ≤ place → IsNextCounted f from None
   none_next over n h =
       let at = listed_at h.1.0 n ms (record { stamp = 0; id = 0 }) (l.complete h.1.0 n h.1.1) in
       let le : place ≤ at.place = behind h.1.0 n (record { stamp = 0; id = 0 }) h.0 h.1.1 at in
       let lt : at.place < length ms = at.inside in omega (arith, over, le, lt)
 
-  pub some_next : (m : Mark) → start ≤ place → place < length ms → slice_index_or ms place m ≡ m → is_current f m ≡ true → IsNextStamp f from (Some m.stamp)
+  pub some_next : (m : Mark) → start ≤ place → place < length ms → slice_index_or ms place m ≡ m → is_current f m ≡ true → IsNextCounted f from (Some m.stamp)
   some_next m le lt here is = (
     (subst (λ x. from ≤ x.stamp) here (point.1 place m le lt), (m.id, current_if f m is)),
     λ n h.

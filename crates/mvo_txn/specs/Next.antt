@@ -13,18 +13,18 @@ abbrev pub CountsFrom : (ℕ → Option ℕ) → ℕ → ℕ → Type 0
 CountsFrom stamp_of from stamp = (from ≤ stamp) × ((id : ℕ) × (stamp_of id ≡ Some stamp))
 
 -- the least such timestamp, if there is one
-abbrev pub IsNextStamp : (ℕ → Option ℕ) → ℕ → Option ℕ → Type 0
-IsNextStamp stamp_of from None = HasNone (CountsFrom stamp_of from)
-IsNextStamp stamp_of from (Some n) = IsLeastOf (CountsFrom stamp_of from) n
+abbrev pub IsNextCounted : (ℕ → Option ℕ) → ℕ → Option ℕ → Type 0
+IsNextCounted stamp_of from None = HasNone (CountsFrom stamp_of from)
+IsNextCounted stamp_of from (Some n) = IsLeastOf (CountsFrom stamp_of from) n
 
 -- so it is where the queue lists all that count
 abbrev pub IsNextIn : {P : Type 0} → SeatMap P → Queue → ℕ → Option ℕ → Type 0
 IsNextIn m q from next = (high : ℕ) → IsListing (queue_stamp q.kind m) high q.marks.items
-    → IsNextStamp (queue_stamp q.kind m) from next
+    → IsNextCounted (queue_stamp q.kind m) from next
 
 -- the timestamps before the place are below this one, and the others aren't
-abbrev pub IsPlaceOf : Queue → ℕ → ℕ → Type 0
-IsPlaceOf q from place = (high : ℕ) → HasRisingStamps 1 high q.marks.items
+abbrev pub IsPlaceFrom : Queue → ℕ → ℕ → Type 0
+IsPlaceFrom q from place = (high : ℕ) → HasRisingStamps 1 high q.marks.items
     → IsPartitionPoint (λ x. x.stamp < from) (λ x. from ≤ x.stamp) q.marks.items place
 
 -- ---- in the table

@@ -2,7 +2,7 @@ ghost use Rattle.std.specs.Prelude.{◌≡◌, ◌+◌, ◌<◌, ◌≤◌, [], 
 ghost use Rattle.std.specs.VecDeque.{deque_len, deque_capacity};
 ghost use Rattle.mvo_txn.specs.Queue.{first_stamp, with_mark};
 ghost use Rattle.mvo_txn.specs.Sound.{KeepsForm, KeepsQueue, TrimsQueue, HasPlace};
-ghost use Rattle.mvo_txn.specs.Next.{IsNextIn, IsPlaceOf};
+ghost use Rattle.mvo_txn.specs.Next.{IsNextIn, IsPlaceFrom};
 
 use crate::mark::{Kind, Mark};
 use crate::seats::Seats;
@@ -58,7 +58,7 @@ impl Queue {
     /// The place of the first timestamp that isn't below this number.
     fn place_of(&self, from: u64) -> usize
         ensures bound { result ≤ deque_len self.now.marks }
-        ensures place { IsPlaceOf self.now from result }
+        ensures place { IsPlaceFrom self.now from result }
     {
         self.marks.partition_point(|mark| mark.stamp < from)
     }
