@@ -18,3 +18,4 @@ mod Refused
 mod Transacting
 mod Asking
 mod OneCall
+mod RollingBack

@@ -8,7 +8,6 @@ use Rattle.mvo_types.specs.declared.refusal.Refusal.TheVariants.{NoSuchTransacti
 use Rattle.mvo_model.specs.History.{History}
 use Rattle.mvo_theory.specs.Calls as theory
 use Rattle.mvo_theory.specs.Calls.Call.{Do, Precommit, Validate, Settle, Rollback, Finish}
-use Rattle.mvo_theory.specs.Causes.{is_failure}
 use Rattle.mvo_core.specs.declared.answers.Finishing.{Finishing}
 use Rattle.mvo_core.specs.declared.answers.Finishing.TheVariants.{Done}
 use Rattle.mvo_core.specs.declared.answers.Settlement.{Settlement}
@@ -21,7 +20,7 @@ use Rattle.mvo_store.specs.Seen.{mark_of}
 use Rattle.mvo_engine.specs.run.Opening.{Opening}
 use Rattle.mvo_engine.specs.Sound.{IsSoundCore, IsSoundStore}
 use Rattle.mvo_engine.specs.States.{CoreState, StoreState}
-use Rattle.mvo_engine.specs.Calls.{IsCoreStep, IsAnother}
+use Rattle.mvo_engine.specs.Calls.{IsCoreStep, IsAnother, ends_transaction}
 
 -- Under its lock the core lay sound, and the call came to this.
 pub record WasAsked {A : Type 0} (o : Opening) (call : theory.Call) (result : Result A Refusal)
@@ -55,11 +54,11 @@ pub record HasGone (o : Opening) (t : ℕ) : Type 0 where
   pub rolled_back : WasRolledBack o t
   pub finished : WasFinished o t
 
--- What a refusal leaves of the transaction: it stays the session's; or a failure ended it, and it
+-- What a refusal leaves of the transaction: it stays the session's; or the refusal ended it, and it
 -- is finished in the core; or it was rolled back there.
 pub data HasLeftTx (o : Opening) (before : Option ℕ) (e : Refusal) (after : Option ℕ) : Type 0 where
   Stays : after ≡ before → HasLeftTx o before e after
-  Failed : is_failure e ≡ true → IfSome before (WasFinished o) → HasLeftTx o before e after
+  Over : ends_transaction e ≡ true → IfSome before (WasFinished o) → HasLeftTx o before e after
   Gone : IfSome before (HasGone o) → HasLeftTx o before e after
 
 -- what the core answered to an operation of the transaction

@@ -1,7 +1,7 @@
 -- What the calls under the locks come to, and those of a session.
 use Rattle.std.specs.Prelude.{◌≡◌, ◌⊎◌, ◌<◌, ◌≤◌, ◌+◌, ℕ, Bool, true, false, List, [], ◌∷◌, ◌++◌, Option, None, Some, Result, Ok, Err, if◌then◌else◌, max, IfOk, IfSome}
 use Rattle.mvo_types.specs.declared.refusal.Refusal.{Refusal}
-use Rattle.mvo_types.specs.declared.refusal.Refusal.TheVariants.{NoSuchTransaction, Busy, NothingToDo, OutOfMemory}
+use Rattle.mvo_types.specs.declared.refusal.Refusal.TheVariants.{NoSuchTransaction, Ended, Busy, NothingToDo, OutOfMemory}
 use Rattle.mvo_types.specs.declared.ids.TxId.{TxId}
 use Rattle.mvo_types.specs.declared.ids.Stamp.{Stamp}
 use Rattle.mvo_types.specs.declared.op.Op.{Op}
@@ -137,9 +137,15 @@ abbrev pub IsNoTx : {A : Type 0} → Option ℕ → Result A Refusal → Type 0
 IsNoTx None result = result ≡ Err NoSuchTransaction
 IsNoTx (Some t) result = Unit {0}
 
--- what a refusal leaves: a failure ends the transaction
+-- a failure ends the transaction, and it is over where the core has none, or says that it ended
+abbrev pub ends_transaction : Refusal → Bool
+ends_transaction NoSuchTransaction = true
+ends_transaction Ended = true
+ends_transaction r = is_failure r
+
+-- what a refusal leaves
 abbrev pub session_after : Refusal → SessionState → SessionState
-session_after r s = record s { tx = if is_failure r then None else s.tx }
+session_after r s = record s { tx = if ends_transaction r then None else s.tx }
 
 -- What an operation was answered is one more of what it was told. Where memory is refused, it may
 -- have been rolled back: then the core had answered, and the copy was refused.

@@ -13,7 +13,8 @@ refuses_begin OutOfMemory = true
 refuses_begin e = false
 
 -- ---- operations
--- a read or a scan. Ended and NotActive are the core's, and no run of a session meets them
+-- A read or a scan. Ended is where another rolls it back meanwhile. NotActive is the core's, and no
+-- run of a session meets it.
 abbrev pub refuses_read : Refusal → Bool
 refuses_read NoSuchTransaction = true
 refuses_read Ended = true
@@ -49,7 +50,7 @@ refuses_operation (Update row) e = refuses_update e
 refuses_operation (Delete key) e = refuses_delete e
 
 -- ---- the end of a transaction
--- Of these no run of a session meets Ended, NotActive, NotPreparing, NotValidated and Busy.
+-- Of these no run of a session meets NotActive, NotPreparing, NotValidated and Busy.
 abbrev pub refuses_commit : Refusal → Bool
 refuses_commit NoSuchTransaction = true
 refuses_commit Ended = true
@@ -63,7 +64,7 @@ refuses_commit ClockSpent = true
 refuses_commit OutOfMemory = true
 refuses_commit e = false
 
--- Ended is the core's, and no run of a session meets it
+-- Ended is where another rolls it back meanwhile
 abbrev pub refuses_rollback : Refusal → Bool
 refuses_rollback NoSuchTransaction = true
 refuses_rollback Ended = true

@@ -17,6 +17,7 @@ mod one_call;
 mod outcome;
 mod place;
 mod program;
+mod rolling_back;
 mod run;
 mod seen_durable;
 mod sends;

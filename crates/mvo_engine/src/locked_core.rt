@@ -59,12 +59,15 @@ impl<L: Run> Model for LockedCore<L> {
 }
 
 impl<L: Run> LockedCore<L> {
-    ghost use Rattle.std.specs.Prelude.{◌≡◌, ◌≤◌, ◌+◌, ◌<◌, [], true, IfOk, IfErr, IfSome};
+    ghost use Rattle.std.specs.Prelude.{◌≡◌, ◌≤◌, ◌+◌, ◌<◌, [], true, Some, IfOk, IfErr, IfSome};
     ghost use Rattle.mvo_types.specs.declared.refusal.Refusal.{Refusal};
     ghost use Rattle.mvo_theory.specs.Calls.Call.{Do, Precommit, Validate};
     ghost use Rattle.mvo_theory.specs.Calls.Call.{Rollback, Finish, Trim};
     ghost use Rattle.mvo_core.specs.Steps.{IsAnswered, IsValidation, IsSettlement, IsFinishing};
     ghost use Rattle.mvo_core.specs.Trimming.{HasForgotten};
+    ghost use Rattle.mvo_core.specs.Causes.{why_not_undo};
+    ghost use Rattle.mvo_core.specs.Unfinished.{IsNextActive};
+    ghost use Rattle.mvo_txn.specs.Txns.{state_of};
     ghost use Rattle.mvo_engine.specs.Stored.{HasStored};
     ghost use Rattle.mvo_engine.specs.Audited.{IsAudited};
     ghost use Rattle.mvo_engine.specs.Booked.{IsBooked, HasSpareParts};
@@ -315,9 +318,19 @@ impl<L: Run> LockedCore<L> {
     pub fn rollback_tx(&mut self, tx: TxId) -> Result<(), Refusal>
         ensures sound { IsSoundCore L.opening self.old.core self.old.sends.sent }
         ensures step { IsCoreStep self.old (Rollback tx.0) result self.new }
+        ensures cause { IfErr result (λ e.
+            why_not_undo (state_of self.old.core.table tx.0) ≡ Some e) }
         ensures err { IfErr result (λ e. refuses_rollback e ≡ true) }
     {
         self.core.rollback_tx(tx)
+    }
+
+    /// As `Core::next_active`.
+    pub fn next_active(&self, from: Stamp, below: Stamp) -> Option<TxId>
+        ensures sound { IsSoundCore L.opening self.now.core self.now.sends.sent }
+        ensures next { IsNextActive self.now.core.table from.0 below.0 result }
+    {
+        self.core.next_active(from, below)
     }
 
     /// As `Core::finish_one`.

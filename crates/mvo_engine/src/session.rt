@@ -12,6 +12,7 @@ use crate::locked_core::LockedCore;
 use crate::locked_store::LockedStore;
 use crate::run::{Receipt, Receipts, Run, Told};
 use crate::seen_durable::SeenDurable;
+pub(crate) use committing::finish_some;
 use mvo_disk::Disk;
 use mvo_marks::Seat;
 use mvo_types::{Stamp, TxId};
@@ -20,7 +21,8 @@ use std::sync::{MutexGuard, Wait};
 
 /// One caller of an engine, in one thread at a time. It has one transaction at a time, and keeps a
 /// receipt of each that it committed, until its end isn't above the start of the tale. A session
-/// that is dropped inside a transaction leaves it unfinished.
+/// that is dropped inside a transaction leaves it unfinished, until somebody rolls it back
+/// (`Engine::roll_back_older`).
 pub struct Session<'e, L: Run, D: Disk, G: Gate + Drop> {
     engine: &'e Engine<L, D, G>,
     seat: Seat,

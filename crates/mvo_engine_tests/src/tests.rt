@@ -15,6 +15,7 @@ mod kinds;
 mod lasting;
 mod letting_by;
 mod meeting;
+mod older;
 mod one_call;
 mod reads_free;
 mod rows;

@@ -26,12 +26,25 @@ pub(super) fn is_failure(refusal: Refusal) -> bool
     }
 }
 
+/// Whether a session has no transaction behind the refusal: it is Aborted by it, or it is over,
+/// since another rolled it back.
+fn ends_transaction(refusal: Refusal) -> bool
+    ensures { result ≡ ends_transaction refusal }
+{
+    match refusal {
+        Refusal::NoSuchTransaction => true,
+        Refusal::Ended => true,
+        other => is_failure(other),
+    }
+}
+
 ghost use Rattle.std.specs.Prelude.{◌≡◌, true, Err, IfErr};
 ghost use Rattle.mvo_core.specs.declared.answers.Validation.{Validation};
 ghost use Rattle.mvo_theory.specs.Causes.{is_failure};
 ghost use Rattle.mvo_theory.specs.Calls.Call.{Precommit, Validate};
 ghost use Rattle.mvo_engine.specs.run.Receiving.{AreBelow};
 ghost use Rattle.mvo_engine.specs.Settling.{HasEnded};
+ghost use Rattle.mvo_engine.specs.Calls.{ends_transaction};
 ghost use Rattle.mvo_engine.specs.Asked.{WasAsked, IsFinishingAnswer, HasRefusedToCommit};
 
 impl<'e, L: Run, D: Disk, G: Gate + Drop> Session<'e, L, D, G> {
@@ -49,10 +62,11 @@ impl<'e, L: Run, D: Disk, G: Gate + Drop> Session<'e, L, D, G> {
     /// session's: what its calls were answered, which is compared with what the core holds. The
     /// commit is durable once a flush has answered a mark that isn't below its end.
     ///
-    /// Refused: NoSuchTransaction without a transaction, DependencyAborted, ClockSpent,
-    /// OutOfMemory, ValidationFailed, and with Busy where the core holds other answers, which no
-    /// run meets. After ClockSpent and OutOfMemory the transaction is still there, and the call may
-    /// be repeated.
+    /// Refused: NoSuchTransaction without a transaction, and where it was rolled back meanwhile
+    /// (`Engine::roll_back_older`; Ended, where that comes in between), DependencyAborted,
+    /// ClockSpent, OutOfMemory, ValidationFailed, and with Busy where the core holds other answers,
+    /// which no run meets. After ClockSpent and OutOfMemory the transaction is still there, and the
+    /// call may be repeated.
     pub fn commit_tx<R: Wait>(&mut self, rt: &R) -> Result<Stamp, Refusal>
         ensures none { IsNoTx self.old.tx result }
         ensures committed { HasCommitted self.old result self.new }
@@ -80,7 +94,8 @@ impl<'e, L: Run, D: Disk, G: Gate + Drop> Session<'e, L, D, G> {
     }
 
     /// Rolls the transaction back, and finishes it. Refused with NoSuchTransaction without a
-    /// transaction; and as the core refuses it, which no run meets.
+    /// transaction, and where it was rolled back meanwhile (`Engine::roll_back_older`; Ended, where
+    /// that comes in between): then it is over, too.
     pub fn rollback_tx<R: Wait>(&mut self, rt: &R) -> Result<(), Refusal>
         ensures none { IsNoTx self.old.tx result }
         ensures left { HasLeft self.old result self.new }
@@ -104,13 +119,13 @@ impl<'e, L: Run, D: Disk, G: Gate + Drop> Session<'e, L, D, G> {
         }
     }
 
-    // Ends the transaction by a refusal that is a failure.
+    // Ends the transaction by a refusal behind which there is none.
     pub(super) fn end_by<R: Wait>(&mut self, rt: &R, tx: TxId, refusal: Refusal)
         requires { self.old.tx ≡ Some tx.0 }
         ensures session { self.new ≡ session_after refusal self.old }
         ensures left { HasLeftTx L.opening self.old.tx refusal self.new.tx }
     {
-        if is_failure(refusal) {
+        if ends_transaction(refusal) {
             self.finish(rt, tx);
         }
     }
@@ -220,7 +235,7 @@ fn check_some<L: Run>(core: &mut LockedCore<L>, tx: TxId) -> Result<Validation, 
 }
 
 /// Replaces up to `AT_ONCE` words of the transaction.
-fn finish_some<L: Run>(core: &mut LockedCore<L>, tx: TxId) -> Result<Finishing, Refusal>
+pub(crate) fn finish_some<L: Run>(core: &mut LockedCore<L>, tx: TxId) -> Result<Finishing, Refusal>
     ensures { IsFinishingAnswer L.opening tx.0 result }
 {
     for _ in 1..AT_ONCE {

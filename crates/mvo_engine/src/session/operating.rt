@@ -65,8 +65,9 @@ impl<'e, L: Run, D: Disk, G: Gate + Drop> Session<'e, L, D, G> {
     }
 
     /// Asks for an operation. A failure ends the transaction. Refused: NoSuchTransaction without a
-    /// transaction, DependencyAborted, BadTable, DataTooLong for a row, TooManyReads, for one that
-    /// writes TooManyWrites and WriteConflict, and OutOfMemory.
+    /// transaction, and where it was rolled back meanwhile (`Engine::roll_back_older`; Ended, where
+    /// that comes in between), so that it is over, DependencyAborted, BadTable, DataTooLong for a
+    /// row, TooManyReads, for one that writes TooManyWrites and WriteConflict, and OutOfMemory.
     pub fn operate<R: Wait>(&mut self, rt: &R, op: Op) -> Result<Answer, Refusal>
         ensures none { IsNoTx self.old.tx result }
         ensures asked { HasAsked self.old op result self.new }

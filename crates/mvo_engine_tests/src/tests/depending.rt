@@ -74,11 +74,16 @@ impl<'p> Gate for Holding<'p> {
     }
 }
 
-/// Where the first transaction ended; what the second read, and where it ended.
-type Ended = (Result<Stamp, Refusal>, Result<(Option<u8>, Stamp), Refusal>);
+/// Where the first transaction ended; how many were rolled back meanwhile, what the second read,
+/// and where it ended.
+type Ended = (
+    Result<Stamp, Refusal>,
+    Result<(u64, Option<u8>, Stamp), Refusal>,
+);
 
-/// The first transaction puts the row and is held between its end and its first check. The second
-/// reads the row, and waits for the first with its commit.
+/// The first transaction puts the row and is held between its end and its first check. Those before
+/// any stamp are rolled back, but not this one, which is Preparing. The second reads the row, and
+/// waits for the first with its commit.
 pub fn depend<
     L: Run + Send + Sync,
     D: Disk + Send,
@@ -87,7 +92,7 @@ pub fn depend<
 >(rt: &R, alloc: Global, engine: &Engine<L, D, G>, passes: &Passes) -> Result<(), Refusal> {
     let mut one = engine.session(rt)?;
     let mut two = engine.session(rt)?;
-    commit_both(rt, alloc, &mut one, &mut two, passes)
+    commit_both(rt, alloc, engine, &mut one, &mut two, passes)
 }
 
 fn commit_both<
@@ -98,6 +103,7 @@ fn commit_both<
 >(
     rt: &R,
     alloc: Global,
+    engine: &Engine<L, D, G>,
     one: &mut Session<'_, L, D, G>,
     two: &mut Session<'_, L, D, G>,
     passes: &Passes,
@@ -105,9 +111,9 @@ fn commit_both<
     one.begin_tx(rt)?;
     one.insert(rt, row(alloc, 7)?)?;
     passes.held_at.store(passes.behind(1), Ordering::SeqCst);
-    let (first, second) = in_threads(rt, one, two, passes);
+    let (first, second) = in_threads(rt, engine, one, two, passes);
     same(rt, &first?, &Stamp(2));
-    same(rt, &second?, &(Some(7), Stamp(4)));
+    same(rt, &second?, &(0, Some(7), Stamp(4)));
     Ok(())
 }
 
@@ -118,6 +124,7 @@ fn in_threads<
     R: Threads + Wait + Sync,
 >(
     rt: &R,
+    engine: &Engine<L, D, G>,
     one: &mut Session<'_, L, D, G>,
     two: &mut Session<'_, L, D, G>,
     passes: &Passes,
@@ -125,23 +132,25 @@ fn in_threads<
     join(
         rt,
         || one.commit_tx(rt),
-        || read_and_commit(rt, two, passes),
+        || read_and_commit(rt, engine, two, passes),
     )
 }
 
-// Reads the row once the other is held, and commits. The other may go on once this one has come to
-// the lock six times more: for its end, its check, and to settle.
+// Rolls back who is old once the other is held, reads the row, and commits. The other may go on
+// once this one has come to the lock six times more: for its end, its check, and to settle.
 fn read_and_commit<L: Run, D: Disk, G: Gate + Drop, R: Wait>(
     rt: &R,
+    engine: &Engine<L, D, G>,
     session: &mut Session<'_, L, D, G>,
     passes: &Passes,
-) -> Result<(Option<u8>, Stamp), Refusal> {
+) -> Result<(u64, Option<u8>, Stamp), Refusal> {
     has_come(&passes.held, 1);
+    let gone = engine.roll_back_older(rt, Stamp(100));
     session.begin_tx(rt)?;
     let byte = read(rt, session)?;
     passes.free_at.store(passes.behind(5), Ordering::SeqCst);
     let end = session.commit_tx(rt)?;
-    Ok((byte, end))
+    Ok((gone, byte, end))
 }
 
 #[test]

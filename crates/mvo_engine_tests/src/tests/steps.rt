@@ -25,6 +25,8 @@ pub enum Step {
     Flush,
     /// All garbage is taken out of memory.
     Collect,
+    /// Those that began before the stamp are rolled back: how many these are.
+    RollBackOlder(u64),
     Rotate,
     Checkpoint,
     /// The pair at this place and the one behind it become one.
@@ -79,6 +81,7 @@ impl Step {
             Step::Other(ask) => ask.of(rt, alloc, other),
             Step::Flush => stamped(engine.flush(rt)),
             Step::Collect => Told::Number(engine.collect(rt)),
+            Step::RollBackOlder(stamp) => Told::Number(engine.roll_back_older(rt, Stamp(stamp))),
             Step::Rotate => installed(engine.rotate(rt)),
             Step::Checkpoint => installed(engine.checkpoint(rt)),
             Step::Merge(place) => installed(engine.merge(rt, place)),

@@ -10,6 +10,7 @@ use super::held_disk::Hold;
 use super::jobs::do_jobs;
 use super::lasting::{last_a_day, make_many, stay};
 use super::meeting::meet_for_a_key;
+use super::older::give_way;
 use super::reads_free::flush_and_read;
 use super::sessions::{ask_sessions, make_all};
 use super::steps::{Line, follow_new};
@@ -52,6 +53,8 @@ pub enum Alone<'t> {
     Retiring,
     /// A session isn't taken back.
     Staying,
+    /// Old transactions are rolled back.
+    Older,
 }
 
 /// What several threads do, and the words between them.
@@ -98,6 +101,7 @@ fn go_alone<L: Run, D: Disk, G: Gate + Drop, R: Abort + Wait>(
         Alone::Down => go_down(rt, alloc, engine),
         Alone::Retiring => make_many(rt, engine),
         Alone::Staying => stay(rt, alloc, engine),
+        Alone::Older => give_way(rt, alloc, engine),
     }
 }
 
