@@ -11,6 +11,7 @@ use Rattle.mvo_txn.specs.declared.state.TxState.TheVariants.{Active, Preparing, 
 use Rattle.mvo_core.specs.declared.kept_transaction.KeptTransaction.{KeptTransaction}
 use Rattle.mvo_core.specs.Data.{CoreData}
 use Rattle.mvo_core.specs.Steps.{InEach}
+use Rattle.mvo_core.specs.WholeAnswers.{InEachWhole}
 
 -- an operation with its answer, apart from where it lies in memory
 abbrev pub told_as : Op × Answer → Op × AnswerData
@@ -38,3 +39,7 @@ HasJust s t h b =
 
 abbrev pub HoldsJust : CoreData → ℕ → History → Bool → Type 0
 HoldsJust c t h b = InEach c (λ s. HasJust s t h b)
+
+-- so it is in each whole state, in which a read-only one is Active until it ends
+abbrev pub HoldsJustWhole : CoreData → ℕ → History → Bool → Type 0
+HoldsJustWhole c t h b = InEachWhole c (λ w. HasJust w.core t h b)

@@ -14,13 +14,14 @@ use mvo_types::{Answer, Op, TxId};
 
 impl Core {
     ghost use Rattle.mvo_theory.specs.Told.{history_told};
-    ghost use Rattle.mvo_core.specs.Holding.{HoldsJust};
+    ghost use Rattle.mvo_core.specs.Holding.{HoldsJust, HoldsJustWhole};
 
     /// Whether the operations of the transaction are these in this order, with these answers, if
     /// it is Active or Preparing; yes of one that is neither, which has nothing to compare. It
     /// takes no memory, and time by how many they are.
     pub fn holds(&self, tx: TxId, told: &[(Op, Answer)]) -> bool
-        ensures { HoldsJust self.now tx.0 (history_told told.now) result }
+        ensures just { HoldsJust self.now tx.0 (history_told told.now) result }
+        ensures whole { HoldsJustWhole self.now tx.0 (history_told told.now) result }
     {
         let seat = self.table.seat_of(tx);
         let tx = Located { id: tx, seat };

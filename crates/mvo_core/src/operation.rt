@@ -10,12 +10,16 @@ impl Core {
     ghost use Rattle.std.specs.Prelude.{IfOk};
     ghost use Rattle.mvo_theory.specs.Calls.Call.{Do};
     ghost use Rattle.mvo_core.specs.Steps.{IsStep, IsAnswered};
+    ghost use Rattle.mvo_core.specs.WholeAnswers.{IsAnsweredWhole};
+    ghost use Rattle.mvo_core.specs.WholeStanding.{IsWholeStep};
     ghost use Rattle.mvo_core.specs.Counting.{HasPutMore};
 
     /// Asks for the operation, as the method of its name does.
     pub fn operate(&mut self, tx: TxId, op: Op) -> Result<Answer, Refusal>
         ensures step { IsStep self.old (Do tx.0 op) result self.new }
         ensures answer { IfOk result (IsAnswered self.old tx.0 op) }
+        ensures whole { IsWholeStep self.old (Do tx.0 op) result self.new }
+        ensures whole_answer { IfOk result (IsAnsweredWhole self.old tx.0 op) }
         ensures count { HasPutMore self.old result self.new }
     {
         match op {
