@@ -1,9 +1,11 @@
 //! Eight threads move money between a hundred accounts, while another makes checkpoints, merges
-//! them, trims and collects. No money is lost or made, all of it is durable at the end, and what
-//! nobody can ask for any more is gone from memory and from the log.
+//! them, trims and collects, and a third one adds up all accounts again and again. No money is lost
+//! or made, each report finds all of it, it is durable at the end, and what nobody can ask for any
+//! more is gone from memory and from the log.
 #![tactic(auto)]
 
 mod accounts;
+mod reports;
 mod transfers;
 mod upkeep;
 
@@ -30,6 +32,10 @@ fn main(rt: HostRuntime) -> Result<(), anyhow::Error> {
 fn tell(rt: &impl Print, told: &Told) -> io::Result<()> {
     println!(rt; "{} transfers", told.transfers)?;
     println!(rt; "total {}", told.total)?;
+    match told.report {
+        Some(report) => println!(rt; "each report adds up {report}")?,
+        None => println!(rt; "two reports differ")?,
+    }
     println!(rt;
         "{}",
         if told.durable {

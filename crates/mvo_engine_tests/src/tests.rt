@@ -17,6 +17,7 @@ mod letting_by;
 mod meeting;
 mod one_call;
 mod reads_free;
+mod reports;
 mod rows;
 mod sessions;
 mod steps;
