@@ -28,9 +28,9 @@ pub began : {A B : Type 0} (o : Opening) (t : Option ℕ) (a : A) (b : B) → Wa
 began o None a b w = begun_so o w.old w.new w.last a b w.sound w.step
 began o (Some t) a b w = tt
 
-pub not_begun : {A B : Type 0} (o : Opening) (t : Option ℕ) (e : Refusal) → WasBegun {A = A} o (Err e) → IsCoreBegin {A = B} o t (Err e)
-not_begun o None e w = not_begun_so o w.old w.new w.last e w.sound w.step
-not_begun o (Some t) e w = tt
+pub not_begun : {A : Type 0} (B : Type 0) (o : Opening) (t : Option ℕ) (e : Refusal) → WasBegun {A = A} o (Err e) → IsCoreBegin {A = B} o t (Err e)
+not_begun B o None e w = not_begun_so o w.old w.new w.last e w.sound w.step
+not_begun B o (Some t) e w = tt
 
 -- ---- a read-only one
 pub reading_so : {A B : Type 0} (o : Opening) (old new : CoreState) (last : ℕ) (a : A) (b : B) → IsSoundCore o old.core old.sends.sent → IsReadOnlyBeginning {A = A} old last (Ok a) new → WasBegunReadOnly {A = B} o (Ok b)
@@ -45,6 +45,6 @@ pub began_reading : {A B : Type 0} (o : Opening) (t : Option ℕ) (a : A) (b : B
 began_reading o None a b w = reading_so o w.old w.new w.last a b w.sound w.step
 began_reading o (Some t) a b w = tt
 
-pub not_begun_reading : {A B : Type 0} (o : Opening) (t : Option ℕ) (e : Refusal) → WasBegunReadOnly {A = A} o (Err e) → IsCoreReadOnlyBegin {A = B} o t (Err e)
-not_begun_reading o None e w = not_reading_so o w.old w.new w.last e w.sound w.step
-not_begun_reading o (Some t) e w = tt
+pub not_begun_reading : {A : Type 0} (B : Type 0) (o : Opening) (t : Option ℕ) (e : Refusal) → WasBegunReadOnly {A = A} o (Err e) → IsCoreReadOnlyBegin {A = B} o t (Err e)
+not_begun_reading B o None e w = not_reading_so o w.old w.new w.last e w.sound w.step
+not_begun_reading B o (Some t) e w = tt

@@ -90,3 +90,11 @@ invariant_of-self-in-Err g c =
       refused g.L.Run.watched i.1 c.args.tx c.in-Err.refusal new c.in-Err.ensures.whole,
       spare_later _ i.2 (start_up g.L.Run.watched i.1 _ c.settle.result c.settle.new.self c.settle.ensures.whole),
     )
+
+pub returns-in-Ok-Committed-clause-answer : goal.returns-in-Ok-Committed-clause-answer
+returns-in-Ok-Committed-clause-answer g c =
+    rw (← c.self.view_is) (subst (λ (a : Settlement). IsSettlementWhole c.self.inside.core c.args.tx.0 a) c.in-Ok-Committed.field-0-is c.in-Ok-Committed.ensures.whole_answer)
+
+pub returns-in-Ok-Waiting-clause-answer : goal.returns-in-Ok-Waiting-clause-answer
+returns-in-Ok-Waiting-clause-answer g c =
+    rw (← c.self.view_is) (subst (λ (a : Settlement). IsSettlementWhole c.self.inside.core c.args.tx.0 a) c.in-Ok-Waiting.field-0-is c.in-Ok-Waiting.ensures.whole_answer)
