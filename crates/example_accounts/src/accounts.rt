@@ -1,9 +1,10 @@
 //! What is done with the engine: the accounts are made, eight threads transfer while another keeps
-//! the memory and the log steady, and all is counted, gathered and audited, and counted over the
-//! disk opened again.
+//! the memory and the log steady and a third one reports, and all is counted, gathered and audited,
+//! and counted over the disk opened again.
 ghost use Rattle.mvo_engine.specs.Opened.{IsNamedBy};
 
-use crate::transfers::{ACCOUNTS, START, TIMES, Transfer, money_in, row_of};
+use crate::reports::report_all;
+use crate::transfers::{ACCOUNTS, START, TIMES, Transfer, row_of, total_of};
 use crate::upkeep::{is_let_go, keep_up};
 use anyhow::bail;
 use mvo_disk::{Disk, MemDisk};
@@ -29,6 +30,8 @@ const TRANSFERS: u64 = 250;
 pub struct Told {
     pub transfers: usize,
     pub total: u64,
+    /// What each report has added up; none where two differ.
+    pub report: Option<u64>,
     pub durable: bool,
     /// Whether all that could be asked for only before is gone from memory and from the log.
     pub let_go: bool,
@@ -104,9 +107,11 @@ fn go<L: Run + Send + Sync, D: Disk + Drop + Send, R: Threads + Wait + Sync>(
 ) -> Result<(Told, Vec<SeenDurable<L>>), Refusal> {
     let mut session = engine.session(rt)?;
     open_accounts(rt, alloc, &mut session)?;
-    let worked = transfers(rt, alloc, engine)?;
+    let (worked, reported) = transfers(rt, alloc, engine)?;
     let mut sessions = Vec::new(alloc);
     let (transfers, durable) = ask_all(worked, &mut sessions)?;
+    let (reporter, report) = reported;
+    sessions.push(reporter)?;
     let total = total(rt, &mut session)?;
     sessions.push(session)?;
     let seen = seen_by(alloc, &mut sessions)?;
@@ -114,6 +119,7 @@ fn go<L: Run + Send + Sync, D: Disk + Drop + Send, R: Threads + Wait + Sync>(
     let told = Told {
         transfers,
         total,
+        report,
         durable,
         let_go: is_let_go(rt, engine)?,
         receipts,
@@ -133,25 +139,38 @@ fn seen_by<L: Run, D: Disk>(
     Ok(seen)
 }
 
-/// The transfers of all threads: their sessions, how many each made, and where its last one ended.
-/// Meanwhile another thread makes checkpoints and merges, trims and collects.
+/// The sessions of the threads that transferred, with how many each made, and where its last one
+/// ended; and the session that reported, with what its reports added up.
+type Worked<'e, L, D> = (
+    Vec<(Session<'e, L, D, OpenGate>, usize, Stamp)>,
+    (Session<'e, L, D, OpenGate>, Option<u64>),
+);
+
+/// The transfers of all threads. Meanwhile another thread makes checkpoints and merges, trims and
+/// collects, and a third one reports.
 fn transfers<'e, L: Run + Send + Sync, D: Disk + Send, R: Threads + Wait + Sync>(
     rt: &R,
     alloc: Global,
     engine: &'e Engine<L, D, OpenGate>,
-) -> Result<Vec<(Session<'e, L, D, OpenGate>, usize, Stamp)>, Refusal> {
+) -> Result<Worked<'e, L, D>, Refusal> {
     let over = AtomicU64::new(0);
-    let (worked, kept_up) = thread::join(
+    let (worked, (kept_up, reported)) = thread::join(
         rt,
         || {
             let worked = work_all(rt, alloc, engine);
             over.store(1, Ordering::SeqCst);
             worked
         },
-        || keep_up(rt, engine, &over),
+        || {
+            thread::join(
+                rt,
+                || keep_up(rt, engine, &over),
+                || report_all(rt, engine, &over),
+            )
+        },
     );
     kept_up?;
-    worked
+    Ok((worked?, reported?))
 }
 
 fn work_all<'e, L: Run + Send + Sync, D: Disk + Send, R: Threads + Wait + Sync>(
@@ -298,12 +317,4 @@ fn stored<L: Run>(core: &CoreGuard<'_, L>) -> u64 {
         }
     }
     count
-}
-
-fn total_of(rows: &[mvo_types::Row]) -> u64 {
-    let mut total = 0u64;
-    for row in rows {
-        total = total.wrapping_add(money_in(row));
-    }
-    total
 }

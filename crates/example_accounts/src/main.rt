@@ -1,11 +1,13 @@
 //! Eight threads move money between a hundred accounts, while another makes checkpoints, merges
-//! them, trims and collects. No money is lost or made, all of it is durable at the end, and what
-//! nobody can ask for any more is gone from memory and from the log. Then four threads order from a
-//! small stock, and nothing is sold that isn't there.
+//! them, trims and collects, and a third one adds up all accounts again and again. No money is lost
+//! or made, each report finds all of it, it is durable at the end, and what nobody can ask for any
+//! more is gone from memory and from the log. Then four threads order from a small stock, and
+//! nothing is sold that isn't there.
 #![tactic(auto)]
 
 mod accounts;
 mod orders;
+mod reports;
 mod transfers;
 mod upkeep;
 
@@ -33,6 +35,10 @@ fn main(rt: HostRuntime) -> Result<(), anyhow::Error> {
 fn tell(rt: &impl Print, told: &Told) -> io::Result<()> {
     println!(rt; "{} transfers", told.transfers)?;
     println!(rt; "total {}", told.total)?;
+    match told.report {
+        Some(report) => println!(rt; "each report adds up {report}")?,
+        None => println!(rt; "two reports differ")?,
+    }
     println!(rt;
         "{}",
         if told.durable {

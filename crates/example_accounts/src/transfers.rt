@@ -37,6 +37,15 @@ pub fn money_in(row: &Row) -> u64 {
     }
 }
 
+/// What all accounts of these rows have.
+pub fn total_of(rows: &[Row]) -> u64 {
+    let mut total = 0u64;
+    for row in rows {
+        total = total.wrapping_add(money_in(row));
+    }
+    total
+}
+
 /// A transfer: from one account to another, so much. It gives up where that isn't there.
 #[derive(Drop)]
 pub struct Transfer {

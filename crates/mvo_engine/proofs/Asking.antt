@@ -104,7 +104,7 @@ kind_of (Delete k) m a is = delete_so _ a is
 
 -- so is what a sound core answered
 answered_so : {o : Opening} (t : ℕ) (op : Op) (a : Answer) → WasAnswered o t op a → IsOfKind op a
-answered_so t op a w = kind_of op (snapshot w.sound.state t) a (w.answer w.sound.rows w.sound.steps w.sound.state w.sound.stands)
+answered_so t op a w = kind_of op (snapshot w.sound.whole.core t) a (w.answer w.sound.rows w.sound.steps w.sound.own w.sound.whole w.sound.stands)
 
 -- and what a session is answered
 pub told_kind : (o : Opening) (x : Option ℕ) (op : Op) (r : Result Answer Refusal) → IsNoTx x r → IsCoreAnswer o x op r → IfOk r (IsOfKind op)

@@ -11,6 +11,8 @@ use Rattle.mvo_disk.specs.declared.disk.Disk.{Ghosts}
 use Rattle.mvo_disk.specs.Disk.{Image, IsHonest}
 use Rattle.mvo_group.specs.Data.{GroupData, group_of}
 use Rattle.mvo_theory.specs.State.{Marks, opened}
+use Rattle.mvo_readonly.specs.Whole.{opened_whole}
+use Rattle.mvo_readonly.proofs.WholeRuns.{whole_opened}
 use Rattle.mvo_core.specs.Data.{CoreData}
 use Rattle.mvo_core.specs.Groups.{HaveRecordsOf}
 use Rattle.mvo_store.specs.Rows.{after_groups}
@@ -88,8 +90,9 @@ module _ {D : Type 0} (d : Ghosts D) {o : Opening} {c : CoreData} {s : StoreData
     mark = mark_of s;
     gives = h.gives;
     steps = [];
-    state = opened h.rows (mark_of s);
-    stands = h.core;
+    own = [];
+    whole = opened_whole h.rows (mark_of s);
+    stands = record { core = h.core; kept = whole_opened h.rows (mark_of s) };
     closed = record { drawn = omega arith; above = tt };
     groups = subst (HaveRecordsOf (opened h.rows (mark_of s)) 0) (sym is) (opened_of h.rows (mark_of s) h.stamp (mark_of s == 0) refl);
     last = ap last_mark is ∙ opened_mark (mark_of s) (mark_of s == 0) refl ∙ ap (λ (m : Marks). m.closed) h.core.marks;

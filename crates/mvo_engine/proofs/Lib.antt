@@ -7,6 +7,8 @@ pub mod Begun
 pub mod Added
 pub mod Counted
 pub mod Starts
+pub mod WholeSteps
+mod Beginning
 pub mod Booked
 pub mod SentRows
 pub mod Flushed

@@ -47,9 +47,10 @@ pub booked_count : (w : Watched) (c : CoreData) (total n : ℕ) → IsBooked w c
 booked_count w c total n b same = record {
   rows = b.rows;
   steps = b.steps;
-  state = b.state;
+  own = b.own;
+  whole = b.whole;
   stands = b.stands;
-  counted = λ low. let is = b.stands.start in sym (same (omega (arith, is, low))) ∙ b.counted low;
+  counted = λ low. let is = b.stands.core.start in sym (same (omega (arith, is, low))) ∙ b.counted low;
 }
 
 -- one more is at most the mark

@@ -17,8 +17,8 @@ use Rattle.mvo_theory.specs.Marks.{Commit, settled_to}
 use Rattle.mvo_theory.specs.Sound.{IsRising, IsPast, IsPlaced}
 use Rattle.mvo_theory.specs.AfterTrace.{IsAfterTrace}
 use Rattle.mvo_theory.proofs.Each.{each_append, each_weaker}
-use Rattle.mvo_theory.proofs.Tales.{serial_after_trace}
 use Rattle.mvo_theory.proofs.Trim.{after_settled-append}
+use Rattle.mvo_readonly.proofs.Serials.{whole_is_serial}
 use Rattle.mvo_core.specs.Data.{CoreData}
 use Rattle.mvo_core.specs.Groups.{HaveRecordsOf}
 use Rattle.mvo_store.specs.Frames.{mark_after}
@@ -97,41 +97,41 @@ rising_line start (x ∷ xs) ys past up later up' =
     (each_append (λ (y : StampedTx). x.end < y.end) xs ys up.0 (each_weaker (λ (y : StampedTx). start < y.end) (λ (y : StampedTx). x.end < y.end) (λ y p. omega (arith, p, until)) ys later), rising_line start xs ys past.1 up.1 later up')
 
 module _ {o : Opening} {c : CoreData} {sent : List GroupData} (i : IsSoundCore o c sent) where
-  begun : AllByRecursion (λ (x : StampedTx). x.id < x.end) (timeline i.state)
+  begun : AllByRecursion (λ (x : StampedTx). x.id < x.end) (timeline i.whole.core)
   begun =
-      each_append (λ (x : StampedTx). x.id < x.end) i.state.past i.state.stamped
-      (each_weaker (IsPast i.state.start) (λ (x : StampedTx). x.id < x.end) (λ x p. p.begun) i.state.past i.stands.versions.kept.started.past)
-      (each_weaker (IsPlaced i.state.stamped i.state.clock) (λ (x : StampedTx). x.id < x.end) (λ x p. p.begun) i.state.stamped i.stands.versions.kept.sound.placed)
+      each_append (λ (x : StampedTx). x.id < x.end) i.whole.core.past i.whole.core.stamped
+      (each_weaker (IsPast i.whole.core.start) (λ (x : StampedTx). x.id < x.end) (λ x p. p.begun) i.whole.core.past i.stands.core.versions.kept.started.past)
+      (each_weaker (IsPlaced i.whole.core.stamped i.whole.core.clock) (λ (x : StampedTx). x.id < x.end) (λ x p. p.begun) i.whole.core.stamped i.stands.core.versions.kept.sound.placed)
 
-  drawn : AllByRecursion (λ (x : StampedTx). x.end ≤ i.state.clock) (timeline i.state)
+  drawn : AllByRecursion (λ (x : StampedTx). x.end ≤ i.whole.core.clock) (timeline i.whole.core)
   drawn =
-      let started = i.stands.versions.kept.started in
-      each_append (λ (x : StampedTx). x.end ≤ i.state.clock) i.state.past i.state.stamped
-      (each_weaker (IsPast i.state.start) (λ (x : StampedTx). x.end ≤ i.state.clock) (λ x p. let le = p.until in let up = started.drawn in omega (arith, le, up)) i.state.past started.past)
-      (each_weaker (IsPlaced i.state.stamped i.state.clock) (λ (x : StampedTx). x.end ≤ i.state.clock) (λ x p. p.drawn) i.state.stamped i.stands.versions.kept.sound.placed)
+      let started = i.stands.core.versions.kept.started in
+      each_append (λ (x : StampedTx). x.end ≤ i.whole.core.clock) i.whole.core.past i.whole.core.stamped
+      (each_weaker (IsPast i.whole.core.start) (λ (x : StampedTx). x.end ≤ i.whole.core.clock) (λ x p. let le = p.until in let up = started.drawn in omega (arith, le, up)) i.whole.core.past started.past)
+      (each_weaker (IsPlaced i.whole.core.stamped i.whole.core.clock) (λ (x : StampedTx). x.end ≤ i.whole.core.clock) (λ x p. p.drawn) i.whole.core.stamped i.stands.core.versions.kept.sound.placed)
 
-  rising : IsRising (timeline i.state)
+  rising : IsRising (timeline i.whole.core)
   rising =
-      let started = i.stands.versions.kept.started in
-      rising_line i.state.start i.state.past i.state.stamped started.past started.rising started.later i.stands.versions.kept.sound.rising
+      let started = i.stands.core.versions.kept.started in
+      rising_line i.whole.core.start i.whole.core.past i.whole.core.stamped started.past started.rising started.later i.stands.core.versions.kept.sound.rising
 
-  pub sent_agrees : AgreesWithHistory i.rows i.state sent
+  pub sent_agrees : AgreesWithHistory i.rows i.whole.core sent
   sent_agrees =
       let last = i.last in
-      let marks = ap (λ (m : Marks). m.closed) i.stands.marks in
+      let marks = ap (λ (m : Marks). m.closed) i.stands.core.marks in
       let closed = i.closed.drawn in
-      agrees i.rows i.steps i.state sent i.stands.versions.kept.after_trace rising drawn (none_first (timeline i.state) begun) i.groups (omega (arith, last, marks, closed))
+      agrees i.rows i.own i.whole.core sent i.stands.core.versions.kept.after_trace rising drawn (none_first (timeline i.whole.core) begun) i.groups (omega (arith, last, marks, closed))
 
   -- a beginning of the groups leaves the tale's rows up to its mark
-  front_rows : (front behind : List GroupData) → sent ≡ front ++ behind → i.state.start ≤ last_mark front → after_groups i.rows front ≡ tale_rows (last_mark front) i.state
+  front_rows : (front behind : List GroupData) → sent ≡ front ++ behind → i.whole.core.start ≤ last_mark front → after_groups i.rows front ≡ tale_rows (last_mark front) i.whole.core
   front_rows front behind is above =
-      let s = i.state in
-      let past = i.stands.versions.kept.started.past in
+      let s = i.whole.core in
+      let past = i.stands.core.versions.kept.started.past in
       ap (λ (cs : List Commit). after_groups (left_by_all cs i.rows) front) (sym (none_first (timeline s) begun))
       ∙ (chain_rows s 0 front i.rows rising (records_of_front s 0 front behind (subst (HaveRecordsOf s 0) is i.groups))
-      ∙ from_start (last_mark front) i.rows i.steps s i.stands.versions.kept.after_trace (each_weaker (IsPast s.start) (λ (x : StampedTx). x.end ≤ last_mark front) (λ x p. let le = p.until in omega (arith, le, above)) s.past past))
+      ∙ from_start (last_mark front) i.rows i.own s i.stands.core.versions.kept.after_trace (each_weaker (IsPast s.start) (λ (x : StampedTx). x.end ≤ last_mark front) (λ x p. let le = p.until in omega (arith, le, above)) s.past past))
 
-  image_sent : (least : ℕ) (image : Image) (g : GivesReceived o sent least image) → g.rows ≡ i.rows → GivesSent o i.rows i.state sent least image
+  image_sent : (least : ℕ) (image : Image) (g : GivesReceived o sent least image) → g.rows ≡ i.rows → GivesSent o i.rows i.whole.core sent least image
   image_sent least image g same = record {
     gives = g;
     rows_are = same;
@@ -147,9 +147,10 @@ module _ {o : Opening} {c : CoreData} {sent : List GroupData} (i : IsSoundCore o
     mark = i.mark;
     gives = i.gives;
     steps = i.steps;
-    state = i.state;
+    own = i.own;
+    whole = i.whole;
     stands = i.stands;
-    serial = serial_after_trace i.rows i.steps i.state i.stands.versions.kept.sound i.stands.versions.kept.after_trace;
+    serial = whole_is_serial i.rows i.steps i.own i.whole i.stands.kept;
     groups = i.groups;
     agrees = sent_agrees;
     images = λ now slots left of.

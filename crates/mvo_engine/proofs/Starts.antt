@@ -17,8 +17,6 @@ use Rattle.mvo_theory.specs.Calls.Call.{Begin, Do, Precommit, Validate, Settle, 
 use Rattle.mvo_theory.specs.Calls.Result.{Accepted, Refused}
 use Rattle.mvo_theory.specs.Sound.{IsSound}
 use Rattle.mvo_theory.proofs.Trimmed.{may_trim}
-use Rattle.mvo_core.specs.Receipts.{Receipt}
-use Rattle.mvo_engine.proofs.Added.{added}
 
 answered : (s : State) (t : ℕ) (op : Op) (a : AnswerData) → (after_answer s t op a).start ≡ s.start
 answered s t op a = go (new_claim s t op a)
@@ -116,14 +114,3 @@ quiet_group (Rollback t) r q = refl
 quiet_group (Finish t) r q = refl
 quiet_group (Trim upto) r q = refl
 quiet_group (Close fits g full) r q = absurd (false≢true q)
-
-pub quiet_adds : (h : Receipt → ℕ) (s : State) (c : Call) (r : Result) → is_quiet c ≡ true → added h s c r ≡ 0
-quiet_adds h s Begin r q = refl
-quiet_adds h s (Do t op) r q = refl
-quiet_adds h s (Precommit t) r q = refl
-quiet_adds h s (Validate t) r q = refl
-quiet_adds h s (Settle t) r q = absurd (false≢true q)
-quiet_adds h s (Rollback t) r q = refl
-quiet_adds h s (Finish t) r q = refl
-quiet_adds h s (Trim upto) r q = refl
-quiet_adds h s (Close fits g full) r q = refl

@@ -11,7 +11,7 @@ use Rattle.mvo_types.specs.declared.refusal.Refusal.TheVariants.{NoSuchTransacti
 use Rattle.mvo_theory.specs.Causes.{is_failure}
 use Rattle.mvo_theory.specs.Calls.Call.{Do}
 use Rattle.mvo_core.specs.Receipts.{Receipt, receipt}
-use Rattle.mvo_core.specs.Steps.{IsAnswered}
+use Rattle.mvo_core.specs.WholeAnswers.{IsAnsweredWhole}
 use Rattle.mvo_engine.specs.declared.outcome.Outcome.{Outcome}
 use Rattle.mvo_engine.specs.declared.outcome.Outcome.TheVariants.{Commit}
 use Rattle.mvo_engine.specs.declared.transacted.Transacted.{Transacted}
@@ -29,7 +29,7 @@ use Rattle.mvo_engine.specs.declared.session.operating.TheConstants.{FORGOTTEN_A
 use Rattle.mvo_engine.proofs.Forgetting.{none_forgotten, some_forgotten, more_forgotten}
 
 -- an operation of the session's transaction, by a copy of it
-pub answered_so : {o : Opening} (x : Option TxId) (tx : TxId) (op copy : Op) (a : Answer) (old new : CoreState) → x ≡ Some tx → copy ≡ op → IsSoundCore o old.core old.sends.sent → IsCoreStep old (Do tx.0 op) (Ok a) new → IsAnswered old.core tx.0 op a → IfSome (option_map (λ (t : TxId). t.0) x) (λ t. WasAnswered o t copy a)
+pub answered_so : {o : Opening} (x : Option TxId) (tx : TxId) (op copy : Op) (a : Answer) (old new : CoreState) → x ≡ Some tx → copy ≡ op → IsSoundCore o old.core old.sends.sent → IsCoreStep old (Do tx.0 op) (Ok a) new → IsAnsweredWhole old.core tx.0 op a → IfSome (option_map (λ (t : TxId). t.0) x) (λ t. WasAnswered o t copy a)
 answered_so {o} x tx op copy a old new is same sound step answer =
     let was : WasAnswered o tx.0 op a = record { old = old; new = new; sound = sound; step = step; answer = answer } in
     subst (λ (y : Option TxId). IfSome (option_map (λ (t : TxId). t.0) y) (λ t. WasAnswered o t copy a)) (sym is) (subst (λ (p : Op). WasAnswered o tx.0 p a) (sym same) was)

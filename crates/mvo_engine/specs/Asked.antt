@@ -11,16 +11,18 @@ use Rattle.mvo_theory.specs.Calls.Call.{Do, Precommit, Validate, Settle, Rollbac
 use Rattle.mvo_core.specs.declared.answers.Finishing.{Finishing}
 use Rattle.mvo_core.specs.declared.answers.Finishing.TheVariants.{Done}
 use Rattle.mvo_core.specs.declared.answers.Settlement.{Settlement}
+use Rattle.mvo_core.specs.declared.answers.Settlement.TheVariants.{Committed}
 use Rattle.mvo_core.specs.declared.answers.Validation.{Validation}
-use Rattle.mvo_core.specs.Holding.{HoldsJust}
-use Rattle.mvo_core.specs.Steps.{IsAnswered, IsFinishing}
+use Rattle.mvo_core.specs.Holding.{HoldsJustWhole}
+use Rattle.mvo_core.specs.WholeAnswers.{IsAnsweredWhole, IsFinishingWhole}
+use Rattle.mvo_core.specs.WholeEnds.{IsSettlementWhole}
 use Rattle.mvo_disk.specs.declared.disk.Disk.{Ghosts}
 use Rattle.mvo_store.specs.Causes.{why_not_take}
 use Rattle.mvo_store.specs.Seen.{mark_of}
 use Rattle.mvo_engine.specs.run.Opening.{Opening}
 use Rattle.mvo_engine.specs.Sound.{IsSoundCore, IsSoundStore}
 use Rattle.mvo_engine.specs.States.{CoreState, StoreState}
-use Rattle.mvo_engine.specs.Calls.{IsCoreStep, IsAnother, ends_transaction}
+use Rattle.mvo_engine.specs.Calls.{IsCoreStep, IsBeginning, IsReadOnlyBeginning, IsSettling, IsAnother, ends_transaction}
 
 -- Under its lock the core lay sound, and the call came to this.
 pub record WasAsked {A : Type 0} (o : Opening) (call : theory.Call) (result : Result A Refusal)
@@ -29,6 +31,32 @@ pub record WasAsked {A : Type 0} (o : Opening) (call : theory.Call) (result : Re
   pub new : CoreState
   pub sound : IsSoundCore o old.core old.sends.sent
   pub step : IsCoreStep old call result new
+
+-- So a transaction began there, of a session whose commits ended at most at that stamp; or it was
+-- refused.
+pub record WasBegun {A : Type 0} (o : Opening) (result : Result A Refusal) : Type 0 where
+  pub old : CoreState
+  pub new : CoreState
+  pub last : ℕ
+  pub sound : IsSoundCore o old.core old.sends.sent
+  pub step : IsBeginning old last result new
+
+-- and so a read-only one did
+pub record WasBegunReadOnly {A : Type 0} (o : Opening) (result : Result A Refusal) : Type 0 where
+  pub old : CoreState
+  pub new : CoreState
+  pub last : ℕ
+  pub sound : IsSoundCore o old.core old.sends.sent
+  pub step : IsReadOnlyBeginning old last result new
+
+-- so it is with the begins of a session that has no transaction
+abbrev pub IsCoreBegin : {A : Type 0} → Opening → Option ℕ → Result A Refusal → Type 0
+IsCoreBegin o None result = WasBegun o result
+IsCoreBegin o (Some t) result = Unit {0}
+
+abbrev pub IsCoreReadOnlyBegin : {A : Type 0} → Opening → Option ℕ → Result A Refusal → Type 0
+IsCoreReadOnlyBegin o None result = WasBegunReadOnly o result
+IsCoreReadOnlyBegin o (Some t) result = Unit {0}
 
 -- The transaction was rolled back in the core; or that was refused, since it had ended or was no
 -- longer there.
@@ -42,7 +70,7 @@ pub record IsFinishingAnswer (o : Opening) (t : ℕ) (result : Result Finishing 
     pub new : CoreState
     pub sound : IsSoundCore o old.core old.sends.sent
     pub step : IsCoreStep old (Finish t) result new
-    pub answer : IfOk result (IsFinishing old.core t)
+    pub answer : IfOk result (IsFinishingWhole old.core t)
 
 -- its last word was replaced in the core, or it was no longer there
 pub data WasFinished (o : Opening) (t : ℕ) : Type 0 where
@@ -67,7 +95,7 @@ pub record WasAnswered (o : Opening) (t : ℕ) (op : Op) (a : Answer) : Type 0 w
   pub new : CoreState
   pub sound : IsSoundCore o old.core old.sends.sent
   pub step : IsCoreStep old (Do t op) (Ok a) new
-  pub answer : IsAnswered old.core t op a
+  pub answer : IsAnsweredWhole old.core t op a
 
 -- what an operation was answered or refused, the core answered or refused; but for want of memory
 abbrev pub IsCoreAnswer : Opening → Option ℕ → Op → Result Answer Refusal → Type 0
@@ -88,7 +116,16 @@ WasMade {A} o (Err e) = (old new : CoreState)
 pub record WasUnlike (o : Opening) (t : ℕ) (told : History) : Type 0 where
   pub old : CoreState
   pub sound : IsSoundCore o old.core old.sends.sent
-  pub holds : HoldsJust old.core t told false
+  pub holds : HoldsJustWhole old.core t told false
+
+-- Under its lock the core lay sound, and settled the transaction, which was told just this: it is
+-- committed, with this end. Of a read-only one that is its begin.
+pub record WasSettled (o : Opening) (t : ℕ) (told : History) (end : Stamp) : Type 0 where
+  pub old : CoreState
+  pub new : CoreState
+  pub sound : IsSoundCore o old.core old.sends.sent
+  pub step : IsSettling old t told (Ok (Committed end)) new
+  pub answer : IsSettlementWhole old.core t (Committed end)
 
 -- what refuses a commit of a transaction that was told this: a step of the core; or want of memory
 -- for the receipt, or Busy, since the core held other answers than its calls gave

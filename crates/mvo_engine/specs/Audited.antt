@@ -9,7 +9,8 @@ use Rattle.mvo_disk.specs.Disk.{Image, AllOf, IsHonest}
 use Rattle.mvo_group.specs.Data.{GroupData}
 use Rattle.mvo_theory.specs.State.{State, timeline, after_settled}
 use Rattle.mvo_theory.specs.Marks.{Commit, settled_to}
-use Rattle.mvo_core.specs.Standing.{StandsFor}
+use Rattle.mvo_readonly.specs.Whole.{WholeState}
+use Rattle.mvo_core.specs.WholeStanding.{StandsWhole}
 use Rattle.mvo_core.specs.Groups.{HaveRecordsOf}
 use Rattle.mvo_store.specs.Rows.{after_groups}
 use Rattle.mvo_store.specs.Seen.{disk_of, mark_of}
@@ -48,9 +49,10 @@ pub record GivesSent (o : Opening) (rows : Map) (s : State) (sent : List GroupDa
       after_groups gives.rows gives.front ≡ tale_rows (last_mark gives.front) s
 
 -- The groups that were received are a beginning of those that were sent. These hold the commits of
--- the state for which the core stands, up to the mark of the last one, and agree with its history,
--- which is serial. Each image that a stop now may leave of a disk that was formatted, and has
--- answered as written, gives a beginning of the sent ones, up to a mark at least the store's.
+-- the whole state for which the core stands, up to the mark of the last one, and agree with its
+-- history, which is serial, read-only transactions among the others. Each image that a stop now may
+-- leave of a disk that was formatted, and has answered as written, gives a beginning of the sent
+-- ones, up to a mark at least the store's.
 pub record IsAudited {D : Type 0} (d : Ghosts D) (o : Opening) (c : CoreState)
     (s : StoreState D) : Type 0 where
   pub behind : List GroupData
@@ -59,11 +61,12 @@ pub record IsAudited {D : Type 0} (d : Ghosts D) (o : Opening) (c : CoreState)
   pub mark : ℕ
   pub gives : GaveWhenOpened rows mark o
   pub steps : List Step
-  pub state : State
-  pub stands : StandsFor rows steps state c.core
+  pub own : List Step
+  pub whole : WholeState
+  pub stands : StandsWhole rows steps own whole c.core
   pub serial : IsSerial rows steps
-  pub groups : HaveRecordsOf state 0 c.sends.sent
-  pub agrees : AgreesWithHistory rows state c.sends.sent
+  pub groups : HaveRecordsOf whole.core 0 c.sends.sent
+  pub agrees : AgreesWithHistory rows whole.core c.sends.sent
   pub images : IsHonest (d.moment (disk_of s.store)) → WasFormatted o → (image : Image) →
       AllOf (d.may_leave (disk_of s.store)) image →
-      GivesSent o rows state c.sends.sent (mark_of s.store) image
+      GivesSent o rows whole.core c.sends.sent (mark_of s.store) image

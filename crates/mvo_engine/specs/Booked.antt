@@ -2,21 +2,22 @@
 use Rattle.std.specs.Prelude.{◌≡◌, ◌+◌, ◌<◌, ◌≤◌, ℕ, List}
 use Rattle.mvo_types.specs.Keys.{Map}
 use Rattle.mvo_model.specs.Trace.{Step}
-use Rattle.mvo_theory.specs.State.{State}
+use Rattle.mvo_readonly.specs.Whole.{WholeState}
 use Rattle.mvo_core.specs.Data.{CoreData}
-use Rattle.mvo_core.specs.Standing.{StandsFor}
-use Rattle.mvo_core.specs.Receipts.{stored_commits}
+use Rattle.mvo_core.specs.WholeStanding.{StandsWhole}
+use Rattle.mvo_core.specs.WholeTales.{stored_receipts}
 use Rattle.mvo_engine.specs.declared.run.run.TheConstants.{MAX_SESSIONS, PARTS}
 use Rattle.mvo_engine.specs.run.Watching.{Watched, count_of}
 
--- The core stands for a state. Where the tale starts below the end that is watched, the total is
--- what the stored commits count.
+-- The core stands for a whole state. Where the tale starts below the end that is watched, the total
+-- is what the stored commits count, those of read-only transactions among them.
 pub record IsBooked (w : Watched) (c : CoreData) (total : ℕ) : Type 0 where
   pub rows : Map
   pub steps : List Step
-  pub state : State
-  pub stands : StandsFor rows steps state c
-  pub counted : state.start < w.end → total ≡ count_of w (stored_commits state)
+  pub own : List Step
+  pub whole : WholeState
+  pub stands : StandsWhole rows steps own whole c
+  pub counted : whole.core.start < w.end → total ≡ count_of w (stored_receipts whole)
 
 -- The parts that no session has are what the sessions leave of all, at least one. Where the tale
 -- starts below the end that is watched, they count nothing.

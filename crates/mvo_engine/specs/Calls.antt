@@ -12,18 +12,17 @@ use Rattle.mvo_model.specs.History.{History}
 use Rattle.mvo_model.specs.Trace.{Step}
 use Rattle.mvo_disk.specs.declared.disk.Disk.{Ghosts}
 use Rattle.mvo_group.specs.Data.{GroupData}
-use Rattle.mvo_theory.specs.State.{State}
 use Rattle.mvo_theory.specs.Calls as theory
 use Rattle.mvo_theory.specs.Calls.Call.{Begin, Settle}
-use Rattle.mvo_theory.specs.Causes.{is_failure, why_not_close}
+use Rattle.mvo_theory.specs.Causes.{is_failure}
+use Rattle.mvo_readonly.specs.Whole.{WholeState}
 use Rattle.mvo_core.specs.declared.answers.Closed.{Closed}
 use Rattle.mvo_core.specs.declared.answers.Settlement.{Settlement}
-use Rattle.mvo_core.specs.Holding.{HoldsJust}
+use Rattle.mvo_core.specs.Holding.{HoldsJustWhole}
 use Rattle.mvo_core.specs.Data.{CoreData}
 use Rattle.mvo_core.specs.Seen.{clock_of}
-use Rattle.mvo_core.specs.Standing.{StandsFor}
-use Rattle.mvo_core.specs.Steps.{IsStep}
-use Rattle.mvo_core.specs.Closing.{IsClosedNow, IsNotClosed}
+use Rattle.mvo_core.specs.WholeClosing.{IsClosedWhole, IsNotClosedWhole}
+use Rattle.mvo_core.specs.WholeStanding.{StandsWhole, IsWholeStep, IsReadOnlyBegin}
 use Rattle.mvo_store.specs.Seen.{mark_of}
 use Rattle.mvo_store.specs.Causes.{why_not_take}
 use Rattle.mvo_store.specs.Calls.{AnswersCall, IsStoreStep}
@@ -38,7 +37,7 @@ use Rattle.mvo_engine.specs.States.{CoreState, SendsState, StoreState, SessionSt
 -- a step of the core that closes no group
 pub record IsCoreStep {A : Type 0} (old : CoreState) (call : theory.Call)
     (result : Result A Refusal) (new : CoreState) : Type 0 where
-  pub step : IsStep old.core call result new.core
+  pub step : IsWholeStep old.core call result new.core
   pub sends : new.sends ≡ old.sends
   pub made : new.made ≡ old.made
 
@@ -48,12 +47,25 @@ IsBeginning old last result new =
     ((last ≤ clock_of old.core) × IsCoreStep old Begin result new)
     ⊎ ((clock_of old.core < last) × (result ≡ Err Busy) × (new ≡ old))
 
+-- So a read-only one begins.
+pub record IsReadOnlyStep {A : Type 0} (old : CoreState) (result : Result A Refusal)
+    (new : CoreState) : Type 0 where
+  pub step : IsReadOnlyBegin old.core result new.core
+  pub sends : new.sends ≡ old.sends
+  pub made : new.made ≡ old.made
+
+abbrev pub IsReadOnlyBeginning : {A : Type 0} → CoreState → ℕ → Result A Refusal → CoreState
+    → Type 0
+IsReadOnlyBeginning old last result new =
+    ((last ≤ clock_of old.core) × IsReadOnlyStep old result new)
+    ⊎ ((clock_of old.core < last) × (result ≡ Err Busy) × (new ≡ old))
+
 -- The core settles the transaction, which was told just this; or it is refused with Busy, since the
 -- transaction was told something else.
 abbrev pub IsSettling : CoreState → ℕ → History → Result Settlement Refusal → CoreState → Type 0
 IsSettling old t told result new =
-    (HoldsJust old.core t told true × IsCoreStep old (Settle t) result new)
-    ⊎ (HoldsJust old.core t told false × (result ≡ Err Busy) × (new ≡ old))
+    (HoldsJustWhole old.core t told true × IsCoreStep old (Settle t) result new)
+    ⊎ (HoldsJustWhole old.core t told false × (result ≡ Err Busy) × (new ≡ old))
 
 -- one session more was made; or none, as many were made as may be
 abbrev pub IsAnother : {A : Type 0} → CoreState → Option A → CoreState → Type 0
@@ -64,20 +76,20 @@ IsAnother old None new = (MAX_SESSIONS ≤ old.made) × (new ≡ old)
 -- The next group is sent, and the closed mark raised to its mark and no further; or none, by the
 -- first cause that stands, and else for want of memory. Whether the ring is full is what the
 -- closing saw of it.
-abbrev pub HasSent : Map → List Step → State → SendsState → Result Closed Refusal → CoreData
-    → SendsState → Type 0
-HasSent rows steps s old (Ok c) core new =
-    (why_not_close s false ≡ None)
-    × ((g : GroupData) × (new.sent ≡ old.sent ++ g ∷ []) × IsClosedNow rows steps s c core g)
+abbrev pub HasSent : Map → List Step → List Step → WholeState → SendsState
+    → Result Closed Refusal → CoreData → SendsState → Type 0
+HasSent rows steps own w old (Ok c) core new =
+    ((g : GroupData) × (new.sent ≡ old.sent ++ g ∷ [])
+    × IsClosedWhole rows steps own w c core g)
     × (new.raised ≡ max old.raised c.mark.0)
-HasSent rows steps s old (Err r) core new =
-    (new.sent ≡ old.sent) × ((full : Bool) × IsNotClosed rows steps s full r core)
+HasSent rows steps own w old (Err r) core new =
+    (new.sent ≡ old.sent) × ((full : Bool) × IsNotClosedWhole rows steps own w full r core)
     × (new.raised ≡ old.raised)
 
 abbrev pub IsSending : CoreData → SendsState → Result Closed Refusal → CoreData → SendsState
     → Type 0
-IsSending core old result core' new = (rows : Map) (steps : List Step) (s : State)
-    → StandsFor rows steps s core → HasSent rows steps s old result core' new
+IsSending core old result core' new = (rows : Map) (steps own : List Step) (w : WholeState)
+    → StandsWhole rows steps own w core → HasSent rows steps own w old result core' new
 
 -- so it is for what lies under the lock, and no session is made
 pub record IsCoreSending (old : CoreState) (result : Result Closed Refusal) (new : CoreState)

@@ -3,7 +3,7 @@ use Rattle.std.specs.Prelude.{Bool, true, false}
 use Rattle.mvo_types.specs.declared.op.Op.{Op}
 use Rattle.mvo_types.specs.declared.op.Op.TheVariants.{Read, Scan, Insert, Update, Delete}
 use Rattle.mvo_types.specs.declared.refusal.Refusal.{Refusal}
-use Rattle.mvo_types.specs.declared.refusal.Refusal.TheVariants.{NoSuchTransaction, Ended, NotActive, NotPreparing, NotValidated, WriteConflict, ValidationFailed, DependencyAborted, TableFull, TooManyWrites, TooManyReads, DataTooLong, BadTable, ClockSpent, Busy, OutOfMemory}
+use Rattle.mvo_types.specs.declared.refusal.Refusal.TheVariants.{NoSuchTransaction, Ended, NotActive, NotPreparing, NotValidated, WriteConflict, ValidationFailed, DependencyAborted, TableFull, TooManyWrites, TooManyReads, DataTooLong, BadTable, ClockSpent, Busy, ReadOnly, OutOfMemory}
 
 abbrev pub refuses_begin : Refusal → Bool
 refuses_begin Busy = true
@@ -25,8 +25,9 @@ refuses_read TooManyReads = true
 refuses_read OutOfMemory = true
 refuses_read e = false
 
--- one that writes may also be one too many
+-- one that writes may also be one too many, or its transaction read-only
 abbrev pub refuses_insert : Refusal → Bool
+refuses_insert ReadOnly = true
 refuses_insert DataTooLong = true
 refuses_insert TooManyWrites = true
 refuses_insert e = refuses_read e
@@ -38,6 +39,7 @@ refuses_update e = refuses_insert e
 
 abbrev pub refuses_delete : Refusal → Bool
 refuses_delete (WriteConflict cause) = true
+refuses_delete ReadOnly = true
 refuses_delete TooManyWrites = true
 refuses_delete e = refuses_read e
 

@@ -6,11 +6,11 @@ use Rattle.mvo_model.specs.Trace.{Step}
 use Rattle.mvo_disk.specs.declared.disk.Disk.{Ghosts}
 use Rattle.mvo_disk.specs.Disk.{Image, AllOf, IsHonest}
 use Rattle.mvo_group.specs.Data.{GroupData}
-use Rattle.mvo_theory.specs.State.{State}
 use Rattle.mvo_theory.specs.Marks.{IsClosedAt}
+use Rattle.mvo_readonly.specs.Whole.{WholeState}
 use Rattle.mvo_core.specs.Data.{CoreData}
 use Rattle.mvo_core.specs.Seen.{closed_mark_of}
-use Rattle.mvo_core.specs.Standing.{StandsFor}
+use Rattle.mvo_core.specs.WholeStanding.{StandsWhole}
 use Rattle.mvo_core.specs.Groups.{HaveRecordsOf}
 use Rattle.mvo_store.specs.Frames.{mark_after}
 use Rattle.mvo_store.specs.Rows.{after_groups}
@@ -25,17 +25,19 @@ use Rattle.mvo_engine.specs.Opening.{GaveWhenOpened, WasFormatted}
 abbrev pub last_mark : List GroupData → ℕ
 last_mark groups = mark_after 0 groups
 
--- The core stands for a state to which steps over the opening rows led. The groups that were sent
--- hold its commits, up to the mark of the last one.
+-- The core stands for a whole state to which steps over the opening rows led, its own and those of
+-- read-only transactions. The groups that were sent hold its commits, up to the mark of the last
+-- one.
 pub record IsSoundCore (o : Opening) (c : CoreData) (sent : List GroupData) : Type 0 where
   pub rows : Map
   pub mark : ℕ
   pub gives : GaveWhenOpened rows mark o
   pub steps : List Step
-  pub state : State
-  pub stands : StandsFor rows steps state c
-  pub closed : IsClosedAt state.marks.closed state
-  pub groups : HaveRecordsOf state 0 sent
+  pub own : List Step
+  pub whole : WholeState
+  pub stands : StandsWhole rows steps own whole c
+  pub closed : IsClosedAt whole.core.marks.closed whole.core
+  pub groups : HaveRecordsOf whole.core 0 sent
   pub last : last_mark sent ≡ closed_mark_of c
 
 -- The groups that were received are durable, but for the one that is being appended. Where the disk

@@ -1,3 +1,5 @@
+mod reading;
+
 use crate::locked_store::LockedStore;
 use crate::run::{MAX_SESSIONS, PARTS, Receipt, Receipts, Run, Told};
 use crate::sends::Sends;
@@ -13,10 +15,10 @@ use std::sync::ledger::{Book, Share};
 /// What lies under the lock of the core: the core, where it closes its groups, and the book of the
 /// ledger with the parts that no session has.
 ///
-/// The core stands for a state of the theory over the rows that the run opened with, and the groups
-/// that were sent hold its commits up to the mark of the last one (`IsSoundCore`). Where the tale
-/// starts below the end of the watched receipt, the book says how often that is among the stored
-/// commits (`IsBooked`).
+/// The core stands for a whole state of the theory over the rows that the run opened with, and the
+/// groups that were sent hold its commits up to the mark of the last one (`IsSoundCore`). Where the
+/// tale starts below the end of the watched receipt, the book says how often that is among the
+/// stored commits (`IsBooked`).
 pub struct LockedCore<L: Run> {
     alloc: Global,
     core: Core,
@@ -63,7 +65,8 @@ impl<L: Run> LockedCore<L> {
     ghost use Rattle.mvo_types.specs.declared.refusal.Refusal.{Refusal};
     ghost use Rattle.mvo_theory.specs.Calls.Call.{Do, Precommit, Validate};
     ghost use Rattle.mvo_theory.specs.Calls.Call.{Rollback, Finish, Trim};
-    ghost use Rattle.mvo_core.specs.Steps.{IsAnswered, IsValidation, IsSettlement, IsFinishing};
+    ghost use Rattle.mvo_core.specs.WholeAnswers.{IsAnsweredWhole, IsFinishingWhole};
+    ghost use Rattle.mvo_core.specs.WholeEnds.{IsValidationWhole, IsSettlementWhole};
     ghost use Rattle.mvo_core.specs.Trimming.{HasForgotten};
     ghost use Rattle.mvo_core.specs.Causes.{why_not_undo};
     ghost use Rattle.mvo_core.specs.Unfinished.{IsNextActive};
@@ -262,7 +265,7 @@ impl<L: Run> LockedCore<L> {
     pub fn operate(&mut self, tx: TxId, op: Op) -> Result<Answer, Refusal>
         ensures sound { IsSoundCore L.opening self.old.core self.old.sends.sent }
         ensures step { IsCoreStep self.old (Do tx.0 op) result self.new }
-        ensures answer { IfOk result (IsAnswered self.old.core tx.0 op) }
+        ensures answer { IfOk result (IsAnsweredWhole self.old.core tx.0 op) }
         ensures err { IfErr result (λ e. refuses_operation op e ≡ true) }
     {
         self.core.operate(tx, op)
@@ -280,7 +283,7 @@ impl<L: Run> LockedCore<L> {
     pub fn validate_one(&mut self, tx: TxId) -> Result<Validation, Refusal>
         ensures sound { IsSoundCore L.opening self.old.core self.old.sends.sent }
         ensures step { IsCoreStep self.old (Validate tx.0) result self.new }
-        ensures answer { IfOk result (IsValidation self.old.core tx.0) }
+        ensures answer { IfOk result (IsValidationWhole self.old.core tx.0) }
     {
         self.core.validate_one(tx)
     }
@@ -298,7 +301,7 @@ impl<L: Run> LockedCore<L> {
         requires above { AreBelow tx.0 mine.old.list }
         ensures sound { IsSoundCore L.opening self.old.core self.old.sends.sent }
         ensures step { IsSettling self.old tx.0 told.old result self.new }
-        ensures answer { IfOk result (IsSettlement self.old.core tx.0) }
+        ensures answer { IfOk result (IsSettlementWhole self.old.core tx.0) }
         ensures settled { HasSettled tx.0 told.old mine.old result mine.new told.new }
     {
         if !self.core.holds(tx, told.operations()) {
@@ -337,7 +340,7 @@ impl<L: Run> LockedCore<L> {
     pub fn finish_one(&mut self, tx: TxId) -> Result<Finishing, Refusal>
         ensures sound { IsSoundCore L.opening self.old.core self.old.sends.sent }
         ensures step { IsCoreStep self.old (Finish tx.0) result self.new }
-        ensures answer { IfOk result (IsFinishing self.old.core tx.0) }
+        ensures answer { IfOk result (IsFinishingWhole self.old.core tx.0) }
     {
         self.core.finish_one(tx)
     }

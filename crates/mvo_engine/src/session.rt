@@ -4,6 +4,7 @@ mod forgetting;
 mod giving_up;
 mod lasting;
 mod operating;
+mod reading;
 mod transacting;
 
 use crate::engine::Engine;

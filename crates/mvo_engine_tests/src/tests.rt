@@ -18,6 +18,7 @@ mod meeting;
 mod older;
 mod one_call;
 mod reads_free;
+mod reports;
 mod rows;
 mod sessions;
 mod steps;

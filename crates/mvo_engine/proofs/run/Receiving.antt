@@ -13,8 +13,8 @@ rises_append (x ∷ xs) r up below = (each_append (λ (later : Receipt). x.end <
 pub up_to_append : (rs : List Receipt) (r : Receipt) → AreBelow r.end rs → AreUpTo r.end (rs ++ r ∷ [])
 up_to_append rs r below = each_append (λ (x : Receipt). x.end ≤ r.end) rs (r ∷ []) (each_weaker (λ (x : Receipt). x.end < r.end) (λ (x : Receipt). x.end ≤ r.end) (λ x p. omega (arith, p)) rs below) (omega arith, tt)
 
-pub below_later : (t e : ℕ) (rs : List Receipt) → AreBelow t rs → t < e → AreBelow e rs
-below_later t e rs below later = each_weaker (λ (x : Receipt). x.end < t) (λ (x : Receipt). x.end < e) (λ x p. omega (arith, p, later)) rs below
+pub below_from : (t e : ℕ) (rs : List Receipt) → AreBelow t rs → t ≤ e → AreBelow e rs
+below_from t e rs below later = each_weaker (λ (x : Receipt). x.end < t) (λ (x : Receipt). x.end < e) (λ x p. omega (arith, p, later)) rs below
 
 pub count_append : (w : Watched) (rs : List Receipt) (r : Receipt) → count_of w (rs ++ r ∷ []) ≡ count_of w rs + w.weigh r
 count_append w rs r = let h = sum_by-append w.weigh rs (r ∷ []) in omega (arith, h)

@@ -38,21 +38,22 @@ fn ends_transaction(refusal: Refusal) -> bool
     }
 }
 
-ghost use Rattle.std.specs.Prelude.{◌≡◌, true, Err, IfErr};
+ghost use Rattle.std.specs.Prelude.{◌≡◌, true, Err, IfOk, IfErr};
 ghost use Rattle.mvo_core.specs.declared.answers.Validation.{Validation};
 ghost use Rattle.mvo_theory.specs.Causes.{is_failure};
 ghost use Rattle.mvo_theory.specs.Calls.Call.{Precommit, Validate};
 ghost use Rattle.mvo_engine.specs.run.Receiving.{AreBelow};
 ghost use Rattle.mvo_engine.specs.Settling.{HasEnded};
 ghost use Rattle.mvo_engine.specs.Calls.{ends_transaction};
-ghost use Rattle.mvo_engine.specs.Asked.{WasAsked, IsFinishingAnswer, HasRefusedToCommit};
+ghost use Rattle.mvo_engine.specs.Asked.{WasAsked, WasSettled, IsFinishingAnswer};
+ghost use Rattle.mvo_engine.specs.Asked.{HasRefusedToCommit};
 
 impl<'e, L: Run, D: Disk, G: Gate + Drop> Session<'e, L, D, G> {
-    ghost use Rattle.std.specs.Prelude.{◌≡◌, None, Some, true, OnOk, IfErr, IfSome};
+    ghost use Rattle.std.specs.Prelude.{◌≡◌, None, Some, true, OnOk, IfOk, IfErr, IfSome};
     ghost use Rattle.mvo_theory.specs.Calls.Call.{Rollback};
     ghost use Rattle.mvo_engine.specs.Calls.{HasCommitted, HasLeft, IsNoTx, session_after};
     ghost use Rattle.mvo_engine.specs.Asked.{WasAsked, WasFinished, HasLeftTx};
-    ghost use Rattle.mvo_engine.specs.Asked.{HasGone, HasRefusedToCommit};
+    ghost use Rattle.mvo_engine.specs.Asked.{HasGone, WasSettled, HasRefusedToCommit};
     ghost use Rattle.mvo_engine.specs.Refusing.{refuses_commit, refuses_rollback};
 
     /// Commits the transaction, and answers its end timestamp: makes room for its receipt, draws
@@ -60,7 +61,8 @@ impl<'e, L: Run, D: Disk, G: Gate + Drop> Session<'e, L, D, G> {
     /// is settled, becomes Committed and is finished. Each step takes the lock anew, checks and
     /// words for up to 64, so that others go on meanwhile. The receipt is one more of the
     /// session's: what its calls were answered, which is compared with what the core holds. The
-    /// commit is durable once a flush has answered a mark that isn't below its end.
+    /// commit is durable once a flush has answered a mark that isn't below its end. The end of one
+    /// that is read-only is its begin, and none is drawn.
     ///
     /// Refused: NoSuchTransaction without a transaction, and where it was rolled back meanwhile
     /// (`Engine::roll_back_older`; Ended, where that comes in between), DependencyAborted,
@@ -70,6 +72,8 @@ impl<'e, L: Run, D: Disk, G: Gate + Drop> Session<'e, L, D, G> {
     pub fn commit_tx<R: Wait>(&mut self, rt: &R) -> Result<Stamp, Refusal>
         ensures none { IsNoTx self.old.tx result }
         ensures committed { HasCommitted self.old result self.new }
+        ensures settled { IfOk result (λ e.
+            IfSome self.old.tx (λ t. WasSettled L.opening t self.old.told e)) }
         ensures finished { OnOk result (IfSome self.old.tx (WasFinished L.opening)) }
         ensures tx { IfErr result (λ e. HasLeftTx L.opening self.old.tx e self.new.tx) }
         ensures core { IfErr result (λ e.
@@ -182,6 +186,7 @@ fn settled<L: Run, D: Disk, G: Gate + Drop, R: Wait>(
     requires room { mine.old.room ≡ true }
     requires above { AreBelow tx.0 mine.old.list }
     ensures ended { HasEnded tx.0 told.old mine.old result mine.new told.new }
+    ensures settled { IfOk result (WasSettled L.opening tx.0 told.old) }
     ensures core { IfErr result (HasRefusedToCommit L.opening tx.0 told.old) }
 {
     if let Err(refusal) = prepare(rt, engine, tx) {
@@ -257,6 +262,7 @@ fn settle<L: Run, D: Disk, G: Gate + Drop, R: Wait>(
     requires room { mine.old.room ≡ true }
     requires above { AreBelow tx.0 mine.old.list }
     ensures ended { HasEnded tx.0 told.old mine.old result mine.new told.new }
+    ensures settled { IfOk result (WasSettled L.opening tx.0 told.old) }
     ensures core { IfErr result (HasRefusedToCommit L.opening tx.0 told.old) }
 {
     for _ in rt.forever() {

@@ -12,11 +12,11 @@ use std::sync::Wait;
 const FORGOTTEN_AT_ONCE: usize = 64;
 
 impl<'e, L: Run, D: Disk, G: Gate + Drop> Session<'e, L, D, G> {
-    ghost use Rattle.std.specs.Prelude.{◌≡◌, [], true, Ok, IfOk, IfErr};
+    ghost use Rattle.std.specs.Prelude.{◌≡◌, [], true, Some, Ok, IfOk, IfErr};
     ghost use Rattle.mvo_types.specs.declared.op.Op.TheVariants as Op;
-    ghost use Rattle.mvo_engine.specs.Asked.{IsCoreAnswer, HasLeftTx};
+    ghost use Rattle.mvo_engine.specs.Asked.{IsCoreAnswer, HasLeftTx, WasBegun, IsCoreBegin};
     ghost use Rattle.mvo_engine.specs.Calls.{HasAsked, IsBegun, IsNoTx};
-    ghost use Rattle.mvo_engine.specs.Forgetting.{HasForgottenIfOk, WasStart};
+    ghost use Rattle.mvo_engine.specs.Forgetting.{HasForgottenSome, HasForgottenIfOk, WasStart};
     ghost use Rattle.mvo_engine.specs.Refusing.{refuses_begin, refuses_operation};
     ghost use Rattle.mvo_engine.specs.declared.session.operating.TheConstants.{FORGOTTEN_AT_ONCE};
     ghost use Rattle.mvo_engine.specs.run.Receiving.{AreBelow};
@@ -35,6 +35,7 @@ impl<'e, L: Run, D: Disk, G: Gate + Drop> Session<'e, L, D, G> {
           receipts = self.new.receipts;
           forgotten = self.new.forgotten;
         } }
+        ensures core { IsCoreBegin L.opening self.old.tx result }
         ensures err { IfErr result (λ e. refuses_begin e ≡ true) }
     {
         if self.tx.is_some() {
@@ -44,16 +45,35 @@ impl<'e, L: Run, D: Disk, G: Gate + Drop> Session<'e, L, D, G> {
             Ok(begun) => begun,
             Err(refusal) => return Err(refusal),
         };
+        self.take_up(tx, start);
+        Ok(tx)
+    }
+
+    // Goes on with the transaction, which is begun, where the tale started there. It lets go of up
+    // to `FORGOTTEN_AT_ONCE` receipts.
+    pub(super) fn take_up(&mut self, tx: TxId, start: Stamp)
+        requires above { AreBelow tx.0 self.old.receipts }
+        requires start { WasStart L.opening start.0 }
+        ensures tx { self.new.tx ≡ Some tx.0 }
+        ensures told { self.new.told ≡ [] }
+        ensures forgets { HasForgottenSome L.opening FORGOTTEN_AT_ONCE self.old self.new }
+        ensures rest { self.new ≡ record self.old {
+          tx = self.new.tx;
+          told = self.new.told;
+          receipts = self.new.receipts;
+          forgotten = self.new.forgotten;
+        } }
+    {
         self.receipts.forget(start, FORGOTTEN_AT_ONCE);
         self.told.clear();
         self.tx = Some(tx);
-        Ok(tx)
     }
 
     // Begins a transaction in the core, and tells where the tale starts.
     fn begun<R: Wait>(&self, rt: &R) -> Result<(TxId, Stamp), Refusal>
         ensures above { IfOk result (λ b. AreBelow b.0.0 self.now.receipts) }
         ensures start { IfOk result (λ b. WasStart L.opening b.1.0) }
+        ensures core { WasBegun L.opening result }
         ensures err { IfErr result (λ e. refuses_begin e ≡ true) }
     {
         let mut core = self.enter(rt);
@@ -67,7 +87,8 @@ impl<'e, L: Run, D: Disk, G: Gate + Drop> Session<'e, L, D, G> {
     /// Asks for an operation. A failure ends the transaction. Refused: NoSuchTransaction without a
     /// transaction, and where it was rolled back meanwhile (`Engine::roll_back_older`; Ended, where
     /// that comes in between), so that it is over, DependencyAborted, BadTable, DataTooLong for a
-    /// row, TooManyReads, for one that writes TooManyWrites and WriteConflict, and OutOfMemory.
+    /// row, TooManyReads, for one that writes ReadOnly in a read-only transaction, and else
+    /// TooManyWrites and WriteConflict, and OutOfMemory.
     pub fn operate<R: Wait>(&mut self, rt: &R, op: Op) -> Result<Answer, Refusal>
         ensures none { IsNoTx self.old.tx result }
         ensures asked { HasAsked self.old op result self.new }

@@ -14,6 +14,8 @@ use std::sync::Wait;
 #[derive(Clone, Copy)]
 pub enum Ask {
     Begin,
+    /// To begin one that only reads.
+    BeginReport,
     Commit,
     Rollback,
     Read,
@@ -55,6 +57,7 @@ impl Ask {
     ) -> Told {
         match self {
             Ask::Begin => begun(session.begin_tx(rt)),
+            Ask::BeginReport => begun(session.begin_read_only(rt)),
             Ask::Commit => stamped(session.commit_tx(rt)),
             Ask::Rollback => done(session.rollback_tx(rt)),
             Ask::Of(kind) => kind.of(rt, alloc, session),

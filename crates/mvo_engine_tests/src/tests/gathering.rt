@@ -7,7 +7,7 @@ use crate::equal::same;
 use mvo_core::Tale;
 use mvo_disk::Disk;
 use mvo_engine::{CoreGuard, Engine, Gate, Gathered, OpenGate, Receipt, Run, Session, gather};
-use mvo_types::{Answer, Op, Refusal, Row, RowKey};
+use mvo_types::{Answer, Op, Refusal, Row, RowKey, Stamp};
 use std::alloc::{AllocError, Global};
 use std::process::Abort;
 use std::sync::Wait;
@@ -16,8 +16,11 @@ use std::thread::{Threads, map_indices};
 
 const WORKERS: usize = 4;
 
-/// So many transactions each worker commits.
+/// So many transactions each worker commits that write, with a report behind each.
 const ROUNDS: u8 = 8;
+
+/// So many commits there are, of all workers.
+const COMMITS: u64 = 64;
 
 fn key_of(worker: usize) -> RowKey {
     RowKey {
@@ -57,8 +60,19 @@ fn work_rounds<L: Run, D: Disk, G: Gate + Drop, R: Wait>(
         session.update(rt, row_of(alloc, worker, round)?)?;
         session.read(rt, key_of(worker))?;
         session.commit_tx(rt)?;
+        report(rt, session)?;
     }
     Ok(())
+}
+
+/// Reads the rows of all workers.
+fn report<L: Run, D: Disk, G: Gate + Drop, R: Wait>(
+    rt: &R,
+    session: &mut Session<'_, L, D, G>,
+) -> Result<Stamp, Refusal> {
+    session.begin_read_only(rt)?;
+    session.scan(rt, 0, 0, 100)?;
+    session.commit_tx(rt)
 }
 
 /// The sessions of all workers, each in a thread of its own.
@@ -217,8 +231,8 @@ fn audit_all<L: Run, D: Disk, G: Gate + Drop, R: Abort + Wait>(
 ) {
     let mut store = engine.lock_store(rt);
     engine.audit(core, &mut store);
-    same(rt, &receipts.len(), &32);
-    same(rt, &told_once(core.tale(), receipts), &32);
+    same(rt, &(receipts.len() as u64), &COMMITS);
+    same(rt, &told_once(core.tale(), receipts), &COMMITS);
 }
 
 #[test]

@@ -41,6 +41,8 @@ pub const NO_TRANSACTION: Told = Told::Refused(10);
 
 pub const WRITE_CONFLICT: Told = Told::Refused(20);
 
+pub const VALIDATION_FAILED: Told = Told::Refused(21);
+
 pub const TABLE_FULL: Told = Told::Refused(30);
 
 pub const BAD_TABLE: Told = Told::Refused(34);
@@ -52,6 +54,8 @@ pub const DOWN: Told = Told::Refused(51);
 pub const BUSY: Told = Told::Refused(52);
 
 pub const NOTHING_TO_DO: Told = Told::Refused(56);
+
+pub const READ_ONLY: Told = Told::Refused(60);
 
 /// What is done, or refused.
 pub fn done(answer: Result<(), Refusal>) -> Told {

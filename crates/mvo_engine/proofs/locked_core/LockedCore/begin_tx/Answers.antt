@@ -3,12 +3,12 @@ use Rattle.mvo_engine.proofs.Booked.{stays_sound}
 use Rattle.mvo_engine.proofs.locked_core.LockedCore.begin_tx.Goals as goal
 
 pub invariant_of-self : goal.invariant_of-self
-invariant_of-self g c = stays_sound c.self.invariant c.begin_tx.result c.begin_tx.ensures.step refl
+invariant_of-self g c = stays_sound c.self.invariant c.begin_tx.result c.begin_tx.ensures.whole refl
 
 pub returns-clause-step : goal.returns-clause-step
 returns-clause-step g c =
     let le : c.args.last.0 ≤ c.self.inside.core.table.clock = first_of (grind (arith, c.if-lt.false, c.lt.ensures, c.clock.ensures), search rules) in
-    rw (← c.self.view_is) (inl (le, record { step = c.begin_tx.ensures.step; sends = refl; made = refl }))
+    rw (← c.self.view_is) (inl (le, record { step = c.begin_tx.ensures.whole; sends = refl; made = refl }))
 
 pub returns-clause-sound : goal.returns-clause-sound
 returns-clause-sound g c = rw (← c.self.view_is) c.self.invariant.0

@@ -13,7 +13,7 @@ invariant_of-self g c =
     let core = c.close_group.new.core in
     let result = c.close_group.result in
     let e = c.close_group.ensures in
-    (after_closing s old new refl result core (e s.rows s.steps s.state s.stands), closed g.L.Run.watched b old new result core (e b.rows b.steps b.state b.stands), spare_later _ i.2 (start_closed g.L.Run.watched b old new result core (e b.rows b.steps b.state b.stands)))
+    (after_closing s old new refl result core (e s.rows s.steps s.own s.whole s.stands), closed g.L.Run.watched b old new result core (e b.rows b.steps b.own b.whole b.stands), spare_later _ i.2 (start_closed g.L.Run.watched b old new result core (e b.rows b.steps b.own b.whole b.stands)))
 
 pub returns : goal.returns
 returns g c = rw (← c.self.view_is) (record { sending = c.close_group.ensures; made = refl })

@@ -4,13 +4,13 @@ use Rattle.mvo_engine.proofs.Refused.{operation_err}
 use Rattle.mvo_engine.proofs.locked_core.LockedCore.operate.Goals as goal
 
 pub invariant_of-self : goal.invariant_of-self
-invariant_of-self g c = stays_sound c.self.invariant c.operate.result c.operate.ensures.step refl
+invariant_of-self g c = stays_sound c.self.invariant c.operate.result c.operate.ensures.whole refl
 
 pub returns-clause-step : goal.returns-clause-step
-returns-clause-step g c = rw (← c.self.view_is) (record { step = c.operate.ensures.step; sends = refl; made = refl })
+returns-clause-step g c = rw (← c.self.view_is) (record { step = c.operate.ensures.whole; sends = refl; made = refl })
 
 pub returns-clause-sound : goal.returns-clause-sound
 returns-clause-sound g c = rw (← c.self.view_is) c.self.invariant.0
 
 pub returns-clause-err : goal.returns-clause-err
-returns-clause-err g c = operation_err (record { core = c.self.inside.core; sends = c.self.inside.sends; made = c.self.inside.made }) c.args.tx.0 c.args.op c.operate.result c.operate.new.self c.self.invariant.0 c.operate.ensures.step
+returns-clause-err g c = operation_err (record { core = c.self.inside.core; sends = c.self.inside.sends; made = c.self.inside.made }) c.args.tx.0 c.args.op c.operate.result c.operate.new.self c.self.invariant.0 c.operate.ensures.whole

@@ -3,10 +3,10 @@ use Rattle.mvo_engine.proofs.Booked.{stays_sound}
 use Rattle.mvo_engine.proofs.locked_core.LockedCore.precommit.Goals as goal
 
 pub invariant_of-self : goal.invariant_of-self
-invariant_of-self g c = stays_sound c.self.invariant c.precommit.result c.precommit.ensures.step refl
+invariant_of-self g c = stays_sound c.self.invariant c.precommit.result c.precommit.ensures.whole refl
 
 pub returns-clause-step : goal.returns-clause-step
-returns-clause-step g c = rw (← c.self.view_is) (record { step = c.precommit.ensures.step; sends = refl; made = refl })
+returns-clause-step g c = rw (← c.self.view_is) (record { step = c.precommit.ensures.whole; sends = refl; made = refl })
 
 pub returns-clause-sound : goal.returns-clause-sound
 returns-clause-sound g c = rw (← c.self.view_is) c.self.invariant.0

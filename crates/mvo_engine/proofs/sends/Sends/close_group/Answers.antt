@@ -13,11 +13,11 @@ invariant_of-self-in-Err g c =
     (i.0, same_of c.self.inside.ring c.close_group.new.ring c.close_group.ensures.ring ∙ i.1)
 
 pub returns-in-Ok : goal.returns-in-Ok
-returns-in-Ok g c = rw (← c.self.view_is) (λ rows steps s h.
-    let told = c.in-Ok.ensures.step rows steps s h in
-    (told.0, told.1, c.raise_closed.ensures.no_further))
+returns-in-Ok g c = rw (← c.self.view_is) (λ rows steps own w h.
+    let told = c.in-Ok.ensures.whole rows steps own w h in
+    (told, c.raise_closed.ensures.no_further))
 
 pub returns-in-Err : goal.returns-in-Err
-returns-in-Err g c = rw (← c.self.view_is) (λ rows steps s h.
-    let told = c.in-Err.ensures.step rows steps s h in
+returns-in-Err g c = rw (← c.self.view_is) (λ rows steps own w h.
+    let told = c.in-Err.ensures.whole rows steps own w h in
     (told.1.1, (_, told.0), refl))
