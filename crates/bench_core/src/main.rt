@@ -12,7 +12,6 @@ mod figure;
 mod hot;
 mod keeping;
 mod keys;
-mod lasting;
 mod load;
 mod mixed;
 mod part;
@@ -90,7 +89,6 @@ fn run_apart<R: Runtime + Threads + Wait + Sync>(
     }
     if config.has(Work::Steady) {
         steady::run(rt, threads, config)?;
-        lasting::run(rt, threads, config)?;
     }
     if config.has(Work::Worn) {
         worn::run(rt, threads, config)?;

@@ -110,8 +110,7 @@ pub fn number_in<L: Run, D: Disk, G: Gate + Drop, R: Wait>(
     Ok(number_of(&found(session.read(rt, key_of(key))?)?))
 }
 
-/// The row that was found.
-pub fn found(answer: Answer) -> Result<Row, Refusal> {
+fn found(answer: Answer) -> Result<Row, Refusal> {
     match answer {
         Answer::Found(Some(row)) => Ok(row),
         _ => Err(Refusal::NothingToDo),

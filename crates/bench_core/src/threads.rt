@@ -33,7 +33,7 @@ const RUNS: [(usize, &str, &str); 3] = [
 ];
 
 /// So many rows a transaction, where all are written or read.
-pub const EACH: u64 = 100;
+const EACH: u64 = 100;
 
 /// What the threads do: so many transactions in all.
 #[derive(Clone, Copy)]
@@ -104,7 +104,7 @@ fn tell(rt: &impl Runtime, config: &Config, (name, end): (&str, &str), done: Don
 }
 
 /// A disk in memory with a store that has no rows.
-pub fn formatted(alloc: Global) -> Result<MemDisk> {
+fn formatted(alloc: Global) -> Result<MemDisk> {
     match format(alloc, new_disk(alloc)?) {
         Ok(disk) => Ok(disk),
         Err((refusal, _)) => bail!("no store is written: {refusal}"),
@@ -264,7 +264,7 @@ fn load_by<L: Run, D: Disk, G: Gate + Drop, R: Wait>(
 }
 
 /// Puts the rows of these keys.
-pub fn put<L: Run, D: Disk, G: Gate + Drop, R: Wait>(
+fn put<L: Run, D: Disk, G: Gate + Drop, R: Wait>(
     rt: &R,
     alloc: Global,
     session: &mut Session<'_, L, D, G>,
