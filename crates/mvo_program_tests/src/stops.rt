@@ -4,4 +4,5 @@ mod failing;
 mod forgotten;
 mod longer;
 mod looked_at;
+mod moments;
 mod random;
