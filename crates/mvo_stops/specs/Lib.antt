@@ -1,4 +1,5 @@
 pub mod Promise
 pub mod Judging
+pub mod Looking
 pub mod Calls
 pub mod Counting

@@ -1,17 +1,24 @@
 //! Looks at all that stops and faults may leave at one call.
-ghost use Rattle.std.specs.Prelude.{◌≡◌, Some, Ok, IfOk};
+ghost use Rattle.std.specs.Prelude.{◌≡◌, ◌≢◌, ◌≤◌, ◌+◌, [], length, Some, None, Ok, IfOk, OnOk};
+ghost use Rattle.std.specs.Option.{option_or};
 ghost use Rattle.mvo_stops.specs.declared.wrong.Wrong.{Wrong};
+ghost use Rattle.mvo_stops.specs.Calls.{calls_in};
+ghost use Rattle.mvo_stops.specs.Judging.{wrong_in};
+ghost use Rattle.mvo_stops.specs.Looking.{ChangesAt, RunsPastFault, EachMomentIsOpened, IsOpenedAt};
 
 use crate::base::Base;
 use crate::counts::Counts;
 use crate::error::StopsError;
 use crate::fill::{Fill, Length};
 use crate::image::{Image, images_of};
-use crate::judge::Judge;
+use crate::judge::{Judge, wrong_in};
+use crate::look::Look;
 use crate::look_end::LookEnd;
 use crate::loose::loose_after;
 use crate::moment::Moment;
 use crate::recorded::Recorded;
+use crate::when::When;
+use crate::which::Which;
 use crate::wrong::Wrong;
 use mvo_disk::{Call, MemDisk};
 use mvo_types::Stamp;
@@ -31,7 +38,9 @@ pub fn check_call(
     rt: &(impl Threads + Sync),
     recorded: &Recorded,
     place: usize,
-) -> Result<Found, StopsError> {
+) -> Result<Found, StopsError>
+    ensures { IfOk result (λ found. found.wrong ≡ None → EachMomentIsOpened recorded.now place) }
+{
     let (history, _, left) = recorded.run_failing(rt, place)?.into_parts();
     let mut judge = Judge::new(history);
     let ended = check_run(rt, &mut judge, recorded, place, left);
@@ -48,6 +57,9 @@ fn with_end(
     found: Found,
 ) -> Result<Found, StopsError>
     ensures kept { (w : Wrong) → found.wrong ≡ Some w → result ≡ Ok found }
+    ensures before { IfOk result (λ f. f.wrong ≡ None → found.wrong ≡ None) }
+    ensures stopped { IfOk result (λ f. f.wrong ≡ None →
+        length (calls_in recorded.now) ≤ place + 1 → IsOpenedAt recorded.now When.StopAtEnd) }
 {
     if found.wrong.is_some() || place.saturating_add(1) < recorded.calls().len() {
         return Ok(found);
@@ -60,24 +72,30 @@ fn with_end(
 }
 
 /// Looks at what a stop at the script's end leaves.
-fn check_end(rt: &(impl Threads + Sync), recorded: &Recorded) -> Result<Found, StopsError> {
+fn check_end(rt: &(impl Threads + Sync), recorded: &Recorded) -> Result<Found, StopsError>
+    ensures { IfOk result (λ f. f.wrong ≡ None → IsOpenedAt recorded.now When.StopAtEnd) }
+{
     let all = recorded.calls().len();
     let (history, _) = recorded.run_failing(rt, all)?.into_history();
     let mut judge = Judge::new(history);
     let base = Base::before(recorded, all)?;
-    let ended = check_stopped(rt, &mut judge, &Moment::before(recorded, &base, all));
+    let moment = Moment::before(recorded, &base, all);
+    let ended = check_stopped(rt, &mut judge, recorded, &moment, When::StopAtEnd);
     found_by(&judge, ended)
 }
 
-/// What was found up to here: what the judge has found wrong is.
+/// What was found up to here: what the judge has found wrong is, and why no more was looked at.
 fn found_by(judge: &Judge, ended: Result<(), LookEnd>) -> Result<Found, StopsError>
     ensures counts { IfOk result (λ found. found.counts ≡ judge.now.counts) }
-    ensures wrong { IfOk result (λ found. found.wrong ≡ judge.now.wrong) }
+    ensures wrong { IfOk result (λ found.
+        found.wrong ≡ option_or judge.now.wrong (wrong_in ended)) }
+    ensures ended { IfOk result (λ found. found.wrong ≡ None → ended ≡ Ok tt) }
 {
+    let wrong = judge.wrong().or(wrong_in(&ended));
     match ended {
         Ok(()) | Err(LookEnd::Wrong(_)) => Ok(Found {
             counts: judge.counts(),
-            wrong: judge.wrong(),
+            wrong,
         }),
         Err(LookEnd::Error(error)) => Err(error),
     }
@@ -90,19 +108,24 @@ fn check_run(
     recorded: &Recorded,
     place: usize,
     left: MemDisk,
-) -> Result<(), LookEnd> {
+) -> Result<(), LookEnd>
+    ensures before { OnOk result (IsOpenedAt recorded.now When.StopBefore) }
+    ensures within { OnOk result (ChangesAt recorded.now place →
+        IsOpenedAt recorded.now When.StopWithin) }
+    ensures idle { OnOk result (IsOpenedAt recorded.now When.FaultIdle) }
+    ensures in_part { OnOk result (ChangesAt recorded.now place →
+        IsOpenedAt recorded.now When.FaultInPart) }
+    ensures passed { OnOk result (RunsPastFault recorded.now place →
+        IsOpenedAt recorded.now When.FaultPassed × IsOpenedAt recorded.now When.StopBehindFault) }
+    ensures at_end { OnOk result (IsOpenedAt recorded.now When.FaultAtEnd) }
+{
     let base = Base::before(recorded, place)?;
     check_stops_at(rt, judge, recorded, &base, place)?;
-    check_faults_at(
-        rt,
-        judge,
-        recorded,
-        &base,
-        place,
-        recorded.rest_of(&left, place),
-    )?;
+    let rest = recorded.rest_of(&left, place);
+    check_faults_at(rt, judge, recorded, &base, place, rest)?;
     let acknowledged = judge.acknowledged();
-    judge.look(rt, recorded, left, acknowledged)?;
+    let look = Look(When::FaultAtEnd, Which::First);
+    judge.look(rt, recorded, left, acknowledged, look)?;
     Ok(())
 }
 
@@ -113,10 +136,15 @@ fn check_stops_at(
     recorded: &Recorded,
     base: &Base,
     place: usize,
-) -> Result<(), LookEnd> {
-    check_stopped(rt, judge, &Moment::before(recorded, base, place))?;
+) -> Result<(), LookEnd>
+    ensures before { OnOk result (IsOpenedAt recorded.now When.StopBefore) }
+    ensures within { OnOk result (ChangesAt recorded.now place →
+        IsOpenedAt recorded.now When.StopWithin) }
+{
+    let moment = Moment::before(recorded, base, place);
+    check_stopped(rt, judge, recorded, &moment, When::StopBefore)?;
     if let Some(moment) = Moment::within(recorded, base, place)? {
-        check_stopped(rt, judge, &moment)?;
+        check_stopped(rt, judge, recorded, &moment, When::StopWithin)?;
     }
     Ok(())
 }
@@ -129,12 +157,19 @@ fn check_faults_at(
     base: &Base,
     place: usize,
     rest: &[Call],
-) -> Result<(), LookEnd> {
-    check_fault(rt, judge, Moment::before(recorded, base, place), rest)?;
+) -> Result<(), LookEnd>
+    ensures idle { OnOk result (IsOpenedAt recorded.now When.FaultIdle) }
+    ensures in_part { OnOk result (ChangesAt recorded.now place →
+        IsOpenedAt recorded.now When.FaultInPart) }
+    ensures passed { OnOk result (rest.now ≢ [] →
+        IsOpenedAt recorded.now When.FaultPassed × IsOpenedAt recorded.now When.StopBehindFault) }
+{
+    let moment = Moment::before(recorded, base, place);
+    check_fault(rt, judge, recorded, moment, rest, When::FaultIdle)?;
     for fill in Fill::ALL {
         for length in Length::ALL {
             if let Some(moment) = Moment::failed(recorded, base, place, fill, length)? {
-                check_fault(rt, judge, moment, rest)?;
+                check_fault(rt, judge, recorded, moment, rest, When::FaultInPart)?;
             }
         }
     }
@@ -146,20 +181,28 @@ fn check_faults_at(
 fn check_fault<'a>(
     rt: &(impl Threads + Sync),
     judge: &mut Judge,
+    recorded: &Recorded,
     moment: Moment<'a>,
     rest: &'a [Call],
-) -> Result<(), LookEnd> {
-    check_standing(rt, judge, &moment)?;
+    when: When,
+) -> Result<(), LookEnd>
+    ensures fault { OnOk result (IsOpenedAt recorded.now when) }
+    ensures passed { OnOk result (rest.now ≢ [] →
+        IsOpenedAt recorded.now When.FaultPassed × IsOpenedAt recorded.now When.StopBehindFault) }
+{
+    check_standing(rt, judge, recorded, &moment, when)?;
     if rest.is_empty() {
         return Ok(());
     }
     let moment = moment.with_rest(rest);
-    check_stopped(rt, judge, &moment)?;
-    check_standing(rt, judge, &moment)
+    check_stopped(rt, judge, recorded, &moment, When::StopBehindFault)?;
+    check_standing(rt, judge, recorded, &moment, When::FaultPassed)
 }
 
 /// What a stop may leave of a disk.
-fn images_on(moment: &Moment<'_>, disk: &MemDisk) -> Result<Vec<Image>, StopsError> {
+fn images_on(moment: &Moment<'_>, disk: &MemDisk) -> Result<Vec<Image>, StopsError>
+    ensures { IfOk result (λ v. v.items ≢ []) }
+{
     let recorded = moment.recorded;
     let loose = loose_after(recorded.alloc, &moment.base.start, disk.calls())?;
     Ok(images_of(recorded.alloc, &loose)?)
@@ -178,13 +221,16 @@ fn left_by_opening(moment: &Moment<'_>, disk: MemDisk) -> Result<MemDisk, StopsE
 fn check_stopped(
     rt: &(impl Threads + Sync),
     judge: &mut Judge,
+    recorded: &Recorded,
     moment: &Moment<'_>,
-) -> Result<(), LookEnd> {
-    let recorded = moment.recorded;
+    when: When,
+) -> Result<(), LookEnd>
+    ensures { OnOk result (IsOpenedAt recorded.now when) }
+{
     for image in images_on(moment, &moment.disk()?)? {
         let mut disk = moment.disk()?;
         stop(&mut disk, &image)?;
-        check_image(rt, judge, recorded, disk)?;
+        check_image(rt, judge, recorded, disk, when)?;
     }
     Ok(())
 }
@@ -201,16 +247,22 @@ fn check_image(
     judge: &mut Judge,
     recorded: &Recorded,
     disk: MemDisk,
-) -> Result<(), LookEnd> {
+    when: When,
+) -> Result<(), LookEnd>
+    ensures { OnOk result (IsOpenedAt recorded.now when) }
+{
     let acknowledged = judge.acknowledged();
-    let (_, disk) = judge.look(rt, recorded, disk, acknowledged)?;
+    let first = Look(when, Which::First);
+    let (_, disk) = judge.look(rt, recorded, disk, acknowledged, first)?;
+    let behind_cut = Look(when, Which::BehindCut);
+    let behind_stop = Look(when, Which::BehindCutStop);
     let mut disk = disk;
     for place in 0..disk.calls().len() {
-        disk = judge.look_cut(rt, recorded, disk, place)?;
-        disk = judge.look(rt, recorded, disk, acknowledged)?.1;
-        disk = judge.look_cut(rt, recorded, disk, place)?;
+        disk = judge.look_cut(rt, recorded, disk, place, Look(when, Which::Cut))?;
+        disk = judge.look(rt, recorded, disk, acknowledged, behind_cut)?.1;
+        disk = judge.look_cut(rt, recorded, disk, place, Look(when, Which::CutAgain))?;
         disk.stop(&[]).map_err(StopsError::from)?;
-        disk = judge.look(rt, recorded, disk, acknowledged)?.1;
+        disk = judge.look(rt, recorded, disk, acknowledged, behind_stop)?.1;
     }
     Ok(())
 }
@@ -220,18 +272,22 @@ fn check_image(
 fn check_standing(
     rt: &(impl Threads + Sync),
     judge: &mut Judge,
+    recorded: &Recorded,
     moment: &Moment<'_>,
-) -> Result<(), LookEnd> {
-    let recorded = moment.recorded;
+    when: When,
+) -> Result<(), LookEnd>
+    ensures { OnOk result (IsOpenedAt recorded.now when) }
+{
     let acknowledged = judge.acknowledged();
     let disk = moment.disk()?;
     let before = disk.calls().len();
-    let (mark, disk) = judge.look(rt, recorded, disk, acknowledged)?;
+    let first = Look(when, Which::First);
+    let (mark, disk) = judge.look(rt, recorded, disk, acknowledged, first)?;
     let calls = disk.calls().len().saturating_sub(before);
     let disk = left_by_opening(moment, disk)?;
-    check_answered(rt, judge, moment, &disk, acknowledged.max(mark))?;
+    check_answered(rt, judge, moment, &disk, acknowledged.max(mark), when)?;
     for place in 0..calls {
-        check_cut(rt, judge, moment, place, acknowledged)?;
+        check_cut(rt, judge, moment, place, acknowledged, when)?;
     }
     Ok(())
 }
@@ -243,13 +299,16 @@ fn check_answered(
     moment: &Moment<'_>,
     disk: &MemDisk,
     acknowledged: Stamp,
+    when: When,
 ) -> Result<(), LookEnd> {
     let recorded = moment.recorded;
+    let again = Look(when, Which::Again);
+    let behind = Look(when, Which::BehindStop);
     for image in images_on(moment, disk)? {
-        let (_, disk) = judge.look_again(rt, recorded, moment.disk()?, acknowledged)?;
+        let (_, disk) = judge.look_again(rt, recorded, moment.disk()?, acknowledged, again)?;
         let mut disk = left_by_opening(moment, disk)?;
         stop(&mut disk, &image)?;
-        judge.look(rt, recorded, disk, acknowledged)?;
+        judge.look(rt, recorded, disk, acknowledged, behind)?;
     }
     Ok(())
 }
@@ -261,17 +320,27 @@ fn check_cut(
     moment: &Moment<'_>,
     place: usize,
     acknowledged: Stamp,
+    when: When,
 ) -> Result<(), LookEnd> {
     let recorded = moment.recorded;
-    let disk = judge.look_cut(rt, recorded, moment.disk()?, place)?;
+    let cut = Look(when, Which::Cut);
+    let disk = judge.look_cut(rt, recorded, moment.disk()?, place, cut)?;
     let disk = left_by_opening(moment, disk)?;
     let images = images_on(moment, &disk)?;
-    judge.look(rt, recorded, disk, acknowledged)?;
+    judge.look(
+        rt,
+        recorded,
+        disk,
+        acknowledged,
+        Look(when, Which::BehindCut),
+    )?;
+    let again = Look(when, Which::CutAgain);
+    let behind = Look(when, Which::BehindCutStop);
     for image in images {
-        let disk = judge.look_cut(rt, recorded, moment.disk()?, place)?;
+        let disk = judge.look_cut(rt, recorded, moment.disk()?, place, again)?;
         let mut disk = left_by_opening(moment, disk)?;
         stop(&mut disk, &image)?;
-        judge.look(rt, recorded, disk, acknowledged)?;
+        judge.look(rt, recorded, disk, acknowledged, behind)?;
     }
     Ok(())
 }

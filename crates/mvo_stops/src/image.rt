@@ -1,3 +1,5 @@
+ghost use Rattle.std.specs.Prelude.{◌≢◌, [], IfOk};
+
 use crate::fill::{Fill, Length};
 use crate::loose::Loose;
 use mvo_disk::FileImage;
@@ -40,7 +42,9 @@ impl Image {
 
 /// The images that are tried of these files: each fill and length, those that differ. There is one
 /// at least.
-pub fn images_of(alloc: Global, loose: &[Loose]) -> Result<Vec<Image>, AllocError> {
+pub fn images_of(alloc: Global, loose: &[Loose]) -> Result<Vec<Image>, AllocError>
+    ensures { IfOk result (λ images. images.items ≢ []) }
+{
     let mut images = Vec::new(alloc);
     for fill in Fill::ALL {
         for length in Length::ALL {

@@ -9,8 +9,9 @@ use crate::commit::Commit;
 use crate::counts::Counts;
 use crate::error::StopsError;
 use crate::history::History;
+use crate::look::Look;
 use crate::look_end::LookEnd;
-use crate::opening::{Opened, open};
+use crate::opening::Opened;
 use crate::recorded::Recorded;
 use crate::wrong::Wrong;
 use mvo_disk::MemDisk;
@@ -38,7 +39,7 @@ impl Drop for Judge {
 }
 
 impl Judge {
-    ghost use Rattle.std.specs.Prelude.{◌≡◌, ◌+◌, ℕ, Ok, Err, IfOk, OnOk};
+    ghost use Rattle.std.specs.Prelude.{◌≡◌, ◌≢◌, ◌+◌, ℕ, Some, Ok, Err, IfOk, OnOk};
     ghost use Rattle.mvo_types.specs.Keys.{Map};
     ghost use Rattle.mvo_disk.specs.Record.{file_content};
     ghost use Rattle.mvo_stops.specs.Judging.{Promises, OpensAsPromised};
@@ -77,20 +78,23 @@ impl Judge {
 
     /// Opens the store on what a stop or a fault left, and compares what that answers with what was
     /// promised, where this timestamp was acknowledged. The mark, and the disk behind the opening.
+    /// Where openings are refused at this look, that is wrong.
     pub fn look(
         &mut self,
         rt: &(impl Threads + Sync),
         recorded: &Recorded,
         disk: MemDisk,
         acknowledged: Stamp,
+        look: Look,
     ) -> Result<(Stamp, MemDisk), LookEnd>
         ensures kept { IfOk result (λ x.
             OpensAsPromised self.old recorded.now acknowledged.0 (file_content disk) x.0.0) }
         ensures files { IfOk result (λ x. (n : ℕ) → file_content x.1 n ≡ file_content disk n) }
+        ensures refused { OnOk result (recorded.now.refused ≢ Some look) }
         ensures judges { JudgesImage self.old self.new }
         ensures noted { NotesWrong result self.old self.new }
     {
-        let (opened, disk) = open(rt, recorded.alloc, recorded.seed, disk);
+        let (opened, disk) = recorded.open_at(rt, look, disk);
         match self.judge(recorded, opened, acknowledged) {
             Ok(mark) => Ok((mark, disk)),
             Err(end) => Err(end),
@@ -105,14 +109,16 @@ impl Judge {
         recorded: &Recorded,
         disk: MemDisk,
         acknowledged: Stamp,
+        look: Look,
     ) -> Result<(Stamp, MemDisk), LookEnd>
         ensures kept { IfOk result (λ x.
             OpensAsPromised self.old recorded.now acknowledged.0 (file_content disk) x.0.0) }
         ensures files { IfOk result (λ x. (n : ℕ) → file_content x.1 n ≡ file_content disk n) }
+        ensures refused { OnOk result (recorded.now.refused ≢ Some look) }
         ensures judges { JudgesAgain self.old self.new }
         ensures noted { NotesWrong result self.old self.new }
     {
-        let (opened, disk) = open(rt, recorded.alloc, recorded.seed, disk);
+        let (opened, disk) = recorded.open_at(rt, look, disk);
         match self.judge_again(recorded, opened, acknowledged) {
             Ok(mark) => Ok((mark, disk)),
             Err(end) => Err(end),
@@ -127,16 +133,18 @@ impl Judge {
         recorded: &Recorded,
         disk: MemDisk,
         place: usize,
+        look: Look,
     ) -> Result<MemDisk, LookEnd>
         ensures fault { IfOk result (λ after. after.fault_count ≡ disk.fault_count + 1) }
         ensures files { IfOk result (λ after.
             (n : ℕ) → file_content after n ≡ file_content disk n) }
+        ensures refused { OnOk result (recorded.now.refused ≢ Some look) }
         ensures judges { JudgesAgain self.old self.new }
         ensures noted { NotesWrong result self.old self.new }
     {
         let mut disk = disk;
         disk.fail_at(place as u64);
-        let (opened, disk) = open(rt, recorded.alloc, recorded.seed, disk);
+        let (opened, disk) = recorded.open_at(rt, look, disk);
         match self.judge_cut(opened) {
             Ok(()) => Ok(disk),
             Err(end) => Err(end),
@@ -269,7 +277,7 @@ fn is_cut(opened: Opened) -> Result<(), LookEnd>
 }
 
 /// What is wrong, if that's why no more is looked at.
-fn wrong_in<T>(judged: &Result<T, LookEnd>) -> Option<Wrong>
+pub fn wrong_in<T>(judged: &Result<T, LookEnd>) -> Option<Wrong>
     ensures { result ≡ wrong_in judged.now }
 {
     match judged {

@@ -1,3 +1,6 @@
+ghost use Rattle.std.specs.Prelude.{◌≡◌, ◌≢◌, ◌≤◌, [], length as len_of_list, None, IsSome, IfOk};
+ghost use Rattle.mvo_stops.specs.Looking.{Changes, ChangesAt};
+
 use crate::base::Base;
 use crate::error::StopsError;
 use crate::fill::{Fill, Length};
@@ -49,7 +52,9 @@ impl<'a> Moment<'a> {
         recorded: &'a Recorded,
         base: &'a Base,
         place: usize,
-    ) -> Result<Option<Moment<'a>>, AllocError> {
+    ) -> Result<Option<Moment<'a>>, AllocError>
+        ensures { IfOk result (λ m. ChangesAt recorded.now place → IsSome m) }
+    {
         match recorded.calls().get(place) {
             Some(call) => {
                 let part = part_of(recorded.alloc, call)?;
@@ -68,23 +73,28 @@ impl<'a> Moment<'a> {
         place: usize,
         fill: Fill,
         length: Length,
-    ) -> Result<Option<Moment<'a>>, StopsError> {
+    ) -> Result<Option<Moment<'a>>, StopsError>
+        ensures { fill ≡ Fill.Written → length ≡ Length.Full →
+            IfOk result (λ m. ChangesAt recorded.now place → IsSome m) }
+    {
         let Some(call) = recorded.calls().get(place) else {
             return Ok(None);
         };
         let moment = Moment::before(recorded, base, place);
         let len = moment.len_of(call.file)?;
         let limit = match length {
-            Length::Full => usize::MAX,
+            Length::Full => None,
             Length::Least if is_within(call, len) => return Ok(None),
-            Length::Least => len,
+            Length::Least => Some(len),
         };
         let part = failed_part_of(recorded.alloc, call, fill, limit)?;
         Ok(moment.with(part))
     }
 
     /// The moment at which the next call has done this, if it has.
-    fn with(self, part: Option<Call>) -> Option<Moment<'a>> {
+    fn with(self, part: Option<Call>) -> Option<Moment<'a>>
+        ensures { IsSome part → IsSome result }
+    {
         let Moment {
             recorded,
             base,
@@ -148,7 +158,9 @@ impl<'a> Moment<'a> {
 }
 
 /// A call that changes a file, as far as it goes before its end.
-fn part_of(alloc: Global, call: &Call) -> Result<Option<Call>, AllocError> {
+fn part_of(alloc: Global, call: &Call) -> Result<Option<Call>, AllocError>
+    ensures { IfOk result (λ part. Changes call.now.work → IsSome part) }
+{
     match &call.work {
         DeviceWork::Length | DeviceWork::Read { .. } | DeviceWork::Sync => Ok(None),
         DeviceWork::Write { at, bytes, .. } => {
@@ -168,17 +180,20 @@ fn is_within(call: &Call, len: usize) -> bool {
 }
 
 /// What a call that failed has done: a cut is made, and a write has left some bytes in its range,
-/// up to a length of the file.
+/// up to a length of the file, if there's a limit.
 fn failed_part_of(
     alloc: Global,
     call: &Call,
     fill: Fill,
-    len: usize,
-) -> Result<Option<Call>, AllocError> {
+    limit: Option<usize>,
+) -> Result<Option<Call>, AllocError>
+    ensures { fill ≡ Fill.Written → limit ≡ None →
+        IfOk result (λ part. Changes call.now.work → IsSome part) }
+{
     match &call.work {
         DeviceWork::Length | DeviceWork::Read { .. } | DeviceWork::Sync => Ok(None),
         DeviceWork::Write { at, bytes, .. } => {
-            let count = bytes.len().min(len.saturating_sub(*at));
+            let count = count_below(bytes.len(), *at, limit);
             match left_of(alloc, bytes, fill, count)? {
                 Some(left) => Ok(Some(write(call.file, *at, left))),
                 None => Ok(None),
@@ -191,6 +206,16 @@ fn failed_part_of(
     }
 }
 
+/// How many of so many bytes from a place lie below a limit, if there's one.
+fn count_below(count: usize, at: usize, limit: Option<usize>) -> usize
+    ensures { limit ≡ None → result ≡ count }
+{
+    match limit {
+        Some(len) => count.min(len.saturating_sub(at)),
+        None => count,
+    }
+}
+
 /// What a write that failed has left of its first bytes. None where that is nothing, or what
 /// another fill leaves.
 fn left_of(
@@ -198,7 +223,10 @@ fn left_of(
     bytes: &[u8],
     fill: Fill,
     count: usize,
-) -> Result<Option<Vec<u8>>, AllocError> {
+) -> Result<Option<Vec<u8>>, AllocError>
+    ensures { fill ≡ Fill.Written → bytes.now ≢ [] → len_of_list bytes.now ≤ count →
+        IfOk result (λ left. IsSome left) }
+{
     let mut left = Vec::with_capacity(alloc, count)?;
     let mut differs = fill == Fill::Written;
     for byte in bytes.iter().take(count) {

@@ -1,11 +1,12 @@
 use crate::error::StopsError;
-use crate::opening::open;
+use crate::look::Look;
+use crate::opening::{Opened, open};
 use crate::replay::make;
 use crate::run::{Ran, driver_over, run_lines};
 use crate::script_start::ScriptStart;
 use mvo_disk::{Call, DeviceWork, MemDisk};
 use mvo_script::Driver;
-use mvo_types::Row;
+use mvo_types::{Refusal, Row};
 use std::alloc::{AllocError, Global};
 use std::thread::Threads;
 
@@ -27,6 +28,8 @@ pub struct Recorded {
     openings_forget: bool,
     /// Whether calls are made behind one that failed as if it hadn't.
     faults_forgotten: bool,
+    /// The openings that are refused, whatever the disk holds.
+    refused: Option<Look>,
 }
 
 impl Drop for Recorded {
@@ -42,13 +45,18 @@ impl Drop for Recorded {
             forgotten: _,
             openings_forget: _,
             faults_forgotten: _,
+            refused: _,
         } = self;
     }
 }
 
 impl Recorded {
-    ghost use Rattle.std.specs.Prelude.{◌≡◌, true};
+    ghost use Rattle.std.specs.Prelude.{◌≡◌, ◌≢◌, ◌⊎◌, ◌↔◌, ◌+◌, ℕ, [], true, IsTrue};
+    ghost use Rattle.std.specs.Prelude.{Some, Ok, Err, IfOk, IfErr};
+    ghost use Rattle.mvo_disk.specs.Record.{file_content};
+    ghost use Rattle.mvo_store.specs.Opening.{IsAnswer, IsNotOfFiles};
     ghost use Rattle.mvo_stops.specs.Calls.{calls_in};
+    ghost use Rattle.mvo_stops.specs.Looking.{RunsPastFault};
 
     /// Runs the lines over what the disk holds as they begin. No line need be a good one.
     pub fn of(
@@ -71,6 +79,7 @@ impl Recorded {
             forgotten: Vec::new(alloc),
             openings_forget: false,
             faults_forgotten: false,
+            refused: None,
         })
     }
 
@@ -115,11 +124,53 @@ impl Recorded {
         self.faults_forgotten = true;
     }
 
-    /// Leaves no sync out any more, and no fault.
+    /// Has each opening refused that is made at such a look: what is looked at from here on is what
+    /// a store leaves that can't be opened then. `explain_call` opens it all the same.
+    pub fn refuse(&mut self, look: Look)
+        ensures { self.new ≡ record self.old { refused = Some look } }
+    {
+        self.refused = Some(look);
+    }
+
+    /// Leaves no sync out any more, and no fault, and refuses no opening.
     pub fn forget_none(&mut self) {
         self.forgotten.clear();
         self.openings_forget = false;
         self.faults_forgotten = false;
+        self.refused = None;
+    }
+
+    /// Whether the openings of such a look are refused.
+    fn is_refused(&self, look: Look) -> bool
+        ensures { IsTrue result ↔ (self.now.refused ≡ Some look) }
+    {
+        match self.refused {
+            Some(refused) => refused == look,
+            None => false,
+        }
+    }
+
+    /// Opens the store on a disk, as `open` does, unless that is refused at such a look.
+    pub(crate) fn open_at(
+        &self,
+        rt: &(impl Threads + Sync),
+        look: Look,
+        disk: MemDisk,
+    ) -> (Opened, MemDisk)
+        ensures answer { IfOk result.0 (λ o. IsAnswer (file_content disk) (Ok (o.0, o.1.0))) }
+        ensures refused { self.now.refused ≢ Some look → IfErr result.0 (λ e.
+            IsNotOfFiles e ⊎ IsAnswer (file_content disk) (Err e)) }
+        ensures denied { self.now.refused ≡ Some look → result.0 ≡ Err Refusal.NotFormatted }
+        ensures fault { result.0 ≡ Err Refusal.DiskFault →
+            result.1.fault_count ≡ disk.fault_count + 1 }
+        ensures content { (n : ℕ) → file_content result.1 n ≡ file_content disk n }
+    {
+        let (opened, disk) = open(rt, self.alloc, self.seed, disk);
+        if self.is_refused(look) {
+            (Err(Refusal::NotFormatted), disk)
+        } else {
+            (opened, disk)
+        }
     }
 
     /// Whether the syncs of openings are left out.
@@ -136,7 +187,9 @@ impl Recorded {
 
     /// The calls behind the one at this place, from 0, that a run makes in which that one fails, by
     /// the disk that the run left.
-    pub(crate) fn rest_of<'a>(&'a self, left: &'a MemDisk, place: usize) -> &'a [Call] {
+    pub(crate) fn rest_of<'a>(&'a self, left: &'a MemDisk, place: usize) -> &'a [Call]
+        ensures { RunsPastFault self.now place → result.now ≢ [] }
+    {
         let rest = if self.faults_forgotten {
             self.calls().get(place.saturating_add(1)..)
         } else {

@@ -7,4 +7,4 @@ use Rattle.mvo_stops.proofs.judge.Judge.look.Goals as goal
 pub returns-in-Ok-clause-kept : goal.returns-in-Ok-clause-kept
 returns-in-Ok-clause-kept g c =
     let p = c.in-Ok.ensures.promised in
-    (p.0, subst (λ o. IfOk o (λ x. IsAnswer (file_content c.args.disk) (Ok (x.0, x.1.0)))) p.1 c.open-opened.ensures.answer, p.2)
+    (p.0, subst (λ o. IfOk o (λ x. IsAnswer (file_content c.args.disk) (Ok (x.0, x.1.0)))) p.1 c.open_at-opened.ensures.answer, p.2)
