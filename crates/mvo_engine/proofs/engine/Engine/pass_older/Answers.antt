@@ -23,14 +23,14 @@ returns-in_default g c =
 pub loop-preserved : goal.loop-preserved
 loop-preserved g c =
     let before = c.loop.invariant in
-    let t = c.in-Some.tx.0 in
+    let t = c.in-Some-next.tx.0 in
     let one : HasGivenWay g.L.Run.opening c.args.stamp.0 t = record {
       old = c.deref_mut.result.now;
       new = c.roll_back_next-next.new.core;
       sound = c.roll_back_next-next.ensures.sound;
       from = c.loop.from.0;
-      next = c.in-Some.ensures.next;
-      rolled_back = c.in-Some.ensures.rolled_back;
+      next = c.in-Some-next.ensures.next;
+      rolled_back = c.in-Some-next.ensures.rolled_back;
       finished = c.finish.ensures;
     } in (
       before.0 ++ t ∷ [],

@@ -4,10 +4,10 @@ use Rattle.mvo_engine.specs.RollingBack.{HasGivenWay}
 use Rattle.mvo_engine.proofs.RollingBack.{more_count}
 use Rattle.mvo_engine.proofs.engine.Engine.roll_back_older.Goals as goal
 
-pub returns-then-gone-eq-0 : goal.returns-then-gone-eq-0
-returns-then-gone-eq-0 g c =
+pub returns-then-gone-eq0 : goal.returns-then-gone-eq0
+returns-then-gone-eq0 g c =
     let before = c.loop.invariant in
-    record { ids = before.0; each = before.1; none = c.pass_older-gone.ensures.none c.if-gone-eq-0.true; count = before.2 }
+    record { ids = before.0; each = before.1; none = c.pass_older-gone.ensures.none c.if-gone-eq0.true; count = before.2 }
 
 pub loop-preserved : goal.loop-preserved
 loop-preserved g c =
