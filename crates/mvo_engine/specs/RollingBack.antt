@@ -1,5 +1,5 @@
 -- What rolling back old transactions comes to.
-use Rattle.std.specs.Prelude.{◌≡◌, ◌-◌, ◌^◌, ℕ, min, List, length, Option, None, Some, Ok, Unit}
+use Rattle.std.specs.Prelude.{◌≡◌, ◌-◌, ◌^◌, ℕ, min, List, length, Option, None, Some, Ok}
 use Rattle.std.specs.List.{AllByRecursion}
 use Rattle.mvo_types.specs.declared.ids.TxId.{TxId}
 use Rattle.mvo_theory.specs.Calls.Call.{Rollback}

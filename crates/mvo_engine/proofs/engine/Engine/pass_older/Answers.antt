@@ -23,7 +23,7 @@ returns-in_default g c =
 pub loop-preserved : goal.loop-preserved
 loop-preserved g c =
     let before = c.loop.invariant in
-    let t = c.in-Some.tx.0 in
+    let t = c.in-Some.field-0.0 in
     let one : HasGivenWay g.L.Run.opening c.args.stamp.0 t = record {
       old = c.deref_mut.result.now;
       new = c.roll_back_next-next.new.core;
