@@ -24,6 +24,8 @@ use Rattle.mvo_store.proofs.Marked.{same_answer}
 use Rattle.mvo_world.specs.WorldData.{WorldData, waiting}
 use Rattle.mvo_world.specs.Promise.{IsOpenedOver}
 use Rattle.mvo_engine.specs.run.Opening.{Opening, opening_of}
+use Rattle.mvo_engine.specs.run.Watching.{Watched}
+use Rattle.mvo_engine.specs.Booked.{IsBooked}
 use Rattle.mvo_engine.specs.Opening.{GivesJust}
 use Rattle.mvo_engine.specs.Sound.{IsSoundCore, IsSoundStore, last_mark}
 use Rattle.mvo_engine.specs.Opened.{HasOpened, opening_groups}
@@ -96,6 +98,17 @@ module _ {D : Type 0} (d : Ghosts D) {o : Opening} {c : CoreData} {s : StoreData
     closed = record { drawn = omega arith; above = tt };
     groups = subst (HaveRecordsOf (opened h.rows (mark_of s)) 0) (sym is) (opened_of h.rows (mark_of s) h.stamp (mark_of s == 0) refl);
     last = ap last_mark is ∙ opened_mark (mark_of s) (mark_of s == 0) refl ∙ ap (λ (m : Marks). m.closed) h.core.marks;
+  }
+
+  -- nothing is stored, so the book counts nothing
+  pub booked : (w : Watched) (total : ℕ) → total ≡ 0 → IsBooked w c total
+  booked w total none = record {
+    rows = h.rows;
+    steps = [];
+    own = [];
+    whole = opened_whole h.rows (mark_of s);
+    stands = record { core = h.core; kept = whole_opened h.rows (mark_of s) };
+    counted = λ low. none;
   }
 
   pub sound_store : (received : List GroupData) → received ≡ opening_groups (mark_of s) → IsSoundStore d o s received

@@ -23,7 +23,7 @@ use Rattle.mvo_readonly.specs.WholeCalls.{core_at_stage, core_calls, unless_awai
 use Rattle.mvo_readonly.proofs.CoreRuns.{may_core}
 use Rattle.mvo_readonly.proofs.ReaderCalls.{in_core}
 use Rattle.mvo_readonly.proofs.Stages.{may_settle, found_active}
-use Rattle.mvo_tale.specs.Records.{fits}
+use Rattle.mvo_core.specs.Records.{fits}
 use Rattle.mvo_core.specs.declared.answers.Closed as closing
 use Rattle.mvo_core.specs.declared.answers.Settlement.{Settlement}
 use Rattle.mvo_core.specs.declared.answers.Settlement.TheVariants.{Committed, Waiting}

@@ -18,7 +18,7 @@ use Rattle.mvo_readonly.specs.WholeCalls.{core_calls, steps_of_whole_call, after
 use Rattle.mvo_readonly.specs.WholeKept.{IsCommittedReader}
 use Rattle.mvo_readonly.proofs.CoreRuns.{may_core, stays_after_whole_run}
 use Rattle.mvo_readonly.proofs.Serials.{whole_is_serial}
-use Rattle.mvo_tale.specs.Records.{fits}
+use Rattle.mvo_core.specs.Records.{fits}
 use Rattle.mvo_core.specs.declared.answers.Closed as closing
 use Rattle.mvo_core.specs.Data.{CoreData}
 use Rattle.mvo_core.specs.Seen.{clock_of, closed_mark_of}

@@ -1,5 +1,6 @@
 pub mod Rings
 pub mod CoreSound
+mod Collecting
 pub mod StoreSound
 mod Called
 mod Jobs

@@ -20,8 +20,19 @@ may_be_undone (Some Aborted) kind e = absurd (false≢true e)
 pub none_after : (s : SessionState) → s.tx ≡ None → s ≡ record s { tx = None }
 none_after s e = ap (λ (o : Option ℕ). record s { tx = o }) e
 
+-- ---- how many
 -- one more
 pub one_more_counts : (all r t : ℕ) (ids : List ℕ) → all ≡ min (length ids) (2 ^ 64 - 1) → r ≡ min (all + 1) (2 ^ 64 - 1) → r ≡ min (length (ids ++ t ∷ [])) (2 ^ 64 - 1)
 one_more_counts all r t ids a b =
     let more : length (ids ++ t ∷ []) ≡ length ids + 1 = length-append ids (t ∷ []) in
     omega (arith, a, b, more)
+
+-- so many more
+pub more_count : (all n r : ℕ) (ids more : List ℕ) → all ≡ min (length ids) (2 ^ 64 - 1) → n ≡ min (length more) (2 ^ 64 - 1) → r ≡ min (all + n) (2 ^ 64 - 1) → r ≡ min (length (ids ++ more)) (2 ^ 64 - 1)
+more_count all n r ids more a b e =
+    let both : length (ids ++ more) ≡ length ids + length more = length-append ids more in
+    omega (arith, a, b, e, both)
+
+-- one more isn't none
+pub more_than_none : (all r : ℕ) → r ≡ min (all + 1) (2 ^ 64 - 1) → r ≡ 0 → ⊥
+more_than_none all r e z = omega (arith, e, z)

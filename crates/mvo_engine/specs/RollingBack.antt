@@ -1,5 +1,5 @@
 -- What rolling back old transactions comes to.
-use Rattle.std.specs.Prelude.{◌≡◌, ◌-◌, ◌^◌, ℕ, min, List, length, Option, None, Some, Ok, Unit}
+use Rattle.std.specs.Prelude.{◌≡◌, ◌-◌, ◌^◌, ℕ, min, List, length, Option, None, Some, Ok}
 use Rattle.std.specs.List.{AllByRecursion}
 use Rattle.mvo_types.specs.declared.ids.TxId.{TxId}
 use Rattle.mvo_theory.specs.Calls.Call.{Rollback}
@@ -32,8 +32,15 @@ pub record NoneWasOlder (o : Opening) (below : ℕ) : Type 0 where
   pub sound : IsSoundCore o state.core state.sends.sent
   pub none : IsNextActive state.core.table 0 below None
 
--- So each of these transactions was rolled back, one after another, until none was left. The answer
--- is how many they were, as far as a number says it.
+-- A pass over them: so many gave way, one after another; and if none did, none was left.
+pub record IsPassOver (o : Opening) (below all : ℕ) : Type 0 where
+  pub ids : List ℕ
+  pub each : AllByRecursion (HasGivenWay o below) ids
+  pub count : all ≡ min (length ids) (2 ^ 64 - 1)
+  pub none : all ≡ 0 → NoneWasOlder o below
+
+-- Each of these transactions gave way, one after another, until none was left. The answer is how
+-- many they were, as far as a number says it.
 pub record HaveGivenWay (o : Opening) (below all : ℕ) : Type 0 where
   pub ids : List ℕ
   pub each : AllByRecursion (HasGivenWay o below) ids

@@ -16,7 +16,7 @@ use std::sync::Wait;
 use std::thread;
 
 impl<L: Run, D: Disk, G: Gate + Drop> Engine<L, D, G> {
-    ghost use Rattle.mvo_engine.specs.RollingBack.{HaveGivenWay};
+    ghost use Rattle.mvo_engine.specs.RollingBack.{HaveGivenWay, IsPassOver};
 
     /// Rolls back and finishes each Active transaction that began before the stamp, and answers how
     /// many they were: those of sessions that were left open, or dropped inside one. A read-only
@@ -31,19 +31,30 @@ impl<L: Run, D: Disk, G: Gate + Drop> Engine<L, D, G> {
         ensures { HaveGivenWay L.opening stamp.0 result }
     {
         let mut all = 0u64;
+        for _ in rt.forever() {
+            let gone = self.pass_older(rt, stamp);
+            if gone == 0 {
+                return all;
+            }
+            all = all.saturating_add(gone);
+        }
+        unreachable!()
+    }
+
+    // Does so with those that are there, in the order of their begins, each looked at once.
+    fn pass_older<R: Wait>(&self, rt: &R, stamp: Stamp) -> u64
+        ensures { IsPassOver L.opening stamp.0 result }
+    {
+        let mut all = 0u64;
         let mut from = Stamp(0);
         for _ in rt.forever() {
             let next = roll_back_next(&mut self.enter_core(rt), from, stamp);
-            match next {
-                Some(tx) => {
-                    self.finish(rt, tx);
-                    all = all.saturating_add(1);
-                    from = behind(tx);
-                }
-                None if from.0 == 0 => return all,
-                // The last look is at all of them.
-                None => from = Stamp(0),
-            }
+            let Some(tx) = next else {
+                return all;
+            };
+            self.finish(rt, tx);
+            all = all.saturating_add(1);
+            from = behind(tx);
         }
         unreachable!()
     }

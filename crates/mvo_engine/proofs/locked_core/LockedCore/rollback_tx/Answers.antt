@@ -14,3 +14,6 @@ returns-clause-sound g c = rw (← c.self.view_is) c.self.invariant.0
 
 pub returns-clause-err : goal.returns-clause-err
 returns-clause-err g c = rollback_err (record { core = c.self.inside.core; sends = c.self.inside.sends; made = c.self.inside.made }) c.args.tx.0 c.rollback_tx.result c.rollback_tx.new.self c.self.invariant.0 c.rollback_tx.ensures.whole
+
+pub returns-clause-cause : goal.returns-clause-cause
+returns-clause-cause g c = rw (← c.self.view_is) c.rollback_tx.ensures.cause

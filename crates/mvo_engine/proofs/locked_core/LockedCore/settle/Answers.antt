@@ -1,4 +1,4 @@
-use Rattle.std.proofs.Common.{◌+◌, ℕ, Bool, true, Ok, inl, refl, sym, ap, ◌∙◌, subst}
+use Rattle.std.proofs.Common.{◌+◌, ℕ, Bool, true, false, Ok, inl, inr, refl, sym, ap, ◌∙◌, subst}
 use Rattle.mvo_model.specs.History.{History}
 use Rattle.mvo_theory.specs.Told.{history_told}
 use Rattle.mvo_theory.specs.Calls.Call.{Settle}
@@ -98,3 +98,10 @@ returns-in-Ok-Committed-clause-answer g c =
 pub returns-in-Ok-Waiting-clause-answer : goal.returns-in-Ok-Waiting-clause-answer
 returns-in-Ok-Waiting-clause-answer g c =
     rw (← c.self.view_is) (subst (λ (a : Settlement). IsSettlementWhole c.self.inside.core c.args.tx.0 a) c.in-Ok-Waiting.field-0-is c.in-Ok-Waiting.ensures.whole_answer)
+
+pub returns-then-not-holds-clause-step : goal.returns-then-not-holds-clause-step
+returns-then-not-holds-clause-step g c =
+    let old = c.self.inside.core in
+    let was : HoldsJustWhole old c.args.tx.0 (history_told c.operations.result.now) false = subst (λ (b : Bool). HoldsJustWhole old c.args.tx.0 (history_told c.operations.result.now) b) c.if-not-holds.true c.holds.ensures.whole in
+    let told : HoldsJustWhole old c.args.tx.0 c.args.told.now false = subst (λ (h : History). HoldsJustWhole old c.args.tx.0 h false) c.operations.ensures was in
+    rw (← c.self.view_is) (inr (told, refl, refl))
