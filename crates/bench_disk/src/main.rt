@@ -10,8 +10,7 @@
 //! to be given.
 //!
 //! With `sessions N COMMITS FOLDER`: the durable commits a second of N sessions of an engine, each
-//! of which commits so many small transactions one after another and waits until each is durable,
-//! while one more thread flushes.
+//! of which commits so many small transactions one after another and makes each durable.
 #![tactic(auto)]
 
 mod folder;
