@@ -23,7 +23,8 @@ const LEFT_OPEN: [Line; 21] = [
     (Other(Update(2)), Updated),
     (One(Begin), Number(4)),
     (One(Read), Byte(Some(1))),
-    (Flush, Number(2)),
+    // Its mark is the clock: nothing is Preparing.
+    (Flush, Number(4)),
     (Core(Trim(4)), NOTHING_TO_DO),
     (RollBackOlder(3), Number(0)),
     (Other(Read), Byte(Some(2))),
@@ -62,7 +63,7 @@ const LEFT: [Line; 2] = [(Other(Begin), Number(12)), (Other(Update(4)), Updated)
 const DROPPED: [Line; 10] = [
     (One(Begin), Number(13)),
     (One(Rollback), Done),
-    (Flush, Number(10)),
+    (Flush, Number(13)),
     (Core(Trim(13)), NOTHING_TO_DO),
     (RollBackOlder(13), Number(1)),
     (Core(Trim(13)), Done),
