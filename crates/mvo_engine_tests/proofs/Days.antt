@@ -19,7 +19,7 @@ day_is w c receipts opening steps own whole stands stored booked =
     let is = stored opening steps own whole stands in
     let other = stored booked.rows booked.steps booked.own booked.whole booked.stands in
     let start : booked.whole.core.start ≡ whole.core.start = booked.stands.core.start ∙ sym stands.core.start in
-    let one : count_of w (stored_receipts booked.whole) ≡ count_of w (stored_above booked.whole.core.start c.tale) = sum_by-IsPermutation w.weigh (stored_receipts booked.whole) (stored_above booked.whole.core.start c.tale) other.told in
+    let one : count_of w (stored_receipts booked.whole) ≡ count_of w (stored_above booked.whole.core.start c.tale) = sym (sum_by-IsPermutation w.weigh (stored_receipts booked.whole) (stored_above booked.whole.core.start c.tale) other.told) in
     let two : count_of w (stored_above booked.whole.core.start c.tale) ≡ count_of w (stored_above whole.core.start c.tale) = ap (λ (n : ℕ). count_of w (stored_above n c.tale)) start in
     let same : count_of w (stored_receipts booked.whole) ≡ count_of w (stored_above whole.core.start c.tale) = one ∙ two in
     record {
