@@ -5,4 +5,3 @@ mod forgotten;
 mod longer;
 mod looked_at;
 mod random;
-mod read_only;
