@@ -116,6 +116,13 @@ impl Core {
         self.table.clock()
     }
 
+    /// The mark of the group that was closed last, or the opening mark.
+    pub fn closed_mark(&self) -> Stamp
+        ensures { result.0 ≡ self.now.closed }
+    {
+        self.closed
+    }
+
     /// Begins a transaction. Its id is its begin timestamp. Refused: TableFull, ClockSpent,
     /// OutOfMemory.
     pub fn begin_tx(&mut self) -> Result<TxId, Refusal>

@@ -9,7 +9,24 @@ use mvo_txn::{Located, TableSeat, TxState};
 use mvo_types::{Stamp, TxId};
 
 impl Core {
+    ghost use Rattle.std.specs.Prelude.{◌≡◌};
+    ghost use Rattle.std.specs.FinMap as map;
+    ghost use Rattle.mvo_txn.specs.Next.{IsNextBegin};
     ghost use Rattle.mvo_core.specs.Unfinished.{IsNextActive, IsNextActiveWhole};
+
+    /// How many transactions aren't finished.
+    pub fn unfinished_count(&self) -> usize
+        ensures { result ≡ map.len self.now.table.seats }
+    {
+        self.table.len()
+    }
+
+    /// The unfinished transaction with the least begin, if there is one.
+    pub fn oldest_unfinished(&self) -> Option<TxId>
+        ensures { IsNextBegin self.now.table 0 result }
+    {
+        self.table.next_begin(Stamp(0))
+    }
 
     /// The Active transaction with the least begin from `from` on and below `below`, if there is
     /// one; a read-only one that reads is Active, too. It takes no memory. Whoever asks again from

@@ -114,6 +114,15 @@ first_due step (j ∷ js) = if is_step_of step j then Some j else first_due step
 abbrev pub job_due : Due → Jobs → Option Job
 job_due step jobs = first_due step (jobs_of jobs)
 
+-- the next step of the first of these
+abbrev pub first_step : List Job → Option Due
+first_step [] = None
+first_step (j ∷ js) = Some (step_due j)
+
+-- a step that may be made: with a checkpoint beside a merge it is that of the checkpoint
+abbrev pub next_due : Jobs → Option Due
+next_due jobs = first_step (jobs_of jobs)
+
 -- this step of a job that runs is the next
 abbrev pub is_step_due : Due → Jobs → Bool
 is_step_due step jobs = is_some (job_due step jobs)

@@ -1,3 +1,4 @@
+use crate::jobs::due::Due;
 use crate::jobs::jobs::Jobs;
 use mvo_disk::Disk;
 use mvo_frame::Segment;
@@ -71,6 +72,7 @@ impl<D: Disk> Model for Store<D> {
 
 impl<D: Disk> Store<D> {
     ghost use Rattle.std.specs.Prelude.{◌≡◌, None, Ok, IfErr};
+    ghost use Rattle.mvo_store.specs.Jobs.{next_due};
     ghost use Rattle.mvo_store.specs.Causes.{has_group, why_not_take};
     ghost use Rattle.mvo_store.specs.Calls.StoreStep.{Take};
     ghost use Rattle.mvo_store.specs.Calls.{IsStoreStep, without_group};
@@ -108,8 +110,24 @@ impl<D: Disk> Store<D> {
         &self.manifest
     }
 
-    // Whether a group is being appended.
-    fn has_group(&self) -> bool
+    /// Where the closed gate of the last segment stands: how many bytes it has before it, its
+    /// header among them.
+    pub fn last_gate(&self) -> usize
+        ensures { result ≡ self.now.segment.gate }
+    {
+        self.segment.gate
+    }
+
+    /// The next step of a job that runs. Of a checkpoint and a merge beside one another it is that
+    /// of the checkpoint, since the last file of a merge waits for it.
+    pub fn next_step(&self) -> Option<Due>
+        ensures { result ≡ next_due self.now.jobs }
+    {
+        self.jobs.next_step()
+    }
+
+    /// Whether a group is being appended.
+    pub fn has_group(&self) -> bool
         ensures { result ≡ has_group self.now }
     {
         self.pending.is_some()

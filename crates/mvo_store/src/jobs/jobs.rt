@@ -5,7 +5,7 @@ ghost use Rattle.mvo_store.specs.Jobs.{no_jobs, keeps_all_out, keeps_checkpoint_
 ghost use Rattle.mvo_store.specs.Jobs.{keeps_merge_out, has_checkpoint, has_rotation};
 ghost use Rattle.mvo_store.specs.Jobs.{due_of, merge_due_of, is_step_due, job_takes_file, takes_file};
 ghost use Rattle.mvo_store.specs.Jobs.{checkpoint_pair, merge_pair, progress_at, progress_of};
-ghost use Rattle.mvo_store.specs.Jobs.{checkpoint_alone, merge_alone, first_due};
+ghost use Rattle.mvo_store.specs.Jobs.{checkpoint_alone, merge_alone, first_due, next_due};
 
 use crate::checkpoint::checkpointing::Checkpointing;
 use crate::checkpoint::stage::CheckpointStage;
@@ -164,6 +164,19 @@ impl Jobs {
             Jobs::Beside(checkpoint, merge) => {
                 checkpoint_is_due(step, checkpoint) || merge_is_due(step, merge)
             }
+        }
+    }
+
+    /// The next step of the first of them.
+    pub fn next_step(&self) -> Option<Due>
+        ensures { result ≡ next_due self.now }
+    {
+        match self {
+            Jobs::Rotation(_, install) => Some(Due::Install(install.step)),
+            Jobs::Merge(_, install) => Some(Due::Install(install.step)),
+            Jobs::Beside(Some(checkpoint), _) => Some(due_of(checkpoint.stage)),
+            Jobs::Beside(None, Some(merge)) => Some(merge_due_of(merge.stage)),
+            Jobs::Beside(None, None) => None,
         }
     }
 
