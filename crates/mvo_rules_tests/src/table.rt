@@ -47,6 +47,21 @@ fn plain_oldest(list: &Vec<Plain>, clock: u64) -> u64 {
     oldest
 }
 
+/// The least begin from this one on.
+fn plain_next(list: &Vec<Plain>, from: u64) -> Option<TxId> {
+    let mut next = None;
+    for plain in list {
+        let is_less = match next {
+            Some(TxId(id)) => plain.id.0 < id,
+            None => true,
+        };
+        if plain.id.0 >= from && is_less {
+            next = Some(plain.id);
+        }
+    }
+    next
+}
+
 fn plain_low_water(list: &Vec<Plain>, clock: u64) -> u64 {
     let mut least = clock.saturating_add(1);
     for plain in list {
@@ -63,6 +78,9 @@ fn compare(rt: &impl Abort, table: &TxnTable<u64>, list: &Vec<Plain>, clock: u64
     same(rt, &table.len(), &list.len());
     same(rt, &table.oldest_begin(), &Stamp(plain_oldest(list, clock)));
     same(rt, &table.low_water(), &Stamp(plain_low_water(list, clock)));
+    for from in [0, plain.id.0, plain.id.0.saturating_add(1)] {
+        same(rt, &table.next_begin(Stamp(from)), &plain_next(list, from));
+    }
     same(rt, &table.state(plain.id), &Some(plain.state));
     let tx = Located {
         id: plain.id,
