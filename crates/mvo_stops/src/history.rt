@@ -10,11 +10,13 @@ use std::alloc::{AllocError, Global};
 use std::collections::BTreeMap;
 use std::mem;
 
-/// A transaction by its name: what it has changed, and its end once it is Committed.
+/// A transaction by its name: what it has changed, its end once it is Committed, which is its begin
+/// if it is read-only, and whether it is.
 #[derive(Drop)]
 struct Named {
     ops: Vec<Op>,
     end: Option<Stamp>,
+    is_read_only: bool,
 }
 
 /// What the replies so far say.
@@ -71,15 +73,6 @@ fn name_of<'a>(line: Line<'a>) -> Option<&'a str> {
     }
 }
 
-/// Whether a line may draw a timestamp, and then one. The end of a read-only transaction is its
-/// begin, so that its precommit and its commit draw none: the clock is a bound.
-fn may_draw(line: Line<'_>) -> bool {
-    matches!(
-        line,
-        Line::Begin(_) | Line::BeginReadOnly(_) | Line::Precommit(_) | Line::Commit(_)
-    )
-}
-
 impl History {
     ghost use Rattle.std.specs.Prelude.{◌≡◌};
 
@@ -124,11 +117,12 @@ impl History {
     }
 
     fn note_line(&mut self, line: Line<'_>, reply: &Reply) -> Result<(), AllocError> {
-        if may_draw(line) {
+        if self.may_draw(line) {
             self.clock = Stamp(self.clock.0.saturating_add(1));
         }
         match (line, reply) {
-            (Line::Begin(name) | Line::BeginReadOnly(name), Reply::Began(_)) => self.begin(name),
+            (Line::Begin(name), Reply::Began(_)) => self.begin(name, false),
+            (Line::BeginReadOnly(name), Reply::Began(_)) => self.begin(name, true),
             (_, Reply::Durable(mark)) => {
                 self.acknowledge(*mark);
                 Ok(())
@@ -137,6 +131,24 @@ impl History {
                 Some(name) => self.note_named(name, line, reply),
                 None => Ok(()),
             },
+        }
+    }
+
+    /// Whether a line draws a timestamp, one at most. The end of a read-only transaction is its
+    /// begin, so none is drawn for it.
+    fn may_draw(&self, line: Line<'_>) -> bool {
+        match line {
+            Line::Begin(_) | Line::BeginReadOnly(_) => true,
+            Line::Precommit(name) | Line::Commit(name) => !self.is_read_only(name),
+            _ => false,
+        }
+    }
+
+    /// Whether the transaction with this name is read-only.
+    fn is_read_only(&self, name: &str) -> bool {
+        match self.named.get(name) {
+            Some(named) => named.is_read_only,
+            None => false,
         }
     }
 
@@ -172,11 +184,12 @@ impl History {
     }
 
     /// A transaction begins.
-    fn begin(&mut self, name: &str) -> Result<(), AllocError> {
+    fn begin(&mut self, name: &str, is_read_only: bool) -> Result<(), AllocError> {
         let name = String::from_str(self.alloc, name)?;
         let named = Named {
             ops: Vec::new(self.alloc),
             end: None,
+            is_read_only,
         };
         self.named.insert(name, named)?;
         Ok(())
@@ -190,12 +203,16 @@ impl History {
         Ok(())
     }
 
-    /// A transaction is Committed.
+    /// A transaction is Committed. A read-only one has changed nothing, so what is left has the
+    /// same rows with it and without it.
     fn commit(&mut self, name: &str, end: Stamp) -> Result<(), AllocError> {
         let Some(named) = self.named.get_mut(name) else {
             return Ok(());
         };
         named.end = Some(end);
+        if named.is_read_only {
+            return Ok(());
+        }
         let ops = mem::replace(&mut named.ops, Vec::new(self.alloc));
         let at = place_of(&self.commits, end);
         self.commits.insert(at, Commit { end, ops })?;
