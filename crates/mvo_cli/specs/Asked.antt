@@ -75,7 +75,9 @@ commands =
     let runs = with_subcommand formats (with_folder (codes "run") false).top in
     let rows = with_subcommand runs rows_command.top in
     let checks = with_subcommand rows (with_folder (codes "check") true).top in
-    let works = with_subcommand checks work_command.top in
+    let stats = with_subcommand checks (with_folder (codes "stats") true).top in
+    let keeps = with_subcommand stats (with_folder (codes "keep") true).top in
+    let works = with_subcommand keeps work_command.top in
     with_subcommand works stops_command.top
 
 -- the words ask for the task

@@ -44,6 +44,8 @@ IsTask name rows (task.RunIn folder) = (name ≡ codes "run") × HasFolder rows 
 IsTask name rows (task.Rows folder table) =
     (name ≡ codes "rows") × HasFolder rows folder.now × HasTable rows table
 IsTask name rows (task.Check folder) = (name ≡ codes "check") × HasFolder rows folder.now
+IsTask name rows (task.Stats folder) = (name ≡ codes "stats") × HasFolder rows folder.now
+IsTask name rows (task.Keep folder) = (name ≡ codes "keep") × HasFolder rows folder.now
 IsTask name rows (task.Work t) =
     (name ≡ codes "work") × HasFolder rows t.folder.now × HasWorkers rows t.workers.count
     × HasFiles rows (map (λ f. f.now) t.files.items) × (0 < vec_len t.files)

@@ -192,6 +192,21 @@ fn command_line<'a>(alloc: Global) -> Result<Command<'a>, AllocError>
         "Opens the store in a folder and counts",
         true,
     )?;
+    let mvo = add_command(
+        mvo,
+        alloc,
+        "stats",
+        "Tells what the store in a folder has, file by file",
+        true,
+    )?;
+    let mvo = add_command(
+        mvo,
+        alloc,
+        "keep",
+        "Brings the log of the store in a folder into pairs, merges these, empties files that are \
+         no longer used, and counts",
+        true,
+    )?;
     let mvo = add_work(mvo, alloc)?;
     add_stops(mvo, alloc)
 }
