@@ -68,16 +68,20 @@ no_command = record {
   subs = [];
 }
 
+-- with the commands that look at a store, and keep it
+abbrev pub with_looks : App → App
+with_looks app =
+    let checks = with_subcommand app (with_folder (codes "check") true).top in
+    let stats = with_subcommand checks (with_folder (codes "stats") true).top in
+    with_subcommand stats (with_folder (codes "keep") true).top
+
 -- the program's commands
 abbrev pub commands : App
 commands =
     let formats = with_subcommand no_command (with_folder (codes "format") true).top in
     let runs = with_subcommand formats (with_folder (codes "run") false).top in
     let rows = with_subcommand runs rows_command.top in
-    let checks = with_subcommand rows (with_folder (codes "check") true).top in
-    let stats = with_subcommand checks (with_folder (codes "stats") true).top in
-    let keeps = with_subcommand stats (with_folder (codes "keep") true).top in
-    let works = with_subcommand keeps work_command.top in
+    let works = with_subcommand (with_looks rows) work_command.top in
     with_subcommand works stops_command.top
 
 -- the words ask for the task

@@ -1,5 +1,5 @@
-//! Brings the files of a store to rest: its log into pairs, pairs together, and no bytes that nobody
-//! needs.
+//! Brings the files of a store to rest: its log into pairs, pairs together, and no bytes that
+//! nobody needs.
 use crate::fault::Fault;
 use crate::folder::{Holdings, held_of, open_disk};
 use crate::seed::draw_seed;
