@@ -1,8 +1,11 @@
 """What a store's files come to, worked out by the rules of docs/FORMATS.md alone: nothing of the
 program is used. scripts/tests/byte-test, scripts/tests/image-test and
-scripts/tests/random-folder-test compare what opening answers with it.
+scripts/tests/random-folder-test compare what opening answers with it; run on a folder it prints
+what `mvo stats` must print, with which scripts/tests/folder-test compares.
 """
+import os
 import struct
+import sys
 
 OPEN = 0xA5
 
@@ -148,6 +151,8 @@ def group_of(body, mark, rows):
 
 
 def segment_of(file, data, mark, is_last, rows):
+    """Does the writes of a segment's groups, and answers its mark, how many bytes stand before its
+    closed gate, and how many groups it has."""
     reader = Reader(file, data)
     reader.head(b"MVOL")
     frames = 0
@@ -159,7 +164,7 @@ def segment_of(file, data, mark, is_last, rows):
         mark = group_of(body, mark, rows)
         frames += 1
     need(frames or is_last, file)
-    return mark
+    return mark, reader.at - 1, frames
 
 
 def installed_of(files):
@@ -179,7 +184,7 @@ def opened(files):
     for pair in pairs:
         pair_of(pair, files, rows)
     for file in segments:
-        mark = segment_of(file, files.get(file, b""), mark, file == segments[-1], rows)
+        mark, _, _ = segment_of(file, files.get(file, b""), mark, file == segments[-1], rows)
     return mark, rows, len(pairs), len(segments)
 
 
@@ -190,6 +195,23 @@ def answer_of(files):
         return f"ok mark {mark} rows {len(rows)} pairs {pairs} segments {segments}"
     except Refused as refused:
         return str(refused)
+
+
+def stats_of(files):
+    """What `mvo stats` must print for these files, which are opened."""
+    _, mark, pairs, segments = installed_of(files)
+    rows, lines = {}, []
+    for pair in pairs:
+        pair_of(pair, files, rows)
+    for file in segments:
+        is_last = file == segments[-1]
+        mark, count, groups = segment_of(file, files.get(file, b""), mark, is_last, rows)
+        lines.append(f"segment {file} bytes {count} groups {groups}")
+    for data, delta, _, _, records, dead in pairs:
+        lines.append(f"pair {data} {delta} records {records} dead {dead}")
+    named = {it for pair in pairs for it in pair[:2]} | set(segments)
+    unused = sum(1 for file, data in files.items() if file >= 2 and data and file not in named)
+    return "\n".join([f"mark {mark} rows {len(rows)}", *lines, f"reclaimable {unused}"])
 
 
 def kind_of(files, answer):
@@ -204,3 +226,13 @@ def kind_of(files, answer):
         return "refused 54 of a segment"
     is_data = int(file) in [it[0] for it in pairs]
     return f"refused 54 of a {'data' if is_data else 'delta'} file"
+
+
+def files_in(folder):
+    """The bytes of a store's files by their numbers."""
+    return {int(name): open(os.path.join(folder, name), "rb").read() for name in os.listdir(folder)}
+
+
+if __name__ == "__main__":
+    # What `mvo stats DIR` must print.
+    print(stats_of(files_in(sys.argv[1])))

@@ -2,6 +2,7 @@
 use Rattle.std.specs.Prelude.{◌≡◌, ◌-◌, ◌^◌, List, Bool, Some, [], true, false, codes, pos, IsSomeAnd}
 use Rattle.clap.specs.Lexer.{usize_max}
 use Rattle.clap.specs.Words.{App, Rule, Text, new_app, new_rule, subcommand_of, with_rule, with_subcommand}
+use Rattle.clap.specs.declared.builder.action.ArgAction.TheVariants.{SetTrue}
 use Rattle.clap.specs.declared.builder.value_parser.ValueParser.TheVariants as parser
 use Rattle.mvo_cli.specs.Tasks.{IsTask}
 use Rattle.mvo_cli.specs.declared.task.Task.{Task}
@@ -34,6 +35,13 @@ workers_rule = record (new_rule (codes "workers")) {
   parser = Some (parser.Signed (pos 1) (pos 64));
 }
 
+-- whether the store is kept meanwhile, which is said by the option's name alone
+abbrev pub keep_rule : Rule
+keep_rule = record (new_rule (codes "keep")) {
+  long = Some (codes "keep");
+  action = Some SetTrue;
+}
+
 -- the paths of the scripts, of which one must be there
 abbrev pub files_rule : Rule
 files_rule = record (new_rule (codes "FILE")) {
@@ -43,7 +51,9 @@ files_rule = record (new_rule (codes "FILE")) {
 
 -- the command that runs jobs
 abbrev pub work_command : App
-work_command = with_rule (with_rule (with_folder (codes "work") true) workers_rule) files_rule
+work_command =
+    let workers = with_rule (with_folder (codes "work") true) workers_rule in
+    with_rule (with_rule workers keep_rule) files_rule
 
 -- the path of a script, which must be there
 abbrev pub script_rule : Rule
@@ -68,14 +78,20 @@ no_command = record {
   subs = [];
 }
 
+-- with the commands that look at a store, and keep it
+abbrev pub with_looks : App → App
+with_looks app =
+    let checks = with_subcommand app (with_folder (codes "check") true).top in
+    let stats = with_subcommand checks (with_folder (codes "stats") true).top in
+    with_subcommand stats (with_folder (codes "keep") true).top
+
 -- the program's commands
 abbrev pub commands : App
 commands =
     let formats = with_subcommand no_command (with_folder (codes "format") true).top in
     let runs = with_subcommand formats (with_folder (codes "run") false).top in
     let rows = with_subcommand runs rows_command.top in
-    let checks = with_subcommand rows (with_folder (codes "check") true).top in
-    let works = with_subcommand checks work_command.top in
+    let works = with_subcommand (with_looks rows) work_command.top in
     with_subcommand works stops_command.top
 
 -- the words ask for the task

@@ -1,5 +1,6 @@
 -- What a command asks for, by the words behind it.
-use Rattle.std.specs.Prelude.{◌≡◌, ◌<◌, ◌≤◌, ℕ, List, Some, None, codes, map, vec_len}
+use Rattle.std.specs.Prelude.{◌≡◌, ◌<◌, ◌≤◌, ℕ, Bool, false, List, Option, Some, None, codes, map, vec_len}
+use Rattle.std.specs.Str.{bytes_eq}
 use Rattle.std.specs.Str.Parse.{digits_value, without_leading_plus}
 use Rattle.clap.specs.Words.{Row, Text, all_of, first_of}
 use Rattle.mvo_front.specs.declared.workers.TheConstants.{MAX_WORKERS}
@@ -21,6 +22,15 @@ abbrev pub HasWorkers : List Row → ℕ → Type 0
 HasWorkers rows count =
     (text : Text) × (first_of (codes "workers") rows ≡ Some text)
     × (count ≡ digits_value 10 (without_leading_plus text)) × (1 ≤ count) × (count ≤ MAX_WORKERS)
+
+-- the option is there, whose name alone sets it
+abbrev pub is_true : Option Text → Bool
+is_true None = false
+is_true (Some text) = bytes_eq text (codes "true")
+
+-- the store is kept meanwhile
+abbrev pub HasKeep : List Row → Bool → Type 0
+HasKeep rows keeps = keeps ≡ is_true (first_of (codes "keep") rows)
 
 -- the paths of the scripts are these
 abbrev pub HasFiles : List Row → List Text → Type 0
@@ -44,9 +54,11 @@ IsTask name rows (task.RunIn folder) = (name ≡ codes "run") × HasFolder rows 
 IsTask name rows (task.Rows folder table) =
     (name ≡ codes "rows") × HasFolder rows folder.now × HasTable rows table
 IsTask name rows (task.Check folder) = (name ≡ codes "check") × HasFolder rows folder.now
+IsTask name rows (task.Stats folder) = (name ≡ codes "stats") × HasFolder rows folder.now
+IsTask name rows (task.Keep folder) = (name ≡ codes "keep") × HasFolder rows folder.now
 IsTask name rows (task.Work t) =
     (name ≡ codes "work") × HasFolder rows t.folder.now × HasWorkers rows t.workers.count
-    × HasFiles rows (map (λ f. f.now) t.files.items) × (0 < vec_len t.files)
+    × HasKeep rows t.keeps × HasFiles rows (map (λ f. f.now) t.files.items) × (0 < vec_len t.files)
 IsTask name rows (task.Stops script) =
     (name ≡ codes "stops") × HasScript rows script.now × (first_of (codes "explain") rows ≡ None)
 IsTask name rows (task.Explain number script) =

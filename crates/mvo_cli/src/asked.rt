@@ -3,7 +3,7 @@ ghost use Rattle.std.specs.Prelude.{codes, map, option_map};
 ghost use Rattle.clap.specs.Words.{FailsBy, Text, app_of, kind_of, rule_of, subcommand_rows_of, with_subcommand};
 ghost use Rattle.clap.specs.declared.Command.TheViews.{out-Command};
 ghost use Rattle.mvo_cli.specs.Asked.{AsksFor, commands, folder_rule, no_command, rows_command, table_rule, with_folder, work_command};
-ghost use Rattle.mvo_cli.specs.Asked.{stops_command};
+ghost use Rattle.mvo_cli.specs.Asked.{stops_command, with_looks};
 ghost use Rattle.mvo_cli.specs.Tasks.{IsTask};
 
 use crate::asked_work::{WORK, work_command, work_task_of};
@@ -164,6 +164,34 @@ fn no_command<'a>(alloc: Global) -> Result<Command<'a>, AllocError>
         .bin_name(PROGRAM)
 }
 
+/// Adds the commands that look at a store, and keep it.
+fn add_looks<'a>(mvo: Command<'a>, alloc: Global) -> Result<Command<'a>, AllocError>
+    ensures { IfOk result (λ c. app_of c ≡ with_looks (app_of mvo.entry)) }
+{
+    let mvo = add_command(
+        mvo,
+        alloc,
+        "check",
+        "Opens the store in a folder and counts",
+        true,
+    )?;
+    let mvo = add_command(
+        mvo,
+        alloc,
+        "stats",
+        "Tells what the store in a folder has, file by file",
+        true,
+    )?;
+    add_command(
+        mvo,
+        alloc,
+        "keep",
+        "Brings the log of the store in a folder into pairs, merges these, empties files that are \
+         no longer used, and counts",
+        true,
+    )
+}
+
 /// The program's commands with their help.
 fn command_line<'a>(alloc: Global) -> Result<Command<'a>, AllocError>
     ensures { IfOk result (λ c. app_of c ≡ commands) }
@@ -185,13 +213,7 @@ fn command_line<'a>(alloc: Global) -> Result<Command<'a>, AllocError>
         false,
     )?;
     let mvo = add_rows(mvo, alloc)?;
-    let mvo = add_command(
-        mvo,
-        alloc,
-        "check",
-        "Opens the store in a folder and counts",
-        true,
-    )?;
+    let mvo = add_looks(mvo, alloc)?;
     let mvo = add_work(mvo, alloc)?;
     add_stops(mvo, alloc)
 }

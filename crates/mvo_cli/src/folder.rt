@@ -150,7 +150,7 @@ fn held_on<D: Disk + Drop>(
 }
 
 /// What a store holds, with its rows and its mark.
-fn held_of<D: Disk>(store: &Store<D>, rows: Rows, mark: Stamp) -> Holdings {
+pub fn held_of<D: Disk>(store: &Store<D>, rows: Rows, mark: Stamp) -> Holdings {
     let manifest = store.manifest();
     let (pairs, segments) = (manifest.pairs().len(), manifest.segments().len());
     Holdings {

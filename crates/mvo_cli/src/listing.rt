@@ -1,5 +1,8 @@
 use crate::fault::Fault;
 use crate::folder::Holdings;
+use crate::folder_stats::FolderStats;
+use crate::segment_stats::SegmentStats;
+use mvo_pair::Pair;
 use mvo_types::{Row, RowKey};
 use std::alloc::{AllocError, Global};
 use std::io::{self, BufWriter, Write};
@@ -75,4 +78,39 @@ pub fn write_counts(held: &Holdings, writer: &mut impl Write) -> Result<(), Faul
         "ok mark {mark} rows {rows} pairs {pairs} segments {segments}"
     )
     .map_err(Fault::Print)
+}
+
+/// Writes what a folder has: its mark and rows, then each segment and each pair, the oldest first,
+/// and how many files can be reclaimed.
+pub fn write_stats<W: Write + Drop>(
+    alloc: Global,
+    stats: &FolderStats,
+    writer: W,
+) -> Result<(), Fault> {
+    let mut writer = BufWriter::new(alloc, writer).map_err(|_| Fault::OutOfMemory)?;
+    write_files(stats, &mut writer).map_err(Fault::Print)
+}
+
+fn write_files(stats: &FolderStats, writer: &mut impl Write) -> io::Result<()> {
+    let (mark, rows, unused) = (stats.mark, stats.rows, stats.unused);
+    writeln!(writer, "mark {mark} rows {rows}")?;
+    for segment in &stats.segments {
+        write_segment(segment, writer)?;
+    }
+    for pair in &stats.pairs {
+        write_pair(pair, writer)?;
+    }
+    writeln!(writer, "reclaimable {unused}")?;
+    writer.flush()
+}
+
+fn write_segment(segment: &SegmentStats, writer: &mut impl Write) -> io::Result<()> {
+    let (file, bytes, groups) = (segment.file, segment.bytes, segment.groups);
+    writeln!(writer, "segment {file} bytes {bytes} groups {groups}")
+}
+
+fn write_pair(pair: &Pair, writer: &mut impl Write) -> io::Result<()> {
+    let (data, delta) = (pair.data_file, pair.delta_file);
+    let (records, dead) = (pair.records, pair.entries);
+    writeln!(writer, "pair {data} {delta} records {records} dead {dead}")
 }

@@ -1,8 +1,10 @@
 use crate::asked::command;
 use crate::fault::Fault;
 use crate::folder::{format_folder, open_held, open_world};
+use crate::folder_stats::stats_in;
 use crate::folders::Folders;
-use crate::listing::{write_counts, write_rows};
+use crate::keeping::keep_held;
+use crate::listing::{write_counts, write_rows, write_stats};
 use crate::seed::draw_seed;
 use crate::stops::{print_call, print_stops};
 use crate::task::Task;
@@ -127,6 +129,8 @@ where
         Task::RunIn(folder) => run_in(rt, folder, is_terminal),
         Task::Rows(folder, table) => print_rows(rt, folder, table, is_terminal),
         Task::Check(folder) => print_counts(rt, folder, is_terminal),
+        Task::Stats(folder) => print_stats(rt, folder, is_terminal),
+        Task::Keep(folder) => keep_and_count(rt, folder, is_terminal),
         Task::Work(task) => work_in(rt, &task, is_terminal),
         Task::Stops(script) => print_stops(rt, script, is_terminal),
         Task::Explain(number, script) => print_call(rt, number, script),
@@ -216,6 +220,41 @@ where
         + Drop,
 {
     let held = open_held(rt, folder, is_terminal)?;
+    write_counts(&held, &mut io::writer(rt))
+}
+
+/// Prints what the store in a folder has, file by file.
+fn print_stats<R>(rt: &R, folder: &str, is_terminal: bool) -> Result<(), Fault>
+where
+    R: AllocGlobal
+        + Print
+        + Eprint
+        + Files<File = File>
+        + RandomSource
+        + Threads
+        + Sync
+        + Clone
+        + Drop,
+{
+    let stats = stats_in(rt, folder, is_terminal)?;
+    write_stats(rt.alloc(), &stats, io::writer(rt))
+}
+
+/// Does what is due of the files of the store in a folder, and prints what it holds.
+fn keep_and_count<R>(rt: &R, folder: &str, is_terminal: bool) -> Result<(), Fault>
+where
+    R: AllocGlobal
+        + Print
+        + Eprint
+        + Files<File = File>
+        + RandomSource
+        + Threads
+        + Wait
+        + Sync
+        + Clone
+        + Drop,
+{
+    let held = keep_held(rt, folder, is_terminal)?;
     write_counts(&held, &mut io::writer(rt))
 }
 

@@ -30,7 +30,11 @@ pub enum Task<'a> {
     Rows(&'a str, u8),
     /// `mvo check DIR`: whether the store in a folder can be opened.
     Check(&'a str),
-    /// `mvo work DIR --workers N FILE..`: each file's script as a job over the store in a folder.
+    /// `mvo stats DIR`: what the store in a folder has, file by file.
+    Stats(&'a str),
+    /// `mvo keep DIR`: what is due of the files of the store in a folder.
+    Keep(&'a str),
+    /// `mvo work DIR --workers N [--keep] FILE..`: each file's script as a job over the store in a folder.
     Work(WorkTask<'a>),
     /// `mvo stops FILE`: whether a stop or a fault at any call leaves what a script was promised.
     Stops(&'a str),
@@ -56,6 +60,8 @@ pub fn task_of<'a>(name: &str, found: &ArgMatches<'a>) -> Option<Task<'a>>
             Some(Task::Rows(folder, table))
         }
         "check" => Some(Task::Check(found.get_str(FOLDER)?)),
+        "stats" => Some(Task::Stats(found.get_str(FOLDER)?)),
+        "keep" => Some(Task::Keep(found.get_str(FOLDER)?)),
         "stops" => stops_of(found),
         _ => None,
     }

@@ -6,7 +6,6 @@ use crate::script_file::read_script;
 use crate::seed::draw_seed;
 use crate::shown_jobs::ShownJobs;
 use crate::work_task::WorkTask;
-use crate::workers::Workers;
 use mvo_disk::Disk;
 use mvo_engine::Fresh;
 use mvo_front::Job;
@@ -88,7 +87,7 @@ where
     R: AllocGlobal + Print + Eprint + Files<File = File> + Clock + Threads + Wait + Sync,
 {
     match read_jobs(rt, task.files()) {
-        Ok(jobs) => run_jobs(rt, task.workers, is_terminal, fresh, jobs),
+        Ok(jobs) => run_jobs(rt, task, is_terminal, fresh, jobs),
         Err(fault) => Err(fault),
     }
 }
@@ -111,7 +110,7 @@ fn read_jobs(
 /// Runs the jobs, and prints what came of them.
 fn run_jobs<D: Disk + Drop + Send, R>(
     rt: &R,
-    workers: Workers,
+    task: &WorkTask<'_>,
     is_terminal: bool,
     fresh: Fresh<D>,
     jobs: Vec<Job>,
@@ -130,7 +129,8 @@ where
         alloc,
         fresh,
         jobs,
-        workers.count(),
+        task.workers.count(),
+        task.keeps,
         &shown,
         &commits,
         &mut writer,

@@ -7,6 +7,8 @@ use crate::workers::Workers;
 pub struct WorkTask<'a> {
     pub folder: &'a str,
     pub workers: Workers,
+    /// Whether the store is kept meanwhile.
+    pub keeps: bool,
     files: Vec<&'a str>,
     ghost some: { 0 < vec_len files },
 }
@@ -15,16 +17,18 @@ impl<'a> WorkTask<'a> {
     ghost use Rattle.std.specs.Prelude.{◌≡◌, ◌<◌, vec_len, length};
 
     /// Jobs of these files, at least one.
-    pub fn new(folder: &'a str, workers: Workers, files: Vec<&'a str>) -> WorkTask<'a>
+    pub fn new(folder: &'a str, workers: Workers, keeps: bool, files: Vec<&'a str>) -> WorkTask<'a>
         requires { 0 < vec_len files }
         ensures folder { result.folder ≡ folder.entry }
         ensures workers { result.workers ≡ workers }
+        ensures keeps { result.keeps ≡ keeps }
         ensures files { result.files.items ≡ files.entry.items }
         ensures some { 0 < vec_len result.files }
     {
         WorkTask {
             folder,
             workers,
+            keeps,
             files,
         }
     }

@@ -3,6 +3,7 @@
 use Rattle.std.specs.Prelude.{ℕ, ◌+◌, ◌<◌, ◌≤◌, ◌&&◌, ◌||◌, nat_lt, nat_le, Bool, List, [], ◌∷◌, length, get_or, Option, Some, None, if◌then◌else◌, ⊤}
 use Rattle.mvo_types.specs.declared.limits.TheConstants.{MAX_PAIRS, MAX_SEGMENTS}
 use Rattle.mvo_store.specs.declared.call.StoreCall.{StoreCall}
+use Rattle.mvo_store.specs.declared.call.StoreCall.TheVariants as store
 use Rattle.mvo_keep.specs.declared.policy.Policy.{Policy}
 use Rattle.mvo_keep.specs.declared.standing.Standing.{Standing}
 use Rattle.mvo_keep.specs.declared.chore.Chore.{Chore}
@@ -96,6 +97,19 @@ due_chore p s = first_chore (
     ∷ tidying p s
     ∷ forgetting p s
     ∷ [])
+
+-- ---- of the store
+
+-- the call of a store that it is, or with which it begins
+abbrev pub call_of : Chore → Option StoreCall
+call_of Flush = None
+call_of (Step call) = Some call
+call_of Reclaim = Some store.Reclaim
+call_of (Merge place) = Some (store.MergeRead place)
+call_of Checkpoint = Some store.CheckpointRead
+call_of Rotate = Some store.RotateWrite
+call_of (Trim upto) = None
+call_of (Collect most) = None
 
 -- ---- what is due may be done
 

@@ -21,3 +21,23 @@ pub enum Chore {
     /// So many versions that nobody can be shown any more are to be collected, at most.
     Collect(u64),
 }
+
+impl Chore {
+    ghost use Rattle.std.specs.Prelude.{◌≡◌};
+    ghost use Rattle.mvo_keep.specs.Due.{call_of};
+
+    /// The call of a store that it is, or with which it begins. A flush takes a group first, and
+    /// what is forgotten is the core's.
+    pub fn call(self) -> Option<StoreCall>
+        ensures { result ≡ call_of self }
+    {
+        match self {
+            Chore::Step(call) => Some(call),
+            Chore::Reclaim => Some(StoreCall::Reclaim),
+            Chore::Merge(place) => Some(StoreCall::MergeRead(place)),
+            Chore::Checkpoint => Some(StoreCall::CheckpointRead),
+            Chore::Rotate => Some(StoreCall::RotateWrite),
+            Chore::Flush | Chore::Trim(_) | Chore::Collect(_) => None,
+        }
+    }
+}

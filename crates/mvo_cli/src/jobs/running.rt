@@ -4,7 +4,8 @@ ghost use Rattle.mvo_engine.specs.Opened.{IsNamedBy};
 use crate::jobs::session_work::SessionWork;
 use mvo_disk::Disk;
 use mvo_engine::{Engine, Fresh, Gate, OpenGate, Run};
-use mvo_front::{Job, Outcome, run};
+use mvo_front::{Job, JobWork, Outcome, run};
+use mvo_keep::Policy;
 use mvo_script::LineReply;
 use mvo_types::{Refusal, Stamp};
 use mvo_world::Reply;
@@ -12,7 +13,8 @@ use std::alloc::{AllocError, Global};
 use std::io::{self, Write};
 use std::marker::Brand;
 use std::sync::Wait;
-use std::sync::atomic::AtomicU64;
+use std::sync::atomic::{AtomicU64, Ordering};
+use std::thread;
 use std::thread::Threads;
 use thiserror::Error;
 
@@ -36,13 +38,15 @@ impl From<AllocError> for WorkError {
 /// Runs the jobs over an opened store, as many at once as there are workers, each in a session of
 /// its own. After all have ended it writes for each job, by number, `job I` and its replies; then
 /// it flushes until each commit is durable, and writes `durable M`, or the refusal at which that
-/// stopped. The gate is told before and behind each job, and `commits` counts their commits.
+/// stopped. The gate is told before and behind each job, and `commits` counts their commits. Where
+/// it `keeps` the store, one more thread does what is due meanwhile.
 pub fn work_over<D, J, W, R>(
     rt: &R,
     alloc: Global,
     fresh: Fresh<D>,
     jobs: Vec<Job>,
     workers: usize,
+    keeps: bool,
     gate: &J,
     commits: &AtomicU64,
     writer: &mut W,
@@ -53,7 +57,9 @@ where
     W: Write,
     R: Threads + Wait + Sync,
 {
-    work_in::<Brand, D, J, W, R>(rt, alloc, fresh, jobs, workers, gate, commits, writer)
+    work_in::<Brand, D, J, W, R>(
+        rt, alloc, fresh, jobs, workers, keeps, gate, commits, writer,
+    )
 }
 
 /// The same for every run, which the parts of the store name.
@@ -63,6 +69,7 @@ fn work_in<L, D, J, W, R>(
     fresh: Fresh<D>,
     jobs: Vec<Job>,
     workers: usize,
+    keeps: bool,
     gate: &J,
     commits: &AtomicU64,
     writer: &mut W,
@@ -77,7 +84,10 @@ where
 {
     let engine = Engine::<L, D, OpenGate>::new(fresh, OpenGate);
     let work = SessionWork::new(alloc, &engine, gate, commits);
-    let mut outcomes = run(rt, alloc, jobs, workers, &work)?;
+    let mut outcomes = match keeps {
+        true => run_kept(rt, alloc, jobs, workers, &work, &engine)?,
+        false => run(rt, alloc, jobs, workers, &work)?,
+    };
     outcomes.sort_unstable_by_key(|outcome| outcome.number);
     write_outcomes(&outcomes, writer)?;
     let flushed = match flush_all(rt, &engine) {
@@ -87,6 +97,38 @@ where
     let last = LineReply::Answered(flushed);
     writeln!(writer, "{last}").map_err(WorkError::Write)?;
     writer.flush().map_err(WorkError::Write)
+}
+
+/// Runs the jobs, while one more thread keeps the store: what stops that stops the last flush, too.
+/// Where the system gives no other thread, the second closure is called first, and what is due is
+/// done behind the jobs.
+fn run_kept<L, D, W, R>(
+    rt: &R,
+    alloc: Global,
+    jobs: Vec<Job>,
+    workers: usize,
+    work: &W,
+    engine: &Engine<L, D, OpenGate>,
+) -> Result<Vec<Outcome>, AllocError>
+where
+    L: Run + Send + Sync,
+    D: Disk + Drop + Send,
+    W: JobWork + Sync,
+    R: Threads + Wait + Sync,
+{
+    let policy = Policy::standard();
+    let over = AtomicU64::new(0);
+    let (_, outcomes) = thread::join(
+        rt,
+        || engine.keep_until(rt, &policy, &over),
+        || {
+            let outcomes = run(rt, alloc, jobs, workers, work);
+            over.store(1, Ordering::SeqCst);
+            over.wake_all();
+            outcomes
+        },
+    );
+    outcomes
 }
 
 /// Writes what came of the jobs, each behind its number.

@@ -25,7 +25,21 @@ fn jobs_are_asked_for(rt: HostRuntime) -> Result<(), Fail> {
     Ok(())
 }
 
+/// A store is kept beside the jobs where the option says so.
+#[test]
+fn a_kept_store_is_asked_for(rt: HostRuntime) -> Result<(), Fail> {
+    let line = ["mvo", "work", "d", "f", "--keep", "g", "--workers", "8"];
+    match command(rt.alloc(), &line) {
+        Ok(Task::Work(task)) => {
+            same(&rt, &task.keeps, &true);
+            Ok(())
+        }
+        _ => Err(Fail::from("no jobs are asked for")),
+    }
+}
+
 fn asks_for(rt: &impl Abort, task: &WorkTask<'_>) {
+    same(rt, &task.keeps, &false);
     holds(rt, task.folder == "d");
     same(rt, &task.workers.count(), &8);
     let files = task.files();

@@ -108,6 +108,7 @@ fn printed_over<G: Gate + Sync, R: Threads + Wait + Sync>(
     fresh: Fresh<MemDisk>,
     scripts: &[&str],
     workers: usize,
+    keeps: bool,
     gate: &G,
 ) -> Result<Vec<u8>, Fail> {
     let jobs = jobs_of(alloc, scripts)?;
@@ -119,6 +120,7 @@ fn printed_over<G: Gate + Sync, R: Threads + Wait + Sync>(
         fresh,
         jobs,
         workers,
+        keeps,
         gate,
         &commits,
         &mut printed,
@@ -134,7 +136,7 @@ fn printed<R: Threads + Wait + Sync>(
     workers: usize,
 ) -> Result<Vec<u8>, Fail> {
     let fresh = opened(rt, alloc, formatted(alloc)?)?;
-    printed_over(rt, alloc, fresh, scripts, workers, &OpenGate)
+    printed_over(rt, alloc, fresh, scripts, workers, false, &OpenGate)
 }
 
 /// Asserts that this is what is printed.
@@ -179,13 +181,32 @@ fn opened_to_fail(rt: &(impl Threads + Sync), alloc: Global) -> Result<Fresh<Mem
     Err(Fail::from("the store isn't opened"))
 }
 
+/// Jobs are answered alike where one more thread keeps the store meanwhile.
+#[test]
+fn a_store_is_kept_beside_jobs(rt: HostRuntime) -> Result<(), Fail> {
+    let alloc = rt.alloc();
+    let fresh = opened(&rt, alloc, formatted(alloc)?)?;
+    let scripts = [
+        "begin t\ninsert t 0 1 10 61\ncommit t\n",
+        "begin t\nread t 0 1\nupdate t 0 1 20 62\ncommit t\n",
+    ];
+    let told = printed_over(&rt, alloc, fresh, &scripts, 1, true, &OpenGate)?;
+    prints(
+        &rt,
+        &told,
+        "job 1\nbegan 1\ninserted\ncommitted 2\n\
+         job 2\nbegan 3\nrow 10 61\nupdated\ncommitted 4\ndurable 4\n",
+    );
+    Ok(())
+}
+
 /// Where the last flush is refused, the refusal stands in the place of the mark.
 #[test]
 fn a_refused_flush_is_printed(rt: HostRuntime) -> Result<(), Fail> {
     let alloc = rt.alloc();
     let fresh = opened_to_fail(&rt, alloc)?;
     let script = "begin t\ninsert t 0 1 10 61\ncommit t\n";
-    let told = printed_over(&rt, alloc, fresh, &[script], 1, &OpenGate)?;
+    let told = printed_over(&rt, alloc, fresh, &[script], 1, false, &OpenGate)?;
     prints(
         &rt,
         &told,
@@ -253,7 +274,7 @@ fn two_jobs_meet(rt: HostRuntime) -> Result<(), Fail> {
         "begin b\ninsert b 0 2 10 62\ncommit b\n",
     ];
     let fresh = opened(&rt, alloc, formatted(alloc)?)?;
-    let told = printed_over(&rt, alloc, fresh, &scripts, 2, &gate)?;
+    let told = printed_over(&rt, alloc, fresh, &scripts, 2, false, &gate)?;
     same(&rt, &gate.met.load(Ordering::SeqCst), &1);
     let text = "job 1\nbegan 3\ninserted\ncommitted 4\njob 2\nbegan 1\ninserted\ncommitted 2\n\
                 durable 4\n";

@@ -20,3 +20,9 @@ returns-in_ok-table-in-rows-clause-task c =
 
 pub returns-in_ok-get_str-in-check-clause-task : goal.returns-in_ok-get_str-in-check-clause-task
 returns-in_ok-get_str-in-check-clause-task c = (c.in-check.is, given c.args.found.now _ _ (Some c.in_ok-get_str-in-check.field-0) c.get_str-in-check.ensures c.in_ok-get_str-in-check.was)
+
+pub returns-in_ok-get_str-in-stats-clause-task : goal.returns-in_ok-get_str-in-stats-clause-task
+returns-in_ok-get_str-in-stats-clause-task c = (c.in-stats.is, given c.args.found.now _ _ (Some c.in_ok-get_str-in-stats.field-0) c.get_str-in-stats.ensures c.in_ok-get_str-in-stats.was)
+
+pub returns-in_ok-get_str-in-keep-clause-task : goal.returns-in_ok-get_str-in-keep-clause-task
+returns-in_ok-get_str-in-keep-clause-task c = (c.in-keep.is, given c.args.found.now _ _ (Some c.in_ok-get_str-in-keep.field-0) c.get_str-in-keep.ensures c.in_ok-get_str-in-keep.was)
