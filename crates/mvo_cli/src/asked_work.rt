@@ -95,7 +95,7 @@ pub fn work_task_of<'a>(
 
 /// Whether an option is there that is set by its name alone.
 fn is_true(word: Option<&str>) -> bool
-    ensures { result ≡ is_true (option_map text_now word) }
+    ensures { result ≡ is_true (option_map text_now word.entry) }
 {
     match word {
         Some(text) => text == "true",
