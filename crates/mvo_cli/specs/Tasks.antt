@@ -1,5 +1,6 @@
 -- What a command asks for, by the words behind it.
 use Rattle.std.specs.Prelude.{◌≡◌, ◌<◌, ◌≤◌, ℕ, Bool, false, List, Option, Some, None, codes, map, vec_len}
+use Rattle.std.specs.Borrow.{Bor}
 use Rattle.std.specs.Str.{bytes_eq}
 use Rattle.std.specs.Str.Parse.{digits_value, without_leading_plus}
 use Rattle.clap.specs.Words.{Row, Text, all_of, first_of}
@@ -22,6 +23,10 @@ abbrev pub HasWorkers : List Row → ℕ → Type 0
 HasWorkers rows count =
     (text : Text) × (first_of (codes "workers") rows ≡ Some text)
     × (count ≡ digits_value 10 (without_leading_plus text)) × (1 ≤ count) × (count ≤ MAX_WORKERS)
+
+-- the text behind a reference
+abbrev pub text_now : Bor Text → Text
+text_now s = s.now
 
 -- the option is there, whose name alone sets it
 abbrev pub is_true : Option Text → Bool

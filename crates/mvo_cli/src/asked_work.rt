@@ -2,7 +2,7 @@ ghost use Rattle.std.specs.Prelude.{◌≡◌, ◌<◌, codes, false, map, optio
 ghost use Rattle.clap.specs.Words.{app_of, found_of, rows_of, rule_of};
 ghost use Rattle.clap.specs.declared.Command.TheViews.{out-Command};
 ghost use Rattle.mvo_cli.specs.Asked.{files_rule, keep_rule, work_command, workers_rule};
-ghost use Rattle.mvo_cli.specs.Tasks.{HasFiles, HasWorkers, IsTask, is_true};
+ghost use Rattle.mvo_cli.specs.Tasks.{HasFiles, HasWorkers, IsTask, is_true, text_now};
 
 use crate::asked::with_folder;
 use crate::task::{FOLDER, Task};
@@ -95,7 +95,7 @@ pub fn work_task_of<'a>(
 
 /// Whether an option is there that is set by its name alone.
 fn is_true(word: Option<&str>) -> bool
-    ensures { result ≡ is_true (option_map (λ s. s.now) word) }
+    ensures { result ≡ is_true (option_map text_now word.entry) }
 {
     match word {
         Some(text) => text == "true",

@@ -12,4 +12,4 @@ pub returns : goal.returns
 returns c =
     let checks = c.in_ok-mvo.ensures in
     let stats = c.in_ok-mvo-2.ensures ∙ ap (with_one (with_folder (codes "stats") true)) checks in
-    IfOk-weaker c.add_command.result _ _ (λ r adds. adds ∙ ap (with_one (with_folder (codes "keep") true)) stats) c.add_command.ensures
+    IfOk-weaker c.add_command-3.result _ _ (λ r adds. adds ∙ ap (with_one (with_folder (codes "keep") true)) stats) c.add_command-3.ensures

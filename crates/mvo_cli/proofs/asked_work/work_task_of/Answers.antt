@@ -14,7 +14,7 @@ returns c =
       refl,
       folder ∙ ap (λ (f : Bor Text). Some f.now) (sym c.new.ensures.folder),
       subst (λ (w : Workers). HasWorkers (rows_of (found_of c.args.found.now)) w.count) (sym c.new.ensures.workers) c.in-Some-workers_in.ensures,
-      c.new.ensures.keeps ∙ (c.is_true.ensures ∙ ap is_true (sym keep)),
+      c.new.ensures.keeps ∙ (c.is_true-keeps.ensures ∙ ap is_true (sym keep)),
       c.in_ok-files.ensures some ∙ ap (λ (xs : List (Bor Text)). Some (map (λ f. f.now) xs)) (sym c.new.ensures.files),
       c.new.ensures.some,
     )
