@@ -1,4 +1,4 @@
-use Rattle.std.proofs.Common.{rules, ap, ap₂, refl, subst, codes, true, List, Option, Some, None, Result, Ok, Err, [], ◌∷◌, ◌≡◌, ◌∙◌, option_map}
+use Rattle.std.proofs.Common.{Bor, map, rules, ap, ap₂, refl, subst, codes, true, List, Option, Some, None, Result, Ok, Err, [], ◌∷◌, ◌≡◌, ◌∙◌, option_map}
 use Rattle.std.specs.Prelude.{IfOk, IsSome, IfSome, IsSomeAnd}
 use Rattle.clap.specs.Words.{App, FailsBy, HasMatchesOf, Row, Text, fault_of, is_simple, is_simple_and_free, subcommand_of, subcommand_rows_of, takes}
 use Rattle.clap.specs.declared.ArgMatches.{ArgMatches}
@@ -87,3 +87,9 @@ returns-in-Ok-Some-clause-version c = λ is name e.
 pub returns-in_ok-error-in-Ok-None-clause-version : goal.returns-in_ok-error-in-Ok-None-clause-version
 returns-in_ok-error-in-Ok-None-clause-version c = λ is name e.
     absurd (some_kind (fails_by_version _ _ name (Ok c.in_ok-try_get_matches_from_mut.field-0) is e c.in_ok-try_get_matches_from_mut.ensures.kinds))
+
+pub returns-in-Ok-Some-clause-asked : goal.returns-in-Ok-Some-clause-asked
+returns-in-Ok-Some-clause-asked c = λ is.
+    let words = map (λ (w : Bor Text). w.now) c.args.words.now in
+    let rows = same_rows c.in_ok-try_get_matches_from_mut.field-0 _ words is c.in_ok-try_get_matches_from_mut.ensures.ok.2 in
+    asks words _ c.in-Ok-Some.field-0 c.in-Ok-Some.task rows c.in-Ok-Some.ensures.task c.in-Ok-Some.field-0-is
