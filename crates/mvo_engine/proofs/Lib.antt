@@ -22,3 +22,4 @@ mod Transacting
 mod Asking
 mod OneCall
 mod RollingBack
+pub mod Upkeep

@@ -24,3 +24,5 @@ pub mod Transacting
 pub mod Audited
 pub mod Gathering
 pub mod Ending
+pub mod Stats
+pub mod Keeping

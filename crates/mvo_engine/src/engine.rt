@@ -22,6 +22,7 @@ use crate::turns::Turns;
 use mvo_disk::Disk;
 use mvo_marks::{Marks, Seat};
 use mvo_types::{Refusal, Stamp};
+use std::alloc::Global;
 use std::sync::{Mutex, MutexGuard, Wait};
 use std::thread;
 
@@ -30,7 +31,7 @@ const TRIES: u32 = 256;
 
 /// So many versions are collected at most before the lock of the core is given back: it is held a
 /// few dozen microseconds, as long as some hundred reads.
-const AT_ONCE: u64 = 128;
+pub(crate) const AT_ONCE: u64 = 128;
 
 /// A store of rows that many threads share: one lock round the core, one round the store, and the
 /// marks beside them. The turn (`Turns`) says who flushes next for all who wait.
@@ -43,6 +44,7 @@ pub struct Engine<L: Run, D: Disk, G: Gate + Drop> {
     core: Mutex<LockedCore<L>>,
     store: Mutex<LockedStore<L, D>>,
     turns: Turns,
+    pub(crate) alloc: Global,
     ghost named: { marks ≡ L.marks },
 }
 
@@ -54,6 +56,7 @@ impl<L: Run, D: Disk + Drop, G: Gate + Drop> Drop for Engine<L, D, G> {
             core: _,
             store: _,
             turns: _,
+            alloc: _,
         } = self;
     }
 }
@@ -92,6 +95,7 @@ impl<L: Run, D: Disk, G: Gate + Drop> Engine<L, D, G> {
             core: Mutex::new(LockedCore::new(alloc, core, sends, ledger)),
             store: Mutex::new(LockedStore::new(store, consumer, publisher)),
             turns: Turns::new(),
+            alloc,
         }
     }
 
@@ -213,6 +217,7 @@ impl<L: Run, D: Disk, G: Gate + Drop> Engine<L, D, G> {
             core,
             store,
             turns: _,
+            alloc: _,
         } = self;
         let mut store = store.into_inner();
         confirm_all(&marks, &mut store, seen);

@@ -1,4 +1,5 @@
 mod reading;
+mod standing;
 
 use crate::locked_store::LockedStore;
 use crate::run::{MAX_SESSIONS, PARTS, Receipt, Receipts, Run, Told};
@@ -153,7 +154,8 @@ impl<L: Run> LockedCore<L> {
     /// Collects so many versions, or all that are garbage where these are fewer. Answers how many
     /// it collected.
     pub fn collect_up_to(&mut self, most: u64) -> u64
-        ensures { HasCollectedUpTo self.old most result self.new }
+        ensures collected { HasCollectedUpTo self.old most result self.new }
+        ensures few { result ≤ most }
     {
         for taken in 0..most {
             match self.collect_one() {

@@ -1,3 +1,5 @@
+mod standing;
+
 ghost use Rattle.std.specs.Prelude.{◌≡◌, Some, IsTrue};
 ghost use Rattle.mvo_types.specs.declared.refusal.Refusal.{Refusal};
 

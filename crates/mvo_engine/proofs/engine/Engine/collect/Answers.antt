@@ -22,7 +22,7 @@ returns-then-taken-lt-AT_ONCE g c =
       before = before.0;
       last = n;
       fewer = omega (arith, fewer);
-      each = each_append (WasCollected AT_ONCE) before.0 (n ∷ []) before.1 ((c.deref_mut.result.now, c.collect_up_to-taken.new.self, c.collect_up_to-taken.ensures), tt);
+      each = each_append (WasCollected AT_ONCE) before.0 (n ∷ []) before.1 ((c.deref_mut.result.now, c.collect_up_to-taken.new.self, c.collect_up_to-taken.ensures.collected), tt);
       sum = sum_so c.loop.all n c.saturating_add-all.result before.0 before.2 c.saturating_add-all.ensures;
     }
 
@@ -31,6 +31,6 @@ loop-preserved g c =
     let before = c.loop.invariant in
     let n = c.collect_up_to-taken.result in (
       before.0 ++ n ∷ [],
-      each_append (WasCollected AT_ONCE) before.0 (n ∷ []) before.1 ((c.deref_mut.result.now, c.collect_up_to-taken.new.self, c.collect_up_to-taken.ensures), tt),
+      each_append (WasCollected AT_ONCE) before.0 (n ∷ []) before.1 ((c.deref_mut.result.now, c.collect_up_to-taken.new.self, c.collect_up_to-taken.ensures.collected), tt),
       sum_so c.loop.all n c.saturating_add-all.result before.0 before.2 c.saturating_add-all.ensures,
     )

@@ -1,0 +1,51 @@
+use mvo_store::Due;
+use mvo_types::{Stamp, TxId};
+
+/// How the memory of an engine stands.
+#[derive(Clone, Copy, Debug, PartialEq, Eq)]
+pub struct CoreStats {
+    /// The timestamp that was drawn last, or the opening mark.
+    pub clock: Stamp,
+    /// The mark of the group that was closed last, or the opening mark.
+    pub closed: Stamp,
+    /// How many transactions aren't finished.
+    pub unfinished: usize,
+    /// The one with the least begin, if there is one.
+    pub oldest: Option<TxId>,
+    /// Where the tale starts.
+    pub tale_start: Stamp,
+    /// How many places the tale has, those among them from which nothing is stored any more.
+    pub places: usize,
+    /// How many sessions there are: made, and not retired.
+    pub sessions: u32,
+}
+
+/// How the store of an engine stands.
+#[derive(Clone, Copy, Debug, PartialEq, Eq)]
+pub struct StoreStats {
+    /// The mark of the last group that is durable, or the one that the store opened at.
+    pub durable: Stamp,
+    /// Whether a group is being appended.
+    pub has_group: bool,
+    /// How many manifests were installed before the one that is.
+    pub generation: u64,
+    /// How many segments it names, the last one among them.
+    pub segments: usize,
+    /// How many bytes stand before the last gate of the last segment, its header among them.
+    pub last_segment: usize,
+    /// How many pairs it names.
+    pub pairs: usize,
+    /// How many records these have.
+    pub records: u64,
+    /// How many of the records are dead.
+    pub dead: u64,
+    /// The next step of a job that runs (`Store::next_step`).
+    pub step: Option<Due>,
+}
+
+/// How an engine stands: its store, and then its memory, each at a moment of its own.
+#[derive(Clone, Copy, Debug, PartialEq, Eq)]
+pub struct Stats {
+    pub core: CoreStats,
+    pub store: StoreStats,
+}
