@@ -1,11 +1,12 @@
 -- Calls of a session that answer of their kind.
 use Rattle.std.proofs.Common.{◌≡◌, ℕ, inl, inr, Bool, true, false, Option, None, Some, Result, Ok, Err, refl}
-use Rattle.std.specs.Prelude.{List, IfOk, if◌then◌else◌}
+use Rattle.std.specs.Prelude.{◌⊎◌, List, IfOk, if◌then◌else◌}
 use Rattle.mvo_types.specs.declared.answer.Answer.{Answer}
 use Rattle.mvo_types.specs.declared.answer.Answer.TheVariants.{Found, Rows, Inserted, Exists, Updated, Deleted, Absent}
 use Rattle.mvo_types.specs.declared.op.Op.{Op}
 use Rattle.mvo_types.specs.declared.op.Op.TheVariants.{Read, Scan, Insert, Update, Delete}
 use Rattle.mvo_types.specs.declared.refusal.Refusal.{Refusal}
+use Rattle.mvo_types.specs.declared.refusal.Refusal.TheVariants.{NoSuchTransaction}
 use Rattle.mvo_types.specs.AnswerData.{answer_data}
 use Rattle.mvo_types.specs.RowData.{RowData}
 use Rattle.mvo_types.specs.AnswerData.AnswerData.{Found as FoundData, Rows as RowsData, Inserted as InsertedData, Exists as ExistsData, Updated as UpdatedData, Deleted as DeletedData, Absent as AbsentData}

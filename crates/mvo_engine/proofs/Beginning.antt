@@ -1,5 +1,5 @@
 -- A begin under the lock of the core, by what the session answers of it.
-use Rattle.std.proofs.Common.{◌≡◌, inl, inr, ℕ, Option, None, Some, Result, Ok, Err, ap}
+use Rattle.std.proofs.Common.{◌≡◌, ◌<◌, inl, inr, ℕ, Option, None, Some, Result, Ok, Err, ap}
 use Rattle.mvo_types.specs.declared.refusal.Refusal.{Refusal}
 use Rattle.mvo_types.specs.declared.refusal.Refusal.TheVariants.{Busy}
 use Rattle.mvo_engine.specs.run.Opening.{Opening}

@@ -10,12 +10,13 @@ use Rattle.mvo_model.specs.History.{History}
 use Rattle.mvo_theory.specs.State.{State, ActiveTx, StampedTx, active_of, preparing_of, history_of_active}
 use Rattle.mvo_theory.specs.Sound.{IsPlaced}
 use Rattle.mvo_theory.specs.Causes.{awaited, end_of, end_at}
-use Rattle.mvo_theory.specs.Calls.{Call, Result as CallResult, trace_of}
+use Rattle.mvo_theory.specs.Groups.{Group}
+use Rattle.mvo_theory.specs.Calls.{Call, Result as CallResult, after_run, trace_of}
 use Rattle.mvo_theory.specs.Calls.Call.{Begin, Do, Precommit, Validate, Settle, Rollback, Finish, Trim, Close}
 use Rattle.mvo_theory.specs.Calls.Result.{Accepted, Refused}
 use Rattle.mvo_theory.proofs.Who.{preparing_settled}
 use Rattle.mvo_theory.proofs.Below.{none_some, some_same}
-use Rattle.mvo_readonly.specs.Whole.{ReaderStage, CommittedReader, stage_of}
+use Rattle.mvo_readonly.specs.Whole.{ReaderStage, CommittedReader, WholeState, stage_of}
 use Rattle.mvo_readonly.specs.WholeCauses.{WholeCall, MayComeAtStage, awaited_by_reader}
 use Rattle.mvo_readonly.specs.WholeCauses.WholeCall.{CoreCall, BeginReadOnly}
 use Rattle.mvo_readonly.specs.WholeCalls.{core_at_stage, core_calls, unless_awaited, committed_unless, committed_at_stage, committed_after, steps_of_whole_call, after_whole_call}

@@ -1,5 +1,5 @@
 -- So many collections one after another.
-use Rattle.std.proofs.Common.{ℕ, ◌+◌, ◌<◌, ap, ◌∙◌, arith}
+use Rattle.std.proofs.Common.{◌≡◌, ℕ, ◌+◌, ◌<◌, ◌≤◌, ap, ◌∙◌, arith}
 use Rattle.mvo_core.specs.Collection.TheVariants.{Collected, Nothing}
 use Rattle.mvo_core.specs.Garbage.{horizon, garbage_count}
 use Rattle.mvo_core.specs.Data.{CoreData}

@@ -1,8 +1,8 @@
 -- The core under its lock stays sound.
-use Rattle.std.proofs.Common.{◌≡◌, ◌≤◌, List, [], ◌∷◌, ◌++◌, Bool, false, Result, Ok, Err, refl, sym, ap, ◌∙◌, subst, arith}
+use Rattle.std.proofs.Common.{◌≡◌, ℕ, ◌≤◌, List, [], ◌∷◌, ◌++◌, Bool, false, Result, Ok, Err, refl, sym, ap, ◌∙◌, subst, arith}
 use Rattle.mvo_types.specs.declared.refusal.Refusal.{Refusal}
 use Rattle.mvo_group.specs.Data.{GroupData}
-use Rattle.mvo_theory.specs.State.{StampedTx, Marks}
+use Rattle.mvo_theory.specs.State.{State, StampedTx, Marks}
 use Rattle.mvo_theory.specs.Sound.{IsPast, IsPlaced}
 use Rattle.mvo_theory.specs.Changes.{after_close}
 use Rattle.mvo_theory.specs.Groups.{Group, AreGroupsOf}

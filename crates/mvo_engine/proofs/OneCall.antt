@@ -1,5 +1,5 @@
 -- A program that has run with an engine of a disk.
-use Rattle.std.proofs.Common.{◌≡◌, Result, subst}
+use Rattle.std.proofs.Common.{◌≡◌, Result, Err, subst}
 use Rattle.mvo_types.specs.declared.refusal.Refusal.{Refusal}
 use Rattle.mvo_disk.specs.declared.disk.Disk.{Ghosts}
 use Rattle.mvo_store.specs.Opening.{KeepsContent, LeavesAsBefore}

@@ -9,7 +9,7 @@ use Rattle.mvo_types.specs.declared.limits.TheConstants.{MAX_STAMP, MAX_TABLE, M
 use Rattle.mvo_types.specs.declared.op.Op.{Op}
 use Rattle.mvo_types.specs.declared.op.Op.TheVariants.{Read, Scan, Insert, Update, Delete}
 use Rattle.mvo_types.specs.declared.refusal.Refusal.{Refusal}
-use Rattle.mvo_types.specs.declared.refusal.Refusal.TheVariants.{NoSuchTransaction, Ended, NotValidated, ReadOnly, TableFull, TooManyWrites, TooManyReads, DataTooLong, BadTable, ClockSpent, OutOfMemory, WriteConflict, DependencyAborted}
+use Rattle.mvo_types.specs.declared.refusal.Refusal.TheVariants.{NoSuchTransaction, Ended, NotActive, NotPreparing, NotValidated, ReadOnly, TableFull, TooManyWrites, TooManyReads, DataTooLong, BadTable, ClockSpent, OutOfMemory, WriteConflict, DependencyAborted}
 use Rattle.mvo_types.specs.declared.answer.Answer.{Answer}
 use Rattle.mvo_types.specs.declared.ids.TxId.{TxId}
 use Rattle.mvo_types.specs.declared.ids.Stamp.{Stamp}
@@ -17,15 +17,15 @@ use Rattle.mvo_types.specs.Causes.{when, first_cause}
 use Rattle.mvo_theory.specs.State.{State, StampedTx, preparing_of, history_of_active}
 use Rattle.mvo_theory.specs.Phases.{phase_in, is_absent, is_ended}
 use Rattle.mvo_theory.specs.Causes.{unfinished, unless_active, unless_preparing, is_entry_too_many, is_write_too_many, conflict, was_valid, flagged, conflicts, differs, entry_differs, next_differs, why_not_begin, why_not_do, why_not_precommit, why_not_validate, why_not_settle, why_not_rollback}
-use Rattle.mvo_theory.specs.Calls.{Call, IsRefusal}
+use Rattle.mvo_theory.specs.Calls.{Call, IsRefusal, why_not, takes_memory}
 use Rattle.mvo_theory.specs.Calls.Call.{Begin, Do, Precommit, Validate, Settle, Rollback}
 use Rattle.mvo_model.specs.History.{History}
 use Rattle.mvo_core.specs.declared.answers.Settlement.{Settlement}
 use Rattle.mvo_core.specs.declared.answers.Settlement.TheVariants.{Committed}
 use Rattle.mvo_core.specs.Data.{CoreData}
 use Rattle.mvo_core.specs.WholeEnds.{IsSettlementWhole}
-use Rattle.mvo_readonly.specs.Whole.{ReaderStage, WholeState, id_named, stage_named}
-use Rattle.mvo_readonly.specs.WholeCauses.{unless_reading, unless_prepared, unless_read_only, is_valid_stage, why_not_at_stage, takes_memory_at_stage}
+use Rattle.mvo_readonly.specs.Whole.{ReaderStage, WholeState, phase_at_stage, id_named, stage_named}
+use Rattle.mvo_readonly.specs.WholeCauses.{unless_reading, unless_prepared, unless_read_only, is_valid_stage, why_not_at_stage, takes_memory_at_stage, reader_takes_memory}
 use Rattle.mvo_core.specs.WholeStanding.{IsWholeStep}
 use Rattle.mvo_engine.specs.run.Opening.{Opening}
 use Rattle.mvo_engine.specs.Sound.{IsSoundCore}

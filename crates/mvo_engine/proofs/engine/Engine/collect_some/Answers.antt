@@ -1,4 +1,4 @@
-use Rattle.std.proofs.Common.{◌≤◌, ◌++◌, [], ◌∷◌, arith}
+use Rattle.std.proofs.Common.{◌≡◌, ◌≤◌, ◌-◌, ◌++◌, [], ◌∷◌, arith}
 use Rattle.mvo_theory.proofs.Each.{each_append}
 use Rattle.mvo_engine.specs.declared.engine.TheConstants.{AT_ONCE}
 use Rattle.mvo_engine.specs.Keeping.{WasPiece}

@@ -1,4 +1,4 @@
-use Rattle.std.specs.Prelude.{List}
+use Rattle.std.specs.Prelude.{◌≡◌, List}
 use Rattle.mvo_types.specs.declared.ids.Stamp.{Stamp}
 use Rattle.mvo_engine.specs.Keeping.{WereFlushed}
 use Rattle.mvo_engine.proofs.Upkeep.{EndsWith}

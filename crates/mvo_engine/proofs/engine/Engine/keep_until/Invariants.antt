@@ -1,4 +1,4 @@
-use Rattle.std.specs.Prelude.{List}
+use Rattle.std.specs.Prelude.{◌≡◌, List}
 use Rattle.mvo_engine.specs.declared.keeper.Keeper.{Keeper}
 use Rattle.mvo_engine.specs.Keeping.{AreTurns}
 use Rattle.mvo_engine.proofs.engine.Engine.keep_until.Given as goal
