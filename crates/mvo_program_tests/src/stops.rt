@@ -4,4 +4,6 @@ mod failing;
 mod forgotten;
 mod longer;
 mod looked_at;
+mod moments;
 mod random;
+mod read_only;
