@@ -34,7 +34,8 @@ pub enum Task<'a> {
     Stats(&'a str),
     /// `mvo keep DIR`: what is due of the files of the store in a folder.
     Keep(&'a str),
-    /// `mvo work DIR --workers N [--keep] FILE..`: each file's script as a job over the store in a folder.
+    /// `mvo work DIR --workers N [--keep] FILE..`: each file's script as a job over the store in a
+    /// folder.
     Work(WorkTask<'a>),
     /// `mvo stops FILE`: whether a stop or a fault at any call leaves what a script was promised.
     Stops(&'a str),
