@@ -11,6 +11,7 @@ mod ending;
 mod gathering;
 mod held_disk;
 mod jobs;
+mod kept;
 mod kinds;
 mod lasting;
 mod letting_by;

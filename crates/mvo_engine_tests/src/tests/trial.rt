@@ -8,6 +8,7 @@ use super::down::go_down;
 use super::gathering::gather_all;
 use super::held_disk::Hold;
 use super::jobs::do_jobs;
+use super::kept::{keep_alone, keep_beside};
 use super::lasting::{last_a_day, make_many, stay};
 use super::meeting::meet_for_a_key;
 use super::older::give_way;
@@ -47,6 +48,7 @@ pub enum Alone<'t> {
     AllSessions,
     Upkeep(&'t AtomicU64),
     Jobs(&'t AtomicU64),
+    Kept,
     MergeWaits,
     Down,
     /// Sessions are made and given back, one at a time.
@@ -67,6 +69,7 @@ pub enum Meeting<'t> {
     Flushes(&'t Words),
     Waits(&'t Words),
     MergeBesideCheckpoint,
+    Keeping,
     Gathering,
     Day,
     /// A day of sessions that forget, with trims between.
@@ -97,6 +100,7 @@ fn go_alone<L: Run, D: Disk, G: Gate + Drop, R: Abort + Wait>(
         Alone::AllSessions => make_all(rt, alloc, engine),
         Alone::Upkeep(passes) => keep_up(rt, alloc, engine, passes),
         Alone::Jobs(passes) => do_jobs(rt, alloc, engine, passes),
+        Alone::Kept => keep_alone(rt, alloc, engine),
         Alone::MergeWaits => merge_waits(rt, alloc, engine),
         Alone::Down => go_down(rt, alloc, engine),
         Alone::Retiring => make_many(rt, engine),
@@ -119,6 +123,7 @@ fn go_in_threads<
         Meeting::Flushes(words) => flush_both(rt, alloc, engine, words),
         Meeting::Waits(words) => wait_and_flush(rt, alloc, engine, words),
         Meeting::MergeBesideCheckpoint => merge_in_threads(rt, alloc, engine),
+        Meeting::Keeping => keep_beside(rt, alloc, engine),
         Meeting::Gathering => gather_all(rt, alloc, engine),
         Meeting::Day => spend_day(rt, alloc, engine),
         Meeting::LastingDay => last_a_day(rt, alloc, engine),
