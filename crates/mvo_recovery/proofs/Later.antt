@@ -1,9 +1,9 @@
 -- What stands by versions up to one stands by those up to a later one.
-use Rattle.std.proofs.Common.{inl, inr, ℕ, ◌≤◌, List, [], ◌∷◌, arith}
+use Rattle.std.proofs.Common.{◌≡◌, inl, inr, ℕ, ◌≤◌, List, [], ◌∷◌, Some, refl, arith}
 use Rattle.mvo_group.specs.Data.{GroupData}
-use Rattle.mvo_format.specs.declared.format.TheConstants.{FIRST_FORMAT}
-use Rattle.mvo_format.specs.Formats.{IsFormatUpTo, IsVersion}
-use Rattle.mvo_format.proofs.Versions.{known_later, first_known}
+use Rattle.mvo_format.specs.declared.format.TheConstants.{LAST_FORMAT}
+use Rattle.mvo_format.specs.Formats.{IsFormatUpTo, IsVersion, format_of}
+use Rattle.mvo_format.proofs.Versions.{known_later}
 use Rattle.mvo_frame.specs.declared.kind.Kind.{Kind}
 use Rattle.mvo_frame.specs.Frames.{IsSegment, mark_after}
 use Rattle.mvo_pair.specs.declared.pair.Pair.{Pair}
@@ -35,10 +35,18 @@ module _ (v w : ℕ) (le : v ≤ w) where
   sealed_later content [] mark gs next have = have
   sealed_later content (n ∷ ns) mark gs next have = (have.0, have.1, have.2, segment_later mark Rattle.mvo_frame.specs.declared.kind.Kind.TheVariants.Sealed have.0 (content n) have.3, sealed_later content ns (mark_after mark have.0) have.1 next have.4)
 
--- a manifest may name files of the first version
-pub first_up_to : (m : ManifestData) → IsManifest m → IsFormatUpTo m.version FIRST_FORMAT
-first_up_to m is = record { is = first_known.is; within = within is.rules.version }
+-- no manifest is of a version that isn't known
+pub up_to_last : (m : ManifestData) → IsManifest m → m.version ≤ LAST_FORMAT.version
+up_to_last m is = within is.rules.version
   where
-    within : IsVersion m.version → FIRST_FORMAT.version ≤ m.version
+    within : IsVersion m.version → m.version ≤ LAST_FORMAT.version
     within (inl e) = omega (arith, e)
     within (inr e) = omega (arith, e)
+
+last_is : format_of LAST_FORMAT.version ≡ Some LAST_FORMAT
+unfolding format_of
+last_is = refl
+
+-- the last version is known
+pub last_known : IsFormatUpTo LAST_FORMAT.version LAST_FORMAT
+last_known = record { is = last_is; within = omega arith }

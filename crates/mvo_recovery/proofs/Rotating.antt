@@ -1,5 +1,5 @@
 -- An append beside a running rotation keeps what the rotation has made.
-use Rattle.std.proofs.Common.{◌≡◌, ◌≢◌, ℕ, ◌+◌, ◌<◌, List, refl, sym, subst, arith}
+use Rattle.std.proofs.Common.{◌≡◌, ◌≢◌, ℕ, ◌+◌, ◌<◌, Bool, List, refl, sym, subst, arith}
 use Rattle.std.specs.List.{Contains}
 use Rattle.std.proofs.lemmas.List.Elements.{All-contains}
 use Rattle.mvo_disk.specs.Disk.{OthersStay}
@@ -11,7 +11,7 @@ use Rattle.mvo_recovery.specs.image.Opens.{Image}
 use Rattle.mvo_recovery.specs.Parts.{Parts, IsLastFile}
 use Rattle.mvo_recovery.specs.Settled.{other_slot, IsSettled}
 use Rattle.mvo_recovery.specs.Installing.{IsStagedBeside}
-use Rattle.mvo_recovery.specs.Rotation.{rotated, IsFreshSegment}
+use Rattle.mvo_recovery.specs.Rotation.{rotated, segments_left, IsFreshSegment}
 use Rattle.mvo_recovery.proofs.Named.{last_named, slot_below}
 use Rattle.mvo_recovery.proofs.Framed.{files_stay_others}
 use Rattle.mvo_recovery.proofs.Rotated.{fresh_framed}
@@ -31,8 +31,8 @@ pub last_not_fresh : (m : ManifestData) (file fresh : ℕ) → IsLastFile m file
 last_not_fresh m file fresh last unnamed e = unnamed (subst (Contains (named m)) (sym e) (last_named m last.0 file last.1))
 
 -- which is the last after the rotation
-pub rotated_last : (m : ManifestData) (fresh : ℕ) → IsLastFile (rotated m fresh) fresh
-rotated_last m fresh = (m.segments, refl)
+pub rotated_last : (replaces : Bool) (m : ManifestData) (fresh : ℕ) → IsLastFile (rotated replaces m fresh) fresh
+rotated_last replaces m fresh = (segments_left replaces m.segments, refl)
 
 module _ (old new : Image) (may_old may_new : ℕ → List ℕ → Type 0) (file : ℕ) (rest : OthersStay file old new may_old may_new) where
   -- a fresh segment in another file

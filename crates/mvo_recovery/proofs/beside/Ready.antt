@@ -1,12 +1,14 @@
 -- One pair in the place of the two, with the numbers that came late: it may be installed.
-use Rattle.std.proofs.Common.{◌≡◌, ◌≢◌, inr, ℕ, ◌<◌, ◌^◌, List, ◌∷◌, ◌++◌, length, drop, refl, sym, ap, subst, ◌∙◌, arith, length-append}
+use Rattle.std.proofs.Common.{◌≡◌, ◌≢◌, inr, ℕ, ◌<◌, ◌≤◌, ◌^◌, List, ◌∷◌, ◌++◌, length, drop, refl, sym, ap, subst, ◌∙◌, arith, length-append}
 use Rattle.std.specs.Prelude.{map, All, AllPairs}
 use Rattle.std.specs.List.{Contains}
 use Rattle.std.proofs.lemmas.List.{length-map}
 use Rattle.mvo_types.specs.Keys.{Map}
 use Rattle.mvo_disk.specs.Disk.{Only}
 use Rattle.mvo_format.specs.declared.format.Format.{Format}
+use Rattle.mvo_format.specs.declared.format.TheConstants.{LAST_FORMAT}
 use Rattle.mvo_format.specs.Formats.{IsFormatUpTo}
+use Rattle.mvo_frame.specs.declared.kind.Kind.TheVariants.{Last}
 use Rattle.mvo_pair.specs.declared.pair.Pair.{Pair}
 use Rattle.mvo_pair.specs.Data.{Numbered, AreApart}
 use Rattle.mvo_pair.specs.Files.{HasEntries}
@@ -26,6 +28,7 @@ use Rattle.mvo_recovery.specs.Parts.{Parts, MakeUpSame, HasParts}
 use Rattle.mvo_recovery.specs.Settled.{IsSettled}
 use Rattle.mvo_recovery.specs.Installing.{IsReady}
 use Rattle.mvo_recovery.specs.Merging.{MergeData, merged_manifest, HasRecords}
+use Rattle.mvo_recovery.proofs.Later.{up_to_last, live_later, sealed_later, segment_later}
 use Rattle.mvo_recovery.proofs.Merged.{named_merged, named_cases, manifest_merged, rise_merged}
 use Rattle.mvo_recovery.specs.beside.Seen.{SeenData, Loads, WasSeen, pairs_now, MayMergeNow, NumbersNow, HasLate, lives_now, parts_now}
 use Rattle.mvo_recovery.specs.beside.Laws.{FindsLate}
@@ -178,29 +181,31 @@ module _ (content : Image) (may : ℕ → List ℕ → Type 0) (m : ManifestData
   abbrev twice : HaveTwo m.version content seen.before (left_now content m s seen) (right_now content m s seen) x.lives
   twice = two_now content m s seen x.lives parts.live
 
-  module _ (may_merge : MayMergeNow m s pair (records_of s.live_left s.live_right) (length lates)) (f : Format) (known : IsFormatUpTo m.version f) (data_file : HasRecords f content may pair (records_of s.live_left s.live_right)) (delta_file : HasLate f content may pair lates) where
-    pair_loads : Loads m.version content pair joined
+  module _ (may_merge : MayMergeNow m s pair (records_of s.live_left s.live_right) (length lates)) (f : Format) (known : IsFormatUpTo LAST_FORMAT.version f) (data_file : HasRecords f content may pair (records_of s.live_left s.live_right)) (delta_file : HasLate f content may pair lates) where
+    pair_loads : Loads LAST_FORMAT.version content pair joined
     pair_loads =
-        loads_merged m.version f pair s.live_left s.live_right (drop s.left.entries now.left) (drop s.right.entries now.right) (content pair.data_file) (content pair.delta_file) known
+        loads_merged LAST_FORMAT.version f pair s.live_left s.live_right (drop s.left.entries now.left) (drop s.right.entries now.right) (content pair.data_file) (content pair.delta_file) known
         (subst (λ k. HasEntries f pair.lo.0 pair.hi.0 k (records_of s.live_left s.live_right) (content pair.data_file)) (sym may_merge.counted) data_file.has) delta_file.has
 
-    live_now : HaveLive m.version content (seen.before ++ pair ∷ seen.behind) y.lives
+    le : m.version ≤ LAST_FORMAT.version
+    le = up_to_last m is_manifest
+
+    live_now : HaveLive LAST_FORMAT.version content (seen.before ++ pair ∷ seen.behind) y.lives
     live_now =
-        subst (λ (ls : List (List Numbered)). HaveLive m.version content (seen.before ++ pair ∷ seen.behind) ls) (sym (new_lives content m x.lives s is_manifest parts.live seen now))
-        (have_one m.version content seen.before seen.behind (left_now content m s seen) (right_now content m s seen) pair twice.front twice.back twice.left twice.right joined twice.each
-        (subst (λ (ls : List (List Numbered)). HaveLive m.version content (seen.before ++ left_now content m s seen ∷ right_now content m s seen ∷ seen.behind) ls) twice.are (subst (λ (ps : List Pair). HaveLive m.version content ps x.lives) seen.pairs parts.live)) pair_loads)
+        subst (λ (ls : List (List Numbered)). HaveLive LAST_FORMAT.version content (seen.before ++ pair ∷ seen.behind) ls) (sym (new_lives content m x.lives s is_manifest parts.live seen now))
+        (have_one LAST_FORMAT.version content seen.before seen.behind (left_now content m s seen) (right_now content m s seen) pair twice.front twice.back twice.left twice.right joined twice.each
+        (live_later m.version LAST_FORMAT.version le content (seen.before ++ left_now content m s seen ∷ right_now content m s seen ∷ seen.behind) (twice.front ++ twice.left ∷ twice.right ∷ twice.back) (subst (λ (ls : List (List Numbered)). HaveLive m.version content (seen.before ++ left_now content m s seen ∷ right_now content m s seen ∷ seen.behind) ls) twice.are (subst (λ (ps : List Pair). HaveLive m.version content ps x.lives) seen.pairs parts.live))) pair_loads)
 
     pub ready_now : IsReady content may (merged_manifest m (pairs_now seen pair)) y
     ready_now = record {
       parts = record {
-        version = parts.version;
         sealed_files = parts.sealed_files;
         last_file = parts.last_file;
         segments = parts.segments;
         live = live_now;
         distinct = apart_now content m x.lives s is_manifest parts.live seen now parts.distinct;
-        sealed = parts.sealed;
-        last = parts.last;
+        sealed = sealed_later m.version LAST_FORMAT.version le content parts.sealed_files m.checkpoint_mark x.sealed x.middle parts.sealed;
+        last = segment_later m.version LAST_FORMAT.version le x.middle Last x.last (content parts.last_file) parts.last;
       };
       durable = λ n has. named_cases m (pairs_now seen pair) seen.pairs n has (λ k. Only (content k) (may k)) (λ old. settled.durable n (inr old)) data_file.durable delta_file.durable;
     }

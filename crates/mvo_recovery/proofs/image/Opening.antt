@@ -3,7 +3,7 @@ use Rattle.std.proofs.Common.{ℕ, Bool, List, [], ◌∷◌, sym, arith}
 use Rattle.std.specs.List.{AllByRecursion}
 use Rattle.mvo_pair.specs.Loading.{LoadsAs}
 use Rattle.mvo_pair.specs.Reading.{pair_found}
-use Rattle.mvo_format.specs.declared.header.TheConstants.{VERSION}
+use Rattle.mvo_format.specs.declared.format.TheConstants.{LAST_FORMAT}
 use Rattle.mvo_pair.specs.declared.pair.Pair.{Pair}
 use Rattle.mvo_pair.proofs.Loads.{Fits, loads}
 use Rattle.mvo_frame.specs.Reading.{segment_found}
@@ -28,8 +28,8 @@ pub segment_exact : SegmentIsExact
 segment_exact upto file mark kind bytes fits = (segment_says upto file mark kind bytes fits, λ z h. sym (segment_alone upto file mark kind bytes fits z h))
 
 module _ (image : Image) (is : AreFiles image) where
-  slot_one : (n : ℕ) → HasOne (SlotSays VERSION n (image n))
-  slot_one n = (slot_found VERSION n (image n), slot_exact VERSION n (image n) (is n))
+  slot_one : (n : ℕ) → HasOne (SlotSays LAST_FORMAT.version n (image n))
+  slot_one n = (slot_found LAST_FORMAT.version n (image n), slot_exact LAST_FORMAT.version n (image n) (is n))
 
   segment_one : (upto n mark : ℕ) (last : Bool) → HasOne (SegmentSays upto n mark last (image n))
   segment_one upto n mark last = (segment_found upto n mark (kind_of last) (image n), segment_exact upto n mark (kind_of last) (image n) (is n))
@@ -43,7 +43,7 @@ module _ (image : Image) (is : AreFiles image) where
 
 pub one_answer : HasOneAnswer
 one_answer image is =
-    opens_one (SlotSays VERSION) SegmentSays image (record {
+    opens_one (SlotSays LAST_FORMAT.version) SegmentSays image (record {
       slot = slot_one image is;
       pair = λ n m has. pairs_one image is m.version 0 m.checkpoint_mark m.pairs has.0.is.rules.rise;
       segment = segment_one image is;
@@ -51,6 +51,6 @@ one_answer image is =
 
 pub exact : IsExact
 exact image rows mark = (
-  opens_gives (SlotSays VERSION) SegmentSays image rows mark,
-  gives_opens (SlotSays VERSION) SegmentSays image rows mark,
+  opens_gives (SlotSays LAST_FORMAT.version) SegmentSays image rows mark,
+  gives_opens (SlotSays LAST_FORMAT.version) SegmentSays image rows mark,
 )

@@ -3,6 +3,7 @@ use Rattle.std.specs.Prelude.{◌≡◌, ◌≢◌, ℕ, ◌+◌, ◌<◌, ◌�
 use Rattle.std.specs.List.{Contains, IsDistinct, flat_map}
 use Rattle.mvo_types.specs.declared.limits.TheConstants.{MAX_PAIR_RECORDS}
 use Rattle.mvo_format.specs.declared.format.Format.{Format}
+use Rattle.mvo_format.specs.declared.format.TheConstants.{LAST_FORMAT}
 use Rattle.mvo_format.specs.Formats.{IsFormatUpTo}
 use Rattle.mvo_pair.specs.declared.pair.Pair.{Pair}
 use Rattle.mvo_pair.specs.Data.{Numbered}
@@ -103,8 +104,8 @@ pub record IsMergedNow (content : Image) (may : ℕ → List ℕ → Type 0) (m 
   pub ready : IsReady content may (merged_manifest m c) y
   pub same : MakeUpSame x y
 
--- Where the files of a pair, of a version up to the manifest's, hold the records that were seen,
--- and the numbers that came late, renumbered, it may be installed in the place of the two.
+-- Where the files of a pair, of a known version, hold the records that were seen, and the numbers
+-- that came late, renumbered, it may be installed in the place of the two.
 abbrev pub MergeBesideIsReady : Image → (ℕ → List ℕ → Type 0) → Type 0
 MergeBesideIsReady content may = (f : Format) (m : ManifestData) (x : Parts) (s : SeenData)
     (pair : Pair) → IsSettled content may m x → (seen : WasSeen content m s) →
@@ -113,7 +114,8 @@ MergeBesideIsReady content may = (f : Format) (m : ManifestData) (x : Parts) (s 
     let late_right = drop s.right.entries now.right in
     let late = renumbered (renumbering_of s.live_left s.live_right) late_left late_right in
     MayMergeNow m s pair (records_of s.live_left s.live_right) (length late) →
-    IsFormatUpTo m.version f → HasRecords f content may pair (records_of s.live_left s.live_right) →
+    IsFormatUpTo LAST_FORMAT.version f →
+    HasRecords f content may pair (records_of s.live_left s.live_right) →
     HasLate f content may pair late →
     IsMergedNow content may m x (pairs_now seen pair)
     (parts_now s (live_after s.live_left s.live_right late_left late_right) x)

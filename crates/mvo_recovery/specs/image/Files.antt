@@ -8,7 +8,7 @@ use Rattle.mvo_frame.specs.declared.kind.Kind.TheVariants.{Sealed, Last}
 use Rattle.mvo_frame.specs.declared.magic.TheConstants.{MAGIC}
 use Rattle.mvo_frame.specs.Frames.{IsSegment}
 use Rattle.mvo_manifest.specs.Slots.{SlotSays}
-use Rattle.mvo_format.specs.declared.header.TheConstants.{VERSION}
+use Rattle.mvo_format.specs.declared.format.TheConstants.{LAST_FORMAT}
 use Rattle.mvo_recovery.specs.image.Opens.{Image, OpeningOutcome, SegmentReading, Opens}
 use Rattle.mvo_recovery.specs.image.Gives.{ImageGives}
 
@@ -24,11 +24,10 @@ SegmentIs upto file mark kind bytes =
 abbrev pub SegmentSays : ℕ → SegmentReading
 SegmentSays upto n mark last = SegmentIs upto n mark (kind_of last)
 
--- What opening an image answers: a manifest is of a version up to the one that is written, and the
--- files that it names are of versions up to its own.
+-- What opening an image answers: the files that a manifest names are of versions up to its own.
 abbrev pub OpensAs : Image → OpeningOutcome → Type 0
-OpensAs = Opens (SlotSays VERSION) SegmentSays
+OpensAs = Opens (SlotSays LAST_FORMAT.version) SegmentSays
 
 -- The image is well formed, and gives these rows and this mark.
 abbrev pub GivesRows : Image → Map → ℕ → Type 0
-GivesRows = ImageGives (SlotSays VERSION) SegmentSays
+GivesRows = ImageGives (SlotSays LAST_FORMAT.version) SegmentSays
