@@ -17,13 +17,12 @@ use mvo_types::Refusal;
 use std::alloc::Global;
 use std::thread::Threads;
 
-/// What a disk holds of files of the versions up to the one that is written. Nothing changes, and
-/// no stop within it leaves anything new. Files are read one after another, and the records of
-/// pairs in threads, unless the manifest says that there are fewer than 8,192; memory is taken in
-/// proportion to the bytes of one pair's files or of one segment, and to the rows. The place of a
-/// live record takes 13 bytes where the records are read in threads, and else 32 or more, as that
-/// of a key which is put later; the seed is for the table of these, and who chose the keys can't
-/// know it.
+/// What a disk holds of files of the known versions. Nothing changes, and no stop within it leaves
+/// anything new. Files are read one after another, and the records of pairs in threads, unless the
+/// manifest says that there are fewer than 8,192; memory is taken in proportion to the bytes of one
+/// pair's files or of one segment, and to the rows. The place of a live record takes 13 bytes where
+/// the records are read in threads, and else 32 or more, as that of a key which is put later; the
+/// seed is for the table of these, and who chose the keys can't know it.
 ///
 /// Refused by the first rule that is broken, in this order: Corrupt with 0 or BadVersion by slot 0,
 /// Corrupt with 1 or BadVersion by slot 1, NotFormatted where no slot is open; of the pairs in
