@@ -7,7 +7,7 @@ use Rattle.mvo_manifest.specs.Data.{ManifestData, named, pair_files}
 use Rattle.mvo_manifest.specs.Rules.{IsManifest}
 use Rattle.mvo_recovery.specs.Parts.{Parts}
 use Rattle.mvo_recovery.specs.Settled.{IsSettled, other_slot}
-use Rattle.mvo_recovery.proofs.Named.{named_is_no_slot, pairs_named, slot_below}
+use Rattle.mvo_recovery.proofs.Named.{named_is_no_slot, pairs_named, slot_below, last_named}
 use Rattle.mvo_recovery.proofs.Pairs.{delta_among}
 use Rattle.mvo_recovery.proofs.Framed.{files_stay_others}
 use Rattle.mvo_recovery.specs.beside.Seen.{CountsStay}
@@ -32,7 +32,7 @@ use Rattle.mvo_store.specs.Jobs.Job.{Rotation, Checkpoint, Merge, MergeInstall}
 use Rattle.mvo_store.specs.Standing.{IsRunning, IsMergingAt, ShareNoFile}
 use Rattle.mvo_store.specs.Writing.{IsFileAt, IsMergeFileAt}
 use Rattle.mvo_store.proofs.Numbered.{same_due}
-use Rattle.mvo_store.proofs.Working.{IsOfPair, RestsOn, IsNew, written_of_pair, job_framed, records_framed, merge_new}
+use Rattle.mvo_store.proofs.Working.{IsOfPair, RestsOn, IsNew, keeps_last, written_of_pair, job_framed, records_framed, merge_new}
 
 -- ---- the job whose step is due
 
@@ -171,7 +171,7 @@ module _ (old new : Image) (may_old may_new : ℕ → List ℕ → Type 0) (m : 
 
       -- THE CHECKPOINT STANDS beside a step of the merge.
       pub checkpoint_stays : IsRunning old may_old m x (Checkpoint c) → IsRunning new may_new m x (Checkpoint c)
-      checkpoint_stays runs = job_framed old new may_old may_new m is x settled.installed.parts x.last (λ some. some) (Checkpoint c) (files_stay_others old new may_old may_new (RestsOn m (Checkpoint c)) file not_rested rest) (rest.content (other_slot m) no_slot) runs
+      checkpoint_stays runs = job_framed old new may_old may_new m is x settled.installed.parts x.last (keeps_last old new m x file rest.content (λ last. file_new.unnamed (last_named m last.0 file last.1))) (Checkpoint c) (files_stay_others old new may_old may_new (RestsOn m (Checkpoint c)) file not_rested rest) (rest.content (other_slot m) no_slot) runs
 
 -- ---- the merge beside an install of the checkpoint
 

@@ -8,7 +8,7 @@ use Rattle.mvo_types.specs.declared.refusal.Refusal.TheVariants.{DiskFault}
 use Rattle.mvo_disk.specs.declared.disk.Disk.{Ghosts}
 use Rattle.mvo_disk.specs.Disk.{Image, Only, AllStay, OthersStay, AllOf, Touched, LeavesOnly, IsHonest}
 use Rattle.mvo_disk.specs.Moments.{started, weaker, runs_on}
-use Rattle.mvo_format.specs.declared.header.TheConstants.{VERSION}
+use Rattle.mvo_format.specs.declared.format.TheConstants.{LAST_FORMAT}
 use Rattle.mvo_pair.specs.declared.pair.Pair.{Pair}
 use Rattle.mvo_pair.specs.Data.{EntryData}
 use Rattle.mvo_pair.specs.Files.{AreNumbers, delta_bytes}
@@ -68,8 +68,8 @@ module _ (content : Image) (m : ManifestData) (saw : SeenData) (seen : WasSeen c
       let whole : m.pairs ≡ (seen.before ++ two) ++ seen.behind = seen.pairs ∙ sym (append_assoc seen.before two seen.behind) in
       let long : length (seen.before ++ two) ≡ saw.place + 2 = omega (arith, seen.at, length-append seen.before two) in
       let back : drop (saw.place + 2) m.pairs ≡ seen.behind = ap (λ (ps : List Pair). drop (saw.place + 2) ps) whole ∙ drop_at (seen.before ++ two) seen.behind (saw.place + 2) long in
-      ap (λ (ps : List Pair). manifest_of m.version (m.generation + 1) m.checkpoint_mark (ps ++ p ∷ drop (saw.place + 2) m.pairs) m.segments) front
-      ∙ ap (λ (ps : List Pair). manifest_of m.version (m.generation + 1) m.checkpoint_mark (seen.before ++ p ∷ ps) m.segments) back
+      ap (λ (ps : List Pair). manifest_of LAST_FORMAT.version (m.generation + 1) m.checkpoint_mark (ps ++ p ∷ drop (saw.place + 2) m.pairs) m.segments) front
+      ∙ ap (λ (ps : List Pair). manifest_of LAST_FORMAT.version (m.generation + 1) m.checkpoint_mark (seen.before ++ p ∷ ps) m.segments) back
 
 -- the delta file of a pair has room for the numbers that count
 pub counted_start : (content : Image) (may : ℕ → List ℕ → Type 0) (m : ManifestData) (x : Parts) → IsSettled content may m x → (p : Pair) → Contains m.pairs p → place_behind p.entries ≤ length (content p.delta_file)
@@ -197,7 +197,7 @@ module _ {D : Type 0} (d : Ghosts D) (old new : D) (m : ManifestData) (g : Mergi
     end_writes touched = fill_writes d old new m (Merge g) (Merge g) delta (Unit {0}) (record { due = delta_due; takes = takes; is = delta_new; goes_on = λ x _ w _. record { work = w; install = tt } }) rest touched
 
     module _ (left right : List ℕ) (are : AreLateNow (d.content old) m g.seen left right) (next : ManifestData) (next_is : next ≡ merged_at m g.seen.place (pair_with g.seen (late_of g.seen left right)))
-        (bytes : d.content new delta ≡ delta_bytes VERSION (late_of g.seen left right)) (durable : Only (d.content new delta) (d.may_leave new delta)) where
+        (bytes : d.content new delta ≡ delta_bytes LAST_FORMAT.version (late_of g.seen left right)) (durable : Only (d.content new delta) (d.may_leave new delta)) where
       abbrev late : List ℕ
       late = late_of g.seen left right
 
@@ -218,7 +218,7 @@ module _ {D : Type 0} (d : Ghosts D) (old new : D) (m : ManifestData) (g : Mergi
             has = record {
               has = record {
                 rest = [];
-                whole = bytes ∙ sym (append-nil (delta_bytes VERSION late));
+                whole = bytes ∙ sym (append-nil (delta_bytes LAST_FORMAT.version late));
                 counted = refl;
                 are = late_are (d.content new) (d.may_leave new) m x settled g.seen merge left right are_here;
               };
@@ -302,7 +302,7 @@ module _ {D : Type 0} (d : Ghosts D) (old mid new : D) (m : ManifestData) (g : M
           next_is = w.next;
           bytes = w.bytes;
           makes = λ h. end_makes d old new m g at rest are.left are.right (are.are (w.any_moment.later.honest h)) next (subst (λ (l : List ℕ). next ≡ merged_at m g.seen.place (pair_with g.seen l)) are.is w.next)
-              (subst (λ (l : List ℕ). d.content new file ≡ delta_bytes VERSION l) are.is w.bytes) w.durable;
+              (subst (λ (l : List ℕ). d.content new file ≡ delta_bytes LAST_FORMAT.version l) are.is w.bytes) w.durable;
         };
         count = w.count ∙ count;
         why = tt;

@@ -3,7 +3,7 @@ use Rattle.std.proofs.Common.{rules, ◌≡◌, ◌≢◌, inl, inr, ℕ, ◌+�
 use Rattle.std.specs.Prelude.{map, nat_eq}
 use Rattle.std.specs.Bool.{OnTrue, OnFalse}
 use Rattle.std.proofs.lemmas.Bool.{ltb-true}
-use Rattle.std.specs.List.{IsDistinct}
+use Rattle.std.specs.List.{Contains, IsDistinct}
 use Rattle.mvo_types.specs.Keys.{Map}
 use Rattle.mvo_types.specs.declared.refusal.Refusal.{Refusal}
 use Rattle.mvo_types.specs.declared.refusal.Refusal.TheVariants.{DiskFault, OutOfMemory}
@@ -18,7 +18,7 @@ use Rattle.mvo_frame.specs.Standing.{gate_of}
 use Rattle.mvo_pair.specs.Writing.{IsWriteRefusal}
 use Rattle.mvo_pair.specs.Data.{EntryData}
 use Rattle.mvo_pair.specs.declared.pair.Pair.{Pair}
-use Rattle.mvo_manifest.specs.Data.{ManifestData}
+use Rattle.mvo_manifest.specs.Data.{ManifestData, named}
 use Rattle.mvo_manifest.specs.Rules.{IsFile}
 use Rattle.mvo_places.specs.Places.{PlaceTable, ArePlaces, file_of, taken_places}
 use Rattle.mvo_ckpt.specs.Writes.{records_of, gone_of}
@@ -44,7 +44,7 @@ use Rattle.mvo_store.specs.declared.jobs.jobs.Jobs.{Jobs}
 use Rattle.mvo_store.specs.declared.jobs.jobs.Jobs.TheVariants.{Rotation as RotationAlone, Merge as MergeAlone, Beside}
 use Rattle.mvo_store.specs.StoreData.{StoreData, opening}
 use Rattle.mvo_store.specs.Causes.{why_not_due}
-use Rattle.mvo_store.specs.Jobs.{Job, has_rotation, step_due, merge_due_of, job_due, is_step_due, stage_behind, with_step, after_step, next_installed, after_install}
+use Rattle.mvo_store.specs.Jobs.{Job, job_takes_file, has_rotation, step_due, merge_due_of, job_due, is_step_due, stage_behind, with_step, after_step, next_installed, after_install}
 use Rattle.mvo_store.specs.Jobs.Job.{Rotation, Checkpoint, Merge, MergeInstall}
 use Rattle.mvo_store.specs.Standing.{IsRunning, HaveJobs, ShareNone, JobsHaveRoom, JobHasRoom, IsUp, MayBeLeft, HasSlots, HasBody, HasWork, MayTakeOver, HaveKeys}
 use Rattle.mvo_store.specs.Safe.{IsWithin, IsSafeWork, AreSafe, HasNext, IsSafe, IsStoreSound}
@@ -69,6 +69,8 @@ use Rattle.mvo_store.proofs.Beside.{IsDueIn, due_in_jobs, merge_stays, checkpoin
 use Rattle.mvo_store.proofs.Beside.IsDueIn.{TheRotation, TheMerge, TheCheckpoint, OfMerge}
 use Rattle.mvo_store.proofs.Turning.{some_due, step_is, of_due, all_stepped, share_stepped, share_installed}
 use Rattle.mvo_store.proofs.Still.{merge_safe_after}
+use Rattle.mvo_store.proofs.Olds.{step_stays, known_next}
+use Rattle.mvo_store.specs.Old.{KnowsOld, AreUnmarked}
 use Rattle.mvo_store.proofs.Working.Installing.{OfRotation, OfCheckpoint, OfMerge as OfMergeReady}
 use Rattle.mvo_load.specs.Read.{IsMisread}
 
@@ -228,9 +230,9 @@ module _ {D : Type 0} {d : Ghosts D} {s : StoreData D} (safe : IsSafe d s) {step
       (all_stepped (IsSafeWork s.manifest) (IsSafeWork s.manifest) due safe.jobs (step_safe s.manifest j safe_work) (λ c g e k p. p) (λ c g e k p. p)) (share_stepped due safe.apart)
       (all_stepped (JobHasRoom s.places) (JobHasRoom s.places) due safe.room_for (step_room s.places j safe_room) (λ c g e k p. p) (λ c g e k p. p)) count
 
-pub opened_safe : {D : Type 0} {d : Ghosts D} {s : StoreData D} (safe : IsSafe d s) {j : Job} (due : IsDueIn (Install Open) s.jobs j) → (new : D) (places : PlaceTable) → (s.written && has_rotation s.jobs) ≡ false → d.fault_count new ≡ d.fault_count s.disk
-    → IsSafe d (record s { disk = new; manifest = manifest_after j s.manifest; places = places; segment = segment_after j s.segment; jobs = after_install s.jobs })
-opened_safe {D} {d} {s} safe {j} due new places free count = record {
+pub opened_safe : {D : Type 0} {d : Ghosts D} {s : StoreData D} (safe : IsSafe d s) {j : Job} (due : IsDueIn (Install Open) s.jobs j) → (new : D) (places : PlaceTable) (marks : List Bool) → (s.written && has_rotation s.jobs) ≡ false → d.fault_count new ≡ d.fault_count s.disk
+    → IsSafe d (record s { disk = new; manifest = manifest_after j s.manifest; places = places; old_marks = marks; segment = segment_after j s.segment; jobs = after_install s.jobs })
+opened_safe {D} {d} {s} safe {j} due new places marks free count = record {
   file = opened_file s.manifest j s.segment (safe_work safe due) safe.file;
   few = opened_few s.manifest j s.segment (safe_work safe due) safe.few;
   written = opened_next due s.segment s.written s.pending free safe.written;
@@ -281,6 +283,7 @@ module _ {D : Type 0} (d : Ghosts D) (s : StoreData D) (step : Due) (j : Job) (i
         let stands = made.stands (λ e. other (sym (step_is due_here) ∙ e)) in
         let both = λ (c : Checkpointing) (g : Merging) (e : s.jobs ≡ Beside (Some c) (Some g)). subst ShareNone e up.apart in
         stays_up d s rows up new s.places (with_step step s.jobs) stands.settled (w.rest.content s.segment.file (λ e. w.other (subst (IsLastFile s.manifest) e up.last)))
+        (step_stays (d.content s.disk) (d.content new) (d.may_leave s.disk) s.manifest up.parts up.settled made.counts j stood.job.work w.file w.is w.rest.content)
         (all_stepped (IsRunning (d.content s.disk) (d.may_leave s.disk) s.manifest up.parts) (IsRunning (d.content new) (d.may_leave new) s.manifest up.parts) due_here up.jobs stands.job
         (λ c g e k runs. merge_stays (d.content s.disk) (d.content new) (d.may_leave s.disk) (d.may_leave new) s.manifest up.parts up.settled w.file w.rest c g (both c g e) (at_checkpoint s.manifest j c w.file k w.is) runs.work made.counts)
         (λ c g e k runs. checkpoint_stays (d.content s.disk) (d.content new) (d.may_leave s.disk) (d.may_leave new) s.manifest up.parts up.settled w.file w.rest c g (both c g e) (at_merge s.manifest j g w.file k w.is) (merge_work c g e k rows up) runs))
@@ -336,20 +339,24 @@ module _ {D : Type 0} (d : Ghosts D) (s : StoreData D) (rows : Map) (up : IsUp d
     next_settled next one_more i is = settled_after (d.content s.disk) (d.content new) (d.may_leave s.disk) (d.may_leave new) m up.parts up.settled (other_slot m) refl
         (subst (λ k. OthersStay k (d.content s.disk) (d.content new) (d.may_leave s.disk) (d.may_leave new)) at rest) is.durable next i.parts one_more i.ready is.has
 
-    -- the store is up with it, with these places and this segment
-    with_next : (next : ManifestData) (i : Installs (d.content s.disk) (d.may_leave s.disk) up.parts next) (places : PlaceTable) (segment : Segment) (jobs : Jobs) → HaveJobs (d.content new) (d.may_leave new) next i.parts jobs → ShareNone jobs → JobsHaveRoom places jobs → IsSettled (d.content new) (d.may_leave new) next i.parts → IsLastFile next segment.file
+    -- a slot isn't named
+    named_stays : (next : ManifestData) (y : Parts) → IsSettled (d.content new) (d.may_leave new) next y → (n : ℕ) → Contains (named next) n → d.content new n ≡ d.content s.disk n
+    named_stays next y settled n inside = rest.content n (λ e. named_is_no_slot next n settled.installed.own.is inside (subst (λ k. k < 2) (sym (e ∙ at)) (slot_below (m.generation + 1))))
+
+    -- the store is up with it, with these places, marks and this segment
+    with_next : (next : ManifestData) (i : Installs (d.content s.disk) (d.may_leave s.disk) up.parts next) (places : PlaceTable) (left : List Bool) (segment : Segment) (jobs : Jobs) → KnowsOld (d.content new) next 1024 left → HaveJobs (d.content new) (d.may_leave new) next i.parts jobs → ShareNone jobs → JobsHaveRoom places jobs → IsSettled (d.content new) (d.may_leave new) next i.parts → IsLastFile next segment.file
         → segment.gate ≡ gate_of i.parts.last → segment.gate < MAX_SEGMENT_LEN → (s.written ≡ true → HasBody i.parts s.pending segment.gate segment.next (d.content new segment.file)) → ArePlaces next.pairs i.parts.lives places.at
-        → IsUp d (record s { disk = new; manifest = next; places = places; segment = segment; jobs = jobs }) rows
-    with_next next i places segment jobs runs apart room settled last gate few written are =
+        → IsUp d (record s { disk = new; manifest = next; places = places; old_marks = left; segment = segment; jobs = jobs }) rows
+    with_next next i places left segment jobs marks runs apart room settled last gate few written are =
         let rows_are = up.rows_are ∙ sym i.same.rows in
         let mark_is = up.mark_is ∙ sym i.same.mark in
         search (rules, arith)
 
     -- the segment that took frames takes them then
-    installed_up : (next : ManifestData) (i : Installs (d.content s.disk) (d.may_leave s.disk) up.parts next) (places : PlaceTable) (jobs : Jobs) → HaveJobs (d.content new) (d.may_leave new) next i.parts jobs → ShareNone jobs → JobsHaveRoom places jobs → IsSettled (d.content new) (d.may_leave new) next i.parts
+    installed_up : (next : ManifestData) (i : Installs (d.content s.disk) (d.may_leave s.disk) up.parts next) (places : PlaceTable) (left : List Bool) (jobs : Jobs) → KnowsOld (d.content new) next 1024 left → HaveJobs (d.content new) (d.may_leave new) next i.parts jobs → ShareNone jobs → JobsHaveRoom places jobs → IsSettled (d.content new) (d.may_leave new) next i.parts
         → i.parts.middle ≡ up.parts.middle → i.parts.last ≡ up.parts.last → IsLastFile next s.segment.file → ArePlaces next.pairs i.parts.lives places.at
-        → IsUp d (record s { disk = new; manifest = next; places = places; jobs = jobs }) rows
-    installed_up next i places jobs runs apart room settled same_middle same_last last = with_next next i places s.segment jobs runs apart room settled last (up.gate ∙ ap gate_of (sym same_last)) up.few
+        → IsUp d (record s { disk = new; manifest = next; places = places; old_marks = left; jobs = jobs }) rows
+    installed_up next i places left jobs marks runs apart room settled same_middle same_last last = with_next next i places left s.segment jobs marks runs apart room settled last (up.gate ∙ ap gate_of (sym same_last)) up.few
         (λ e. subst (λ (b : List ℕ). HasBody i.parts s.pending s.segment.gate s.segment.next b) (sym (rest.content s.segment.file last_apart)) (body_as up.parts i.parts same_middle same_last s.pending s.segment.gate s.segment.next (d.content s.disk s.segment.file) (up.written e)))
 
     -- the places then
@@ -378,28 +385,33 @@ module _ {D : Type 0} (d : Ghosts D) (s : StoreData D) (rows : Map) (up : IsUp d
         let at_is : places.at ≡ moved g.left.data_file g.right.data_file g.pair.data_file (records_merged merge.live_left merge.live_right) s.places.at = to ∙ ap (λ (es : List EntryData). moved g.left.data_file g.right.data_file g.pair.data_file es s.places.at) merge.records in
         rw (at_is, is.next_is) now
 
+    -- it is known which files are old
+    known_after : {j : Job} {i : InstallData} (view : Installing j i) → HasWork (d.content s.disk) (d.may_leave s.disk) m up.parts j → (left : List Bool) → AreUnmarked (job_takes_file j) s.old_marks left → (y : Parts) → IsSettled (d.content new) (d.may_leave new) (manifest_after j m) y → KnowsOld (d.content new) (manifest_after j m) 1024 left
+    known_after {j} view has left un y settled = known_next (d.content s.disk) (d.may_leave s.disk) m up.parts up.settled view has (d.content new) (named_stays (manifest_after j m) y settled) s.old_marks left up.marks un
+
     -- THE STORE IS UP WITH IT, and with the jobs that run on.
-    open_up : {j : Job} {i : InstallData} → Installing j i → HasWork (d.content s.disk) (d.may_leave s.disk) m up.parts j → (places : PlaceTable) → IsOpened d new m (manifest_after j m) → places.at ≡ places_after j s.places.at → (is_rotation j ≡ true → s.written ≡ false)
+    open_up : {j : Job} {i : InstallData} → Installing j i → HasWork (d.content s.disk) (d.may_leave s.disk) m up.parts j → (places : PlaceTable) (left : List Bool) → AreUnmarked (job_takes_file j) s.old_marks left → IsOpened d new m (manifest_after j m) → places.at ≡ places_after j s.places.at → (is_rotation j ≡ true → s.written ≡ false)
         → (jobs : Jobs) → ((y : Parts) → HaveJobs (d.content new) (d.may_leave new) (manifest_after j m) y jobs) → ShareNone jobs → JobsHaveRoom places jobs
-        → IsUp d (record s { disk = new; manifest = manifest_after j m; places = places; segment = segment_after j s.segment; jobs = jobs }) rows
-    open_up (OfRotation fresh k) has places opened to free jobs runs apart room =
+        → IsUp d (record s { disk = new; manifest = manifest_after j m; places = places; old_marks = left; segment = segment_after j s.segment; jobs = jobs }) rows
+    open_up (OfRotation fresh k) has places left un opened to free jobs runs apart room =
         let i = installs (d.content s.disk) (d.may_leave s.disk) m up.parts up.settled (OfRotation fresh k) has in
-        with_next k.next i places fresh jobs (runs i.parts) apart room (next_settled k.next (ap (λ (n : ManifestData). n.generation) has.next_is) i opened) (subst (λ (n : ManifestData). IsLastFile n fresh.file) (sym has.next_is) (rotated_last m fresh.file))
+        let settled = next_settled k.next (ap (λ (n : ManifestData). n.generation) has.next_is) i opened in
+        with_next k.next i places left fresh jobs (known_after (OfRotation fresh k) has left un i.parts settled) (runs i.parts) apart room settled (subst (λ (n : ManifestData). IsLastFile n fresh.file) (sym has.next_is) (rotated_last has.replaces m fresh.file))
         has.gate (omega (arith, has.gate)) (λ e. absurd (cc (sym e ∙ free refl))) (rw (to, has.next_is) up.places)
-    open_up (OfCheckpoint pair c next step) has places opened to free jobs runs apart room =
+    open_up (OfCheckpoint pair c next step) has places left un opened to free jobs runs apart room =
         let i = installs (d.content s.disk) (d.may_leave s.disk) m up.parts up.settled (OfCheckpoint pair c next step) has in
         let settled = next_settled next (ap (λ (n : ManifestData). n.generation) has.into.next_is) i opened in
         let made = made_of pair c has.into.segment in
         let log = has.into.log in
         let stays = last_stays (d.content s.disk) (d.may_leave s.disk) m up.parts made log in
         let it : s.segment.file ≡ log.last_file = last_once m stays.0 log.last_file s.segment.file stays.1 up.last in
-        installed_up next i places jobs (runs i.parts) apart room settled refl refl
+        installed_up next i places left jobs (known_after (OfCheckpoint pair c next step) has left un i.parts settled) (runs i.parts) apart room settled refl refl
         (subst (λ (n : ManifestData). IsLastFile n s.segment.file) (sym has.into.next_is) (subst (IsLastFile (checkpointed m made)) (sym it) (last_after (d.content s.disk) (d.may_leave s.disk) m up.parts made log)))
         (checkpoint_places (record { pair = pair; made = c; next = next; stage = AtInstall step }) places has.into settled to)
-    open_up (OfMergeReady g k) has places opened to free jobs runs apart room =
+    open_up (OfMergeReady g k) has places left un opened to free jobs runs apart room =
         let i = installs (d.content s.disk) (d.may_leave s.disk) m up.parts up.settled (OfMergeReady g k) has in
         let settled = next_settled k.next (ap (λ (n : ManifestData). n.generation) has.next_is) i opened in
-        installed_up k.next i places jobs (runs i.parts) apart room settled refl refl (subst (λ (n : ManifestData). IsLastFile n s.segment.file) (sym has.next_is) (up.last.0, up.last.1)) (merge_places g k.next places has settled to)
+        installed_up k.next i places left jobs (known_after (OfMergeReady g k) has left un i.parts settled) (runs i.parts) apart room settled refl refl (subst (λ (n : ManifestData). IsLastFile n s.segment.file) (sym has.next_is) (up.last.0, up.last.1)) (merge_places g k.next places has settled to)
 
     -- a merge that isn't ready runs on
     runs_on_after : {jobs : Jobs} {j : Job} → IsDueIn (Install Open) jobs j → HaveJobs (d.content s.disk) (d.may_leave s.disk) m up.parts jobs → ShareNone jobs → AreSafe m jobs → (y : Parts) → HaveJobs (d.content new) (d.may_leave new) (manifest_after j m) y (after_install jobs)
@@ -425,12 +437,12 @@ module _ {D : Type 0} (d : Ghosts D) (s : StoreData D) (rows : Map) (up : IsUp d
 
   -- THE STORE IS UP with what the step of a job that opens the gate has made.
   pub opened_up : (safe : IsSafe d s) (j : Job) (due : IsDueIn (Install Open) s.jobs j) (new : D) → WritesFor d s.disk new m j → (behind : Job) → HasMadeStep d s.disk new m j behind → d.fault_count new ≡ d.fault_count s.disk
-      → (places : PlaceTable) → places.at ≡ places_after j s.places.at → (s.written && has_rotation s.jobs) ≡ false
-      → IsUp d (record s { disk = new; manifest = manifest_after j m; places = places; segment = segment_after j s.segment; jobs = after_install s.jobs }) rows
-  opened_up safe j due new writes behind makes count places to free =
+      → (places : PlaceTable) → places.at ≡ places_after j s.places.at → (left : List Bool) → AreUnmarked (job_takes_file j) s.old_marks left → (s.written && has_rotation s.jobs) ≡ false
+      → IsUp d (record s { disk = new; manifest = manifest_after j m; places = places; old_marks = left; segment = segment_after j s.segment; jobs = after_install s.jobs }) rows
+  opened_up safe j due new writes behind makes count places to left un free =
       let stands : StandsWith d s.disk m up.parts j = record { settled = up.settled; job = of_due (IsRunning (d.content s.disk) (d.may_leave s.disk) m up.parts) due up.jobs } in
       let w = writes up.parts stands in
       let i = installing j _ (due_installs m j Open (step_is due)) in
       let slot = slot_of_install m w.file i w.is in
-      open_up new w.file slot w.rest count i stands.job.work places ((makes up.parts stands).opened (step_is due)) to (free_of due free) (after_install s.jobs)
+      open_up new w.file slot w.rest count i stands.job.work places left un ((makes up.parts stands).opened (step_is due)) to (free_of due free) (after_install s.jobs)
       (runs_on_after new w.file slot w.rest count due up.jobs up.apart safe.jobs) (share_installed s.jobs) (opened_room places s.jobs)

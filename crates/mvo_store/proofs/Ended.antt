@@ -31,6 +31,7 @@ use Rattle.mvo_store.specs.Calls.StoreStep.{Call}
 use Rattle.mvo_store.specs.declared.call.StoreCall.TheVariants.{Step}
 use Rattle.mvo_store.proofs.Keeping.{CountsNow, Begins, begins, may_end, slots_as, stays_up, stays_safe, looked_safe, fault_step, misread_step, looked_step, done_step}
 use Rattle.mvo_store.proofs.Turning.{ends_alone}
+use Rattle.mvo_store.proofs.Olds.{step_stays}
 use Rattle.mvo_store.proofs.Dues.{stands_of, step_others, step_leaves, step_slots}
 use Rattle.mvo_store.proofs.Looks.{looked_same, misread_count}
 
@@ -108,7 +109,8 @@ module _ {D : Type 0} {d : Ghosts D} {s : StoreData D} (b : EndsAlone d s) where
           let w = e.writes honest up.parts stood in
           let made = e.ended.makes honest up.parts stood in
           let stands = made.stands no_gate in
-          stays_up d s rows up new s.places alone stands.settled (w.rest.content s.segment.file (λ f. w.other (subst (IsLastFile s.manifest) f up.last))) (stands.job, tt) tt refl (tt, tt) e.count
+          stays_up d s rows up new s.places alone stands.settled (w.rest.content s.segment.file (λ f. w.other (subst (IsLastFile s.manifest) f up.last)))
+          (step_stays (d.content s.disk) (d.content new) (d.may_leave s.disk) s.manifest up.parts up.settled made.counts (Merge g) stood.job.work w.file w.is w.rest.content) (stands.job, tt) tt refl (tt, tt) e.count
 
       ended_safe : IsSafe d ended
       ended_safe = stays_safe b.begins.sound.safe new s.places alone (record { pair = safe_here.pair; next_is = ap (λ (n : ManifestData). n.generation) e.ended.next_is }, tt) tt (tt, tt) e.count

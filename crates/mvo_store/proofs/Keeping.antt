@@ -1,5 +1,5 @@
 -- A store keeps its rows over a step, and each slot its gate. What each way through a call comes to, where no cause of a refusal stands.
-use Rattle.std.proofs.Common.{◌≡◌, ◌≢◌, inl, inr, ℕ, ◌<◌, ◌≤◌, true, false, List, [], Option, Some, None, sym, subst, ◌∙◌, arith, ◌&&◌, ⊎_elim, length, refl, ◌+◌, ◌^◌, Ok, Err}
+use Rattle.std.proofs.Common.{◌≡◌, ◌≢◌, inl, inr, ℕ, ◌<◌, ◌≤◌, true, false, List, [], Option, Some, None, sym, subst, ◌∙◌, arith, ◌&&◌, ⊎_elim, length, refl, ◌+◌, ◌^◌, Ok, Err, Bool}
 use Rattle.std.specs.Prelude.{⊤}
 use Rattle.std.proofs.lemmas.Bool.{cases_eq}
 use Rattle.mvo_types.specs.Keys.{Map}
@@ -14,6 +14,7 @@ use Rattle.mvo_recovery.specs.Settled.{IsSettled, IsUsed, GivesParts}
 use Rattle.mvo_recovery.proofs.Framed.{settled_gives, within_unused}
 use Rattle.mvo_load.specs.Read.{IsMisread}
 use Rattle.mvo_store.specs.declared.jobs.jobs.Jobs.{Jobs}
+use Rattle.mvo_store.proofs.Marks.{HeadersStay, known_stays}
 use Rattle.mvo_store.specs.StoreData.{StoreData, opening}
 use Rattle.mvo_store.specs.Standing.{IsUp, HasBody, HaveJobs, ShareNone, JobsHaveRoom, Gives, GivesOr, HasSlots, MayBeLeft, KeepsRows, IsKeeping, KeepsAllRows}
 use Rattle.mvo_store.specs.Writing.{StillGives}
@@ -26,7 +27,7 @@ use Rattle.mvo_store.specs.declared.limits.TheConstants.{MAX_GENERATION}
 use Rattle.mvo_store.specs.declared.install.install_step.InstallStep.TheVariants.{Open}
 use Rattle.mvo_store.specs.declared.jobs.due.Due.{Due}
 use Rattle.mvo_store.specs.declared.jobs.due.Due.TheVariants.{MergeDelta, Install}
-use Rattle.mvo_store.specs.Causes.{why_not_take, why_not_rotate, why_not_checkpoint, why_not_merge, why_not_due, why_not_merge_delta, why_not_install_open}
+use Rattle.mvo_store.specs.Causes.{replaces_last, why_not_take, why_not_rotate, why_not_checkpoint, why_not_merge, why_not_due, why_not_merge_delta, why_not_install_open}
 use Rattle.mvo_store.specs.Jobs.{keeps_all_out, keeps_checkpoint_out, keeps_merge_out, has_checkpoint, has_rotation, is_step_due}
 use Rattle.mvo_store.specs.Planning.{MayReadCheckpoint}
 use Rattle.mvo_store.specs.MergeReading.{MayReadMerge}
@@ -123,12 +124,13 @@ module _ {D : Type 0} (d : Ghosts D) where
     pub up_keeps : HasSlots (d.content s.disk) → KeepsRows d s rows
     up_keeps slots = record { images = now_left slots; up = λ _. (up, slots) }
 
-    -- Its disk, its places and its jobs are others: the last segment stays, and the jobs stand.
-    pub stays_up : (new : D) (places : PlaceTable) (jobs : Jobs) → IsSettled (d.content new) (d.may_leave new) s.manifest up.parts → d.content new s.segment.file ≡ d.content s.disk s.segment.file
+    -- Its disk, its places and its jobs are others: the last segment stays, and which files are old, and the jobs stand.
+    pub stays_up : (new : D) (places : PlaceTable) (jobs : Jobs) → IsSettled (d.content new) (d.may_leave new) s.manifest up.parts → d.content new s.segment.file ≡ d.content s.disk s.segment.file → HeadersStay (d.content s.disk) (d.content new) s.manifest
         → HaveJobs (d.content new) (d.may_leave new) s.manifest up.parts jobs → ShareNone jobs → places.at ≡ s.places.at → JobsHaveRoom places jobs → d.fault_count new ≡ d.fault_count s.disk → IsUp d (record s { disk = new; places = places; jobs = jobs }) rows
-    stays_up new places jobs settled last stands apart same room count =
+    stays_up new places jobs settled last headers stands apart same room count =
         let written : s.written ≡ true → HasBody up.parts s.pending s.segment.gate s.segment.next (d.content new s.segment.file) = λ e. subst (λ (c : List ℕ). HasBody up.parts s.pending s.segment.gate s.segment.next c) (sym last) (up.written e) in
         let are : ArePlaces s.manifest.pairs up.parts.lives places.at = subst (λ (at : PlaceMap). ArePlaces s.manifest.pairs up.parts.lives at) (sym same) up.places in
+        let marks = known_stays (d.content s.disk) (d.content new) s.manifest 1024 s.old_marks headers up.marks in
         search arith
 
   -- ---- a step
@@ -200,8 +202,12 @@ pub none_keeps_merge : {D : Type 0} (place : ℕ) (s : StoreData D) → why_not_
 none_keeps_merge place s e = grind arith
 
 -- a rotation may begin
-pub may_begin : {D : Type 0} (s : StoreData D) → why_not_rotate s ≡ None → (s.manifest.generation < MAX_GENERATION) × (s.segment.gate ≢ HEADER_LEN) × (length s.manifest.segments < MAX_SEGMENTS)
-may_begin s e = grind arith
+pub may_begin : {D : Type 0} (s : StoreData D) → why_not_rotate s ≡ None → (s.manifest.generation < MAX_GENERATION) × (replaces_last s ≡ false → s.segment.gate ≢ HEADER_LEN) × (replaces_last s ≡ false → length s.manifest.segments < MAX_SEGMENTS)
+may_begin s e = go (replaces_last s) refl
+  where
+    go : (b : Bool) → replaces_last s ≡ b → (s.manifest.generation < MAX_GENERATION) × (replaces_last s ≡ false → s.segment.gate ≢ HEADER_LEN) × (replaces_last s ≡ false → length s.manifest.segments < MAX_SEGMENTS)
+    go true is = grind (arith, e, is)
+    go false is = grind (arith, e, is)
 
 -- a group may be taken
 pub free_to_take : {D : Type 0} (s : StoreData D) → why_not_take s ≡ None → s.pending ≡ None

@@ -1,4 +1,5 @@
 pub use Rattle.mvo_recovery.proofs.Grown
+pub mod Marks
 pub mod Keeping
 pub mod Taken
 pub mod Counted
@@ -15,6 +16,7 @@ pub mod Beginning
 pub mod Still
 pub mod Dues
 pub mod Looks
+pub mod Olds
 pub mod Made
 pub mod CameLate
 pub mod Ended

@@ -28,6 +28,7 @@ use Rattle.mvo_store.proofs.Keeping.{stays_up, AllLeave, CountsNow, slots_as, no
 use Rattle.mvo_store.proofs.Checkpoints.{stop_or_misread}
 use Rattle.mvo_store.proofs.Working.{IsOfPair, RestsOn, jobs_framed, each_job, each_follows, written_of_pair, merged_of_pair}
 use Rattle.mvo_load.specs.Read.{IsMisread}
+use Rattle.mvo_load.specs.Old.{is_old}
 use Rattle.mvo_recovery.proofs.Framed.{files_stay_others, settled_all, settled_framed}
 use Rattle.mvo_store.specs.Reclaiming.{IsUnused, IsLeastDead}
 use Rattle.mvo_store.proofs.Logged.{unnamed_unused}
@@ -43,8 +44,8 @@ module _ {D : Type 0} {d : Ghosts D} {s : StoreData D} {call : StoreStep} (b : B
   -- the store stays up, whatever jobs run then
   pub looked_up : (rows : Map) (up : IsUp d s rows) (places : PlaceTable) (jobs : Jobs) → places.at ≡ s.places.at → JobsHaveRoom places jobs → HaveJobs (d.content s.disk) (d.may_leave s.disk) s.manifest up.parts jobs → ShareNone jobs → d.fault_count new ≡ d.fault_count s.disk
       → IsUp d (record s { disk = new; places = places; jobs = jobs }) rows
-  looked_up rows up places jobs same room has apart = stays_up d s rows up new places jobs (settled_all (d.content s.disk) (d.content new) (d.may_leave s.disk) (d.may_leave new) s.manifest up.parts rest up.settled) (rest.content s.segment.file)
-      (jobs_framed (d.content s.disk) (d.content new) (d.may_leave s.disk) (d.may_leave new) s.manifest up.settled.installed.own.is up.parts up.settled.installed.parts up.parts.last (λ some. some) (jobs_of jobs)
+  looked_up rows up places jobs same room has apart = stays_up d s rows up new places jobs (settled_all (d.content s.disk) (d.content new) (d.may_leave s.disk) (d.may_leave new) s.manifest up.parts rest up.settled) (rest.content s.segment.file) (λ n _. ap is_old (rest.content n))
+      (jobs_framed (d.content s.disk) (d.content new) (d.may_leave s.disk) (d.may_leave new) s.manifest up.settled.installed.own.is up.parts up.settled.installed.parts up.parts.last (record { ends = λ r _ last. last; olds = λ n _. ap is_old (rest.content n) }) (jobs_of jobs)
       (each_job (λ j. HasWork (d.content s.disk) (d.may_leave s.disk) s.manifest up.parts j → FilesStay (RestsOn s.manifest j) (d.content s.disk) (d.content new) (d.may_leave s.disk) (d.may_leave new)) (λ j work. record { content = λ n _. rest.content n; images = λ n c _. rest.images n c }) (jobs_of jobs))
       (rest.content (other_slot s.manifest)) has) apart same room
 
@@ -103,7 +104,7 @@ module _ {D : Type 0} {d : Ghosts D} {s : StoreData D} {call : StoreStep} (b : B
 
 -- ---- a file is emptied
 
-of_pair : (p : Pair) (n : ℕ) → IsOfPair p n → (eqb p.data_file n || eqb p.delta_file n) ≡ true
+pub of_pair : (p : Pair) (n : ℕ) → IsOfPair p n → (eqb p.data_file n || eqb p.delta_file n) ≡ true
 of_pair p n (inl here) = ap (λ t. t || eqb p.delta_file n) (eq-eqb p.data_file n (sym here))
 of_pair p n (inr here) = ap (λ t. eqb p.data_file n || t) (eq-eqb p.delta_file n (sym here)) ∙ or-true (eqb p.data_file n)
 
@@ -152,8 +153,8 @@ module _ {D : Type 0} {d : Ghosts D} {s : StoreData D} {call : StoreStep} (b : B
   pub emptied_up : d.fault_count new ≡ d.fault_count s.disk → (rows : Map) → IsUp d s rows → IsUp d (record s { disk = new }) rows
   emptied_up count rows up = stays_up d s rows up new s.places s.jobs
       (settled_framed (d.content s.disk) (d.content new) (d.may_leave s.disk) (d.may_leave new) s.manifest up.parts used_stay up.settled)
-      (used_stay.content s.segment.file (last_used s.manifest s.segment.file up.last))
-      (jobs_framed (d.content s.disk) (d.content new) (d.may_leave s.disk) (d.may_leave new) s.manifest up.settled.installed.own.is up.parts up.settled.installed.parts up.parts.last (λ some. some) (jobs_of s.jobs)
+      (used_stay.content s.segment.file (last_used s.manifest s.segment.file up.last)) (λ n inside. ap is_old (used_stay.content n (inr inside)))
+      (jobs_framed (d.content s.disk) (d.content new) (d.may_leave s.disk) (d.may_leave new) s.manifest up.settled.installed.own.is up.parts up.settled.installed.parts up.parts.last (record { ends = λ r _ last. last; olds = λ n last. ap is_old (used_stay.content n (last_used s.manifest n last)) }) (jobs_of s.jobs)
       (each_follows (λ j. job_takes_file j file ≡ false) (λ j. HasWork (d.content s.disk) (d.may_leave s.disk) s.manifest up.parts j → FilesStay (RestsOn s.manifest j) (d.content s.disk) (d.content new) (d.may_leave s.disk) (d.may_leave new)) (λ j not_taken work. rested_stay j not_taken) (jobs_of s.jobs) (none_take file (jobs_of s.jobs) free.untaken))
       (used_stay.content (other_slot s.manifest) (inl (slot_below (s.manifest.generation + 1)))) up.jobs) up.apart refl up.room_for count
 

@@ -11,6 +11,8 @@ use Rattle.mvo_pair.specs.declared.pair.Pair.{Pair}
 use Rattle.mvo_manifest.specs.Data.{ManifestData}
 use Rattle.mvo_places.specs.Places.{PlaceMap, PlaceTable}
 use Rattle.mvo_recovery.specs.Parts.{Parts}
+use Rattle.mvo_recovery.specs.Rotation.{rotated}
+use Rattle.mvo_frame.specs.declared.segment.Segment.{Segment}
 use Rattle.mvo_store.specs.declared.jobs.due.Due.{Due}
 use Rattle.mvo_store.specs.declared.jobs.due.Due.TheVariants.{Install}
 use Rattle.mvo_store.specs.declared.install.install_step.InstallStep.TheVariants.{Open}
@@ -19,16 +21,17 @@ use Rattle.mvo_store.specs.declared.jobs.jobs.Jobs.TheVariants.{Beside}
 use Rattle.mvo_store.specs.declared.checkpoint.checkpointing.Checkpointing.{Checkpointing}
 use Rattle.mvo_store.specs.declared.merge.merging.Merging.{Merging}
 use Rattle.mvo_store.specs.StoreData.{StoreData}
-use Rattle.mvo_store.specs.Causes.{why_not_due, why_not_install_open}
+use Rattle.mvo_store.specs.Causes.{replaces_last, why_not_due, why_not_install_open}
 use Rattle.mvo_store.specs.Files.{files_taken}
 use Rattle.mvo_store.specs.Merging.{seen_with, pair_with}
-use Rattle.mvo_store.specs.Jobs.{Job, job_due, is_step_due, step_due, after_step, with_step, with_checkpoint, with_merge, next_installed, after_install, has_rotation, merge_pair, checkpoint_pair}
+use Rattle.mvo_store.specs.Jobs.{Job, job_takes_file, job_due, is_step_due, step_due, after_step, with_step, with_checkpoint, with_merge, next_installed, after_install, has_rotation, merge_pair, checkpoint_pair}
+use Rattle.mvo_store.specs.Old.{AreUnmarked}
 use Rattle.mvo_store.specs.Planning.{IsNewCheckpoint, IsReadCheckpoint}
 use Rattle.mvo_store.specs.MergePlanning.{IsNewMerge}
 use Rattle.mvo_store.specs.MergeReading.{IsReadMerge}
 use Rattle.mvo_store.specs.Safe.{IsSafeCheckpoint, IsSafeMerge, IsSafeWork, AreSafe, IsSafe, IsStoreSound}
-use Rattle.mvo_store.specs.Standing.{IsRunning, HasWork, HaveJobs, ShareNone, JobsHaveRoom, JobHasRoom, IsUp, MayTakeOverOf, HaveKeysOf}
-use Rattle.mvo_store.specs.Steps.{manifest_after, places_after, manifest_by, segment_by, places_by, IsNextBy, IsNextOf, IsCheckpointOf, IsMergeOf}
+use Rattle.mvo_store.specs.Standing.{IsRotating, IsRunning, HasWork, HaveJobs, ShareNone, JobsHaveRoom, JobHasRoom, IsUp, MayTakeOverOf, HaveKeysOf}
+use Rattle.mvo_store.specs.Steps.{manifest_after, places_after, manifest_by, segment_by, places_by, filled_by, IsNextBy, IsNextOf, IsCheckpointOf, IsMergeOf}
 use Rattle.mvo_store.specs.Writing.{JobStandsFor, IsJobStep, IsDueStep}
 use Rattle.mvo_store.specs.Calls.{StoreStep, IsReadToCheckpoint, IsReadToMerge, IsStoreStep}
 use Rattle.mvo_store.specs.Calls.StoreStep.{Call}
@@ -40,6 +43,7 @@ use Rattle.mvo_store.proofs.Turning.{some_due, step_is, begins_beside_merge, beg
 use Rattle.mvo_store.proofs.Beginning.{checkpoint_shares_none, merge_shares_none, with_checkpoint_all, with_merge_all, merge_room}
 use Rattle.mvo_store.proofs.Dues.{IsPlain, begins_due, due_job, makes_of, rows_of, fault_only, safe_work, safe_room, safe_take_over, never_opens, installed_is, stepped_safe, opened_safe, stands_of, step_others, step_leaves, step_slots, step_up, step_refused, refused_sound, have_keys, opened_up}
 use Rattle.mvo_store.proofs.Looks.{looked_up, looked_done}
+use Rattle.mvo_store.proofs.Logged.{replaces_same}
 use Rattle.mvo_store.proofs.CameLate.{merged_there}
 
 -- ---- a step that is due
@@ -117,13 +121,13 @@ module _ {D : Type 0} {d : Ghosts D} {s : StoreData D} {step : Due} (plain : IsP
 -- ---- the opening of a gate
 
 -- what the manifest of a job is made of
-next_by : (content : Image) (may : ℕ → List ℕ → Type 0) (m : ManifestData) (x : Parts) {jobs : Jobs} {j : Job} → IsDueIn (Install Open) jobs j → IsSafeWork m j → HasWork content may m x j → IsNextBy m j (manifest_after j m)
-next_by content may m x (TheRotation fresh i at) safe has = has.next_is
-next_by content may m x (TheMerge seen i at) safe has =
+next_by : (content : Image) (may : ℕ → List ℕ → Type 0) (m : ManifestData) (x : Parts) {jobs : Jobs} {j : Job} → (replaces : Bool) → ((fresh : Segment) (next : ManifestData) → (has : IsRotating content may m x fresh next) → has.replaces ≡ replaces) → IsDueIn (Install Open) jobs j → IsSafeWork m j → HasWork content may m x j → IsNextBy replaces m j (manifest_after j m)
+next_by content may m x replaces same (TheRotation fresh i at) safe has = has.next_is ∙ ap (λ r. rotated r m fresh.file) (same fresh i.next has)
+next_by content may m x replaces same (TheMerge seen i at) safe has =
     let merge = has.merge in
     (length has.late, has.next_is ∙ sym (merged_there content m (seen_with seen merge.live_left merge.live_right) merge.seen (pair_with seen has.late)))
-next_by content may m x (TheCheckpoint c g at) safe has = safe.next_is
-next_by content may m x (OfMerge c g at) safe has = never_opens g.stage at
+next_by content may m x replaces same (TheCheckpoint c g at) safe has = safe.next_is
+next_by content may m x replaces same (OfMerge c g at) safe has = never_opens g.stage at
 
 module _ {D : Type 0} {d : Ghosts D} {s : StoreData D} (b : IsDueAt d s (Call (Step (Install Open))) (Install Open)) where
   next_is : next_installed s.jobs ≡ Some b.job
@@ -136,7 +140,7 @@ module _ {D : Type 0} {d : Ghosts D} {s : StoreData D} (b : IsDueAt d s (Call (S
   keys_here rows up = subst HaveKeysOf (sym next_is) (have_keys d s rows up (due_here b))
 
   module _ (new : D) where
-    module _ (made : IsDueStep d s.disk new s.manifest (job_due (Install Open) s.jobs) (Ok tt)) (places : PlaceTable) (took : HaveKeysOf (next_installed s.jobs) → places.at ≡ places_by (next_installed s.jobs) s.places.at) where
+    module _ (made : IsDueStep d s.disk new s.manifest (job_due (Install Open) s.jobs) (Ok tt)) (places : PlaceTable) (took : HaveKeysOf (next_installed s.jobs) → places.at ≡ places_by (next_installed s.jobs) s.places.at) (left : List Bool) (un : AreUnmarked (filled_by (next_installed s.jobs)) s.old_marks left) where
       abbrev i : IsJobStep d s.disk new s.manifest b.job (Ok tt)
       i = written_here b new (Ok tt) made
 
@@ -145,6 +149,7 @@ module _ {D : Type 0} {d : Ghosts D} {s : StoreData D} (b : IsDueAt d s (Call (S
         disk = new;
         manifest = manifest_by o s.manifest;
         places = places;
+        old_marks = left;
         segment = segment_by o s.segment;
         jobs = after_install s.jobs;
       }
@@ -158,17 +163,20 @@ module _ {D : Type 0} {d : Ghosts D} {s : StoreData D} (b : IsDueAt d s (Call (S
       moved_so : (rows : Map) → IsUp d s rows → places.at ≡ places_after b.job s.places.at
       moved_so rows up = subst (λ (o : Option Job). places.at ≡ places_by o s.places.at) next_is (took (keys_here rows up))
 
-      open_up : IsHonest (d.moment new) → (rows : Map) → IsUp d s rows → IsUp d opened rows
-      open_up honest rows up = subst (λ (o : Option Job). IsUp d (with_next o) rows) (sym next_is) (opened_up d s rows up b.begins.sound.safe b.job (due_here b) new (i.writes honest) (after_step b.job) (i.makes honest) i.count places (moved_so rows up) free)
+      un_here : AreUnmarked (job_takes_file b.job) s.old_marks left
+      un_here = subst (λ (o : Option Job). AreUnmarked (filled_by o) s.old_marks left) next_is un
 
-      next_so : (rows : Map) → IsUp d s rows → IsNextOf s.manifest (next_installed s.jobs) (manifest_by (next_installed s.jobs) s.manifest)
-      next_so rows up = subst (λ (o : Option Job). IsNextOf s.manifest o (manifest_by o s.manifest)) (sym next_is)
-          (next_by (d.content s.disk) (d.may_leave s.disk) s.manifest up.parts (due_here b) (safe_work b.begins.sound.safe (due_here b)) (stands_of d s (Install Open) b.job b.is rows up).job.work)
+      open_up : IsHonest (d.moment new) → (rows : Map) → IsUp d s rows → IsUp d opened rows
+      open_up honest rows up = subst (λ (o : Option Job). IsUp d (with_next o) rows) (sym next_is) (opened_up d s rows up b.begins.sound.safe b.job (due_here b) new (i.writes honest) (after_step b.job) (i.makes honest) i.count places (moved_so rows up) left un_here free)
+
+      next_so : (rows : Map) → IsUp d s rows → IsNextOf (replaces_last s) s.manifest (next_installed s.jobs) (manifest_by (next_installed s.jobs) s.manifest)
+      next_so rows up = subst (λ (o : Option Job). IsNextOf (replaces_last s) s.manifest o (manifest_by o s.manifest)) (sym next_is)
+          (next_by (d.content s.disk) (d.may_leave s.disk) s.manifest up.parts (replaces_last s) (replaces_same d s rows up) (due_here b) (safe_work b.begins.sound.safe (due_here b)) (stands_of d s (Install Open) b.job b.is rows up).job.work)
 
       -- THE STORE IS SOUND WITH THE NEXT MANIFEST.
       pub open_sound : IsStoreSound d opened
       open_sound = record {
-        safe = subst (λ (o : Option Job). IsSafe d (with_next o)) (sym next_is) (opened_safe b.begins.sound.safe (due_here b) new places free i.count);
+        safe = subst (λ (o : Option Job). IsSafe d (with_next o)) (sym next_is) (opened_safe b.begins.sound.safe (due_here b) new places left free i.count);
         up = λ honest. let now = b.begins.sound.up (i.honest honest) in (now.0, open_up honest now.0 now.1);
       }
 
@@ -179,6 +187,7 @@ module _ {D : Type 0} {d : Ghosts D} {s : StoreData D} (b : IsDueAt d s (Call (S
             after = refl;
             next = λ honest. let now = b.begins.sound.up (i.honest honest) in next_so now.0 now.1;
             places = λ honest. let now = b.begins.sound.up (i.honest honest) in took (keys_here now.0 now.1);
+            marks = un;
           }) i.count open_up
 
     -- only a fault refuses it

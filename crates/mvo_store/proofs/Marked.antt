@@ -4,12 +4,12 @@ use Rattle.mvo_types.specs.declared.limits.TheConstants.{MAX_STAMP, MAX_SEGMENT_
 use Rattle.mvo_types.specs.Keys.{Map}
 use Rattle.mvo_group.specs.Data.{GroupData}
 use Rattle.mvo_group.specs.Body.{body_of}
-use Rattle.mvo_format.proofs.Versions.{first_known}
-use Rattle.mvo_format.specs.declared.format.TheConstants.{FIRST_FORMAT}
-use Rattle.mvo_format.specs.declared.header.TheConstants.{HEADER_LEN, VERSION}
+use Rattle.mvo_format.specs.declared.format.TheConstants.{LAST_FORMAT}
+use Rattle.mvo_format.specs.declared.header.TheConstants.{HEADER_LEN}
 use Rattle.mvo_frame.specs.Frames.{Frames, sized, mark_after}
 use Rattle.mvo_pair.specs.declared.pair.Pair.{Pair}
 use Rattle.mvo_manifest.specs.Rules.{PairsRise, IsManifest, IsFile}
+use Rattle.mvo_recovery.proofs.Later.{last_known}
 use Rattle.mvo_recovery.specs.image.Opens.{OpeningOutcome}
 use Rattle.mvo_recovery.specs.image.Gives.{HaveGroups}
 use Rattle.mvo_recovery.specs.image.Files.{SegmentSays}
@@ -45,6 +45,9 @@ use Rattle.mvo_store.specs.Jobs.{no_jobs}
 use Rattle.mvo_store.specs.StoreData.{StoreData}
 use Rattle.mvo_store.specs.Safe.{IsSafe}
 use Rattle.mvo_store.specs.Formatting.{has_open_slot, why_not_format, IsFormatted}
+use Rattle.mvo_load.specs.Old.{is_old}
+use Rattle.mvo_store.specs.Old.{KnowsOld}
+use Rattle.mvo_store.proofs.Marks.{known_stays}
 use Rattle.mvo_store.proofs.Keeping.{slots_as, up_keeps, settled_slots}
 
 pub after_frames : (place mark : ℕ) (gs : List GroupData) (bytes : List ℕ) → mark ≤ MAX_STAMP → Frames place mark gs bytes → mark_after mark gs ≤ MAX_STAMP
@@ -103,7 +106,6 @@ module _ (image : Image) (m : ManifestData) (rows : Map) (mark gate : ℕ) (load
         own = s.own;
         other = s.other;
         parts = record {
-          version = s.version;
           sealed_files = last.sealed;
           last_file = last.last;
           segments = last.files;
@@ -115,16 +117,17 @@ module _ (image : Image) (m : ManifestData) (rows : Map) (mark gate : ℕ) (load
       }
 
 -- the store over what was read is safe
-pub opened_safe : {D : Type 0} (d : Ghosts D) (old new : D) (m : ManifestData) (places : PlaceTable) (mark gate file : ℕ) → IsFile file → gate < MAX_SEGMENT_LEN → HasSynced d (IsUsed m) 1024 old new → d.fault_count old < MAX_FAULTS
-    → IsSafe d (record { disk = new; manifest = m; places = places; segment = record { file = file; gate = gate; next = gate }; mark = mark; pending = None; written = false; jobs = no_jobs; down = false })
-opened_safe d old new m places mark gate file is few synced faults = record { file = is; few = few; written = λ e. absurd (cc e); jobs = tt; apart = tt; room_for = tt; room = omega (arith, synced.count, faults) }
+pub opened_safe : {D : Type 0} (d : Ghosts D) (old new : D) (m : ManifestData) (places : PlaceTable) (marks : List Bool) (mark gate file : ℕ) → IsFile file → gate < MAX_SEGMENT_LEN → HasSynced d (IsUsed m) 1024 old new → d.fault_count old < MAX_FAULTS
+    → IsSafe d (record { disk = new; manifest = m; places = places; old_marks = marks; segment = record { file = file; gate = gate; next = gate }; mark = mark; pending = None; written = false; jobs = no_jobs; down = false })
+opened_safe d old new m places marks mark gate file is few synced faults = record { file = is; few = few; written = λ e. absurd (cc e); jobs = tt; apart = tt; room_for = tt; room = omega (arith, synced.count, faults) }
 
-module _ {D : Type 0} (d : Ghosts D) (old new : D) (m : ManifestData) (rows : Map) (mark gate file : ℕ) (loaded : IsLoaded (d.content old) m rows mark gate) (places : PlaceTable) (have : HavePlaces m.version (d.content old) m.pairs places.at) (synced : HasSynced d (IsUsed m) 1024 old new) (is : IsLastFile m file) (few : d.fault_count old < MAX_FAULTS) where
+module _ {D : Type 0} (d : Ghosts D) (old new : D) (m : ManifestData) (rows : Map) (mark gate file : ℕ) (loaded : IsLoaded (d.content old) m rows mark gate) (places : PlaceTable) (have : HavePlaces m.version (d.content old) m.pairs places.at) (marks : List Bool) (knows : KnowsOld (d.content old) m 1024 marks) (synced : HasSynced d (IsUsed m) 1024 old new) (is : IsLastFile m file) (few : d.fault_count old < MAX_FAULTS) where
   abbrev pub opened_store : StoreData D
   opened_store = record {
     disk = new;
     manifest = m;
     places = places;
+    old_marks = marks;
     segment = record { file = file; gate = gate; next = gate };
     mark = mark;
     pending = None;
@@ -146,18 +149,19 @@ module _ {D : Type 0} (d : Ghosts D) (old new : D) (m : ManifestData) (rows : Ma
       let log = loaded.log.last in
       let rows_are = loaded.log.rows_are ∙ ap (after_groups (rows_of loaded.lives)) log.all in
       let are = have.are loaded.lives loaded.live in
-      search (rules, arith, settled_opened, log.mark_is, log.stands, log.few, synced.count)
+      let known = known_stays (d.content old) (d.content new) m 1024 marks (λ n _. ap is_old (synced.content n)) knows in
+      search (rules, arith, settled_opened, known, log.mark_is, log.stands, log.few, synced.count)
 
   pub opened_keeps : HasSlots (d.content old) → KeepsRows d opened_store rows
   opened_keeps slots = up_keeps d opened_store rows opened_up (slots_as (d.content old) (d.content new) (synced.content 0) (synced.content 1) slots)
 
 -- slot 1 is shut, then file 2 fresh, then slot 0 open
 module _ (shut fresh new : Image) (may_shut may_fresh may_new : ℕ → List ℕ → Type 0) (second : OthersStay 2 shut fresh may_shut may_fresh) (third : OthersStay 0 fresh new may_fresh may_new) where
-  pub written_settled : IsShut (shut 1) → Only (shut 1) (may_shut 1) → fresh 2 ≡ header MAGIC VERSION ++ 0 ∷ [] → Only (fresh 2) (may_fresh 2) → IsOpen 0 (first_manifest VERSION 0 2) (new 0) → Only (new 0) (may_new 0)
-      → IsSettled new may_new (first_manifest VERSION 0 2) no_parts
+  pub written_settled : IsShut (shut 1) → Only (shut 1) (may_shut 1) → fresh 2 ≡ header MAGIC LAST_FORMAT.version ++ 0 ∷ [] → Only (fresh 2) (may_fresh 2) → IsOpen 0 (first_manifest LAST_FORMAT.version 0 2) (new 0) → Only (new 0) (may_new 0)
+      → IsSettled new may_new (first_manifest LAST_FORMAT.version 0 2) no_parts
   written_settled is_shut shut_only bytes fresh_only is_open open_only =
-      first_settled FIRST_FORMAT first_known (omega arith) new may_new 0 2 is_open (subst IsShut (sym same_second) is_shut)
-      (record { frames = λ mark. fresh_frames VERSION mark (new 2) (third.content 2 (λ e. omega (arith, e)) ∙ bytes); durable = only_stays fresh new may_fresh may_new 0 third 2 (λ e. omega (arith, e)) fresh_only })
+      first_settled LAST_FORMAT last_known new may_new 0 2 is_open (subst IsShut (sym same_second) is_shut)
+      (record { frames = λ mark. fresh_frames LAST_FORMAT.version mark (new 2) (third.content 2 (λ e. omega (arith, e)) ∙ bytes); durable = only_stays fresh new may_fresh may_new 0 third 2 (λ e. omega (arith, e)) fresh_only })
       slots
     where
       same_second : new 1 ≡ shut 1
@@ -173,10 +177,10 @@ none_stands faults content few shut =
     ap (λ (b : Bool). or_next (when b ClockSpent) (or_next (when (has_open_slot content) AlreadyFormatted) None)) (lt-leb MAX_FAULTS faults few) ∙ ap (λ (b : Bool). or_next (when b AlreadyFormatted) None) shut
 
 module _ {D : Type 0} (d : Ghosts D) (old new : D) where
-  pub is_formatted : why_not_format (d.fault_count old) (d.content old) ≡ None → ((n : ℕ) → d.may_leave new n (d.content new n)) → IsSettled (d.content new) (d.may_leave new) (first_manifest VERSION 0 2) no_parts → HasSlots (d.content new)
+  pub is_formatted : why_not_format (d.fault_count old) (d.content old) ≡ None → ((n : ℕ) → d.may_leave new n (d.content new n)) → IsSettled (d.content new) (d.may_leave new) (first_manifest LAST_FORMAT.version 0 2) no_parts → HasSlots (d.content new)
       → IsFormatted d old new
   is_formatted free stays settled slots =
-      let gives : (image : Image) → AllOf (d.may_leave new) image → Gives map.empty 0 image = settled_gives (d.content new) (d.may_leave new) (first_manifest VERSION 0 2) no_parts settled in
-      let images : (image : Image) → AllOf (d.may_leave new) image → MayBeLeft map.empty 0 None image = λ image all. record { slots = settled_slots d new (first_manifest VERSION 0 2) no_parts settled slots image all; gives = gives image all } in
+      let gives : (image : Image) → AllOf (d.may_leave new) image → Gives map.empty 0 image = settled_gives (d.content new) (d.may_leave new) (first_manifest LAST_FORMAT.version 0 2) no_parts settled in
+      let images : (image : Image) → AllOf (d.may_leave new) image → MayBeLeft map.empty 0 None image = λ image all. record { slots = settled_slots d new (first_manifest LAST_FORMAT.version 0 2) no_parts settled slots image all; gives = gives image all } in
       let now = gives (d.content new) stays in
       search

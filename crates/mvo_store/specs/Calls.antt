@@ -7,7 +7,7 @@ use Rattle.mvo_types.specs.Keys.{Map}
 use Rattle.mvo_disk.specs.declared.disk.Disk.{Ghosts}
 use Rattle.mvo_disk.specs.Disk.{IsHonest}
 use Rattle.mvo_group.specs.Data.{GroupData}
-use Rattle.mvo_format.specs.declared.header.TheConstants.{VERSION}
+use Rattle.mvo_format.specs.declared.format.TheConstants.{LAST_FORMAT}
 use Rattle.mvo_pair.specs.Files.{delta_bytes}
 use Rattle.mvo_manifest.specs.Data.{ManifestData}
 use Rattle.mvo_load.specs.Read.{IsMisread}
@@ -28,7 +28,7 @@ use Rattle.mvo_store.specs.declared.done.Done.TheVariants.{Installed, Reclaimed}
 use Rattle.mvo_store.specs.StoreData.{StoreData}
 use Rattle.mvo_store.specs.Standing.{IsKeeping, after_taken}
 use Rattle.mvo_store.specs.Causes.{why_not_take, why_not_append_body, why_not_append_open}
-use Rattle.mvo_store.specs.Causes.{why_not_rotate, why_not_checkpoint, why_not_merge}
+use Rattle.mvo_store.specs.Causes.{replaces_last, why_not_rotate, why_not_checkpoint, why_not_merge}
 use Rattle.mvo_store.specs.Causes.{why_not_due, why_not_merge_delta, why_not_install_open}
 use Rattle.mvo_store.specs.Causes.{why_not_reclaim}
 use Rattle.mvo_store.specs.Jobs.{Job, no_jobs, job_due, with_step, with_manifest, progress_of}
@@ -116,7 +116,7 @@ HasNewJobs old new = new ≡ record old { disk = new.disk; jobs = new.jobs }
 -- a rotation runs, and nothing of it is installed yet
 pub record HasBegunRotation {D : Type 0} (old new : StoreData D) : Type 0 where
   pub none : old.jobs ≡ no_jobs
-  pub rotation : IsRotationOf old.manifest new.jobs
+  pub rotation : IsRotationOf (replaces_last old) old.manifest new.jobs
   pub after : HasNewJobs old new
 
 -- a checkpoint of the oldest sealed segment runs, and nothing of it is written yet
@@ -149,7 +149,7 @@ pub record IsMergeEnded {D : Type 0} (d : Ghosts D) (old new : StoreData D) : Ty
   pub late : List ℕ
   pub are : AreLateEntries (IsHonest (d.moment new.disk)) (d.content old.disk) old.manifest
       merge.seen late
-  pub bytes : d.content new.disk merge.seen.pair.delta_file ≡ delta_bytes VERSION late
+  pub bytes : d.content new.disk merge.seen.pair.delta_file ≡ delta_bytes LAST_FORMAT.version late
   pub after : new ≡ record old {
     disk = new.disk;
     jobs = with_manifest (merged_at old.manifest merge.seen.place (pair_with merge.seen late))

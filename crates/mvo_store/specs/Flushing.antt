@@ -1,11 +1,22 @@
 -- One turn of a flush: which calls of a log it makes, and what it comes to.
 use Rattle.std.specs.Prelude.{◌≡◌, ◌≢◌, ◌⊎◌, Bool, true, false, Result, Ok, Err}
 use Rattle.mvo_types.specs.declared.refusal.Refusal.{Refusal}
-use Rattle.mvo_types.specs.declared.refusal.Refusal.TheVariants.{Busy, NothingToDo, SegmentFull}
+use Rattle.mvo_types.specs.declared.refusal.Refusal.TheVariants.{Busy, NothingToDo, SegmentFull, OldSegment}
 use Rattle.mvo_store.specs.declared.call.StoreCall.{StoreCall}
 use Rattle.mvo_store.specs.declared.call.StoreCall.TheVariants.{AppendBody, AppendOpen}
 use Rattle.mvo_store.specs.declared.done.Done.{Done}
 use Rattle.mvo_store.specs.Wholes.{IsThen, AreToRefusal, rotation}
+
+-- for these the log is rotated first
+abbrev pub needs_rotation : Refusal → Bool
+needs_rotation SegmentFull = true
+needs_rotation OldSegment = true
+needs_rotation e = false
+
+-- so it is of an answer
+abbrev pub asks_rotation : {A : Type 0} → Result A Refusal → Bool
+asks_rotation (Ok a) = false
+asks_rotation (Err e) = needs_rotation e
 
 -- Accepted, or Busy: so a group is pending, by this taking or before; or a body is written.
 abbrev pub lets_go_on : {A : Type 0} → Result A Refusal → Bool
@@ -25,14 +36,14 @@ module _ {L : Type 0} (ComesTo : L → StoreCall → Result Done Refusal → L �
   abbrev pub IsRotatedAppend : L → Result Done Refusal → L → Type 0
   IsRotatedAppend = IsThen (AreToRefusal ComesTo rotation) IsAppendHere
 
-  -- An append of the pending group. Where the segment is full for it, and only there, the log is
-  -- rotated first.
+  -- An append of the pending group. Where the segment is full for it or of an older version, and
+  -- only there, the log is rotated first.
   pub data IsAppend (l : L) (r : Result Done Refusal) (l' : L) : Type 0 where
-    AtBody : r ≢ Err SegmentFull → lets_go_on r ≡ false
+    AtBody : asks_rotation r ≡ false → lets_go_on r ≡ false
         → ComesTo l AppendBody r l' → IsAppend l r l'
     AtOpen : (q : Result Done Refusal) (m : L) → lets_go_on q ≡ true
         → ComesTo l AppendBody q m → ComesTo m AppendOpen r l' → IsAppend l r l'
-    AtFull : (m : L) → ComesTo l AppendBody (Err SegmentFull) m
+    AtFull : (e : Refusal) (m : L) → needs_rotation e ≡ true → ComesTo l AppendBody (Err e) m
         → IsRotatedAppend m r l' → IsAppend l r l'
 
 module _ {L : Type 0} (Takes : L → Result (Unit {0}) Refusal → L → Type 0)

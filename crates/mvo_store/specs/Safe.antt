@@ -6,7 +6,7 @@ use Rattle.mvo_types.specs.declared.limits.TheConstants.{MAX_SEGMENT_LEN, MAX_PA
 use Rattle.mvo_disk.specs.declared.disk.Disk.{Ghosts}
 use Rattle.mvo_disk.specs.Disk.{IsHonest}
 use Rattle.mvo_group.specs.Data.{GroupData}
-use Rattle.mvo_format.specs.declared.format.TheConstants.{FIRST_FORMAT}
+use Rattle.mvo_format.specs.declared.format.TheConstants.{LAST_FORMAT}
 use Rattle.mvo_frame.specs.declared.segment.Segment.{Segment}
 use Rattle.mvo_pair.specs.declared.pair.Pair.{Pair}
 use Rattle.mvo_pair.specs.Data.{EntryData}
@@ -36,7 +36,7 @@ pub record IsSafePair (p : Pair) (es : List EntryData) : Type 0 where
   pub data_file : IsFile p.data_file
   pub delta_file : IsFile p.delta_file
   pub few : length es ≤ MAX_PAIR_RECORDS
-  pub are : AreEntries FIRST_FORMAT p.lo.0 p.hi.0 es
+  pub are : AreEntries LAST_FORMAT p.lo.0 p.hi.0 es
 
 -- no more delta files are written than there are
 abbrev pub IsWithin : ℕ → CheckpointStage → Type 0

@@ -1,5 +1,5 @@
 -- How a store stands over its disk, and what a stop leaves of it.
-use Rattle.std.specs.Prelude.{◌≡◌, ◌≢◌, ℕ, ◌<◌, ◌≤◌, ◌+◌, ◌^◌, true, false, List, [], ◌∷◌, length}
+use Rattle.std.specs.Prelude.{Bool, ◌≡◌, ◌≢◌, ℕ, ◌<◌, ◌≤◌, ◌+◌, ◌^◌, true, false, List, [], ◌∷◌, length}
 use Rattle.std.specs.Prelude.{Option, Some, None}
 use Rattle.std.specs.List.{AllByRecursion}
 use Rattle.mvo_types.specs.Keys.{Map}
@@ -8,8 +8,8 @@ use Rattle.mvo_disk.specs.declared.disk.Disk.{Ghosts}
 use Rattle.mvo_disk.specs.Disk.{Image, AllOf, LeavesOnly}
 use Rattle.mvo_group.specs.Data.{GroupData}
 use Rattle.mvo_group.specs.Rules.{IsGroup}
-use Rattle.mvo_format.specs.declared.format.TheConstants.{FIRST_FORMAT}
-use Rattle.mvo_format.specs.declared.header.TheConstants.{VERSION, HEADER_LEN}
+use Rattle.mvo_format.specs.declared.format.TheConstants.{LAST_FORMAT}
+use Rattle.mvo_format.specs.declared.header.TheConstants.{HEADER_LEN}
 use Rattle.mvo_frame.specs.declared.segment.Segment.{Segment}
 use Rattle.mvo_frame.specs.Standing.{gate_of, IsBodyBehindGate}
 use Rattle.mvo_manifest.specs.Data.{ManifestData}
@@ -20,7 +20,7 @@ use Rattle.mvo_recovery.specs.image.Files.{GivesRows}
 use Rattle.mvo_places.specs.Rows.{after_groups}
 use Rattle.mvo_recovery.specs.Parts.{Parts, rows_of_parts, mark_of_parts, IsLastFile}
 use Rattle.mvo_recovery.specs.Settled.{IsSettled, other_slot, GivesWithOrWithout}
-use Rattle.mvo_recovery.specs.Rotation.{rotated, IsFreshSegment, MayRotate}
+use Rattle.mvo_recovery.specs.Rotation.{rotated, IsFreshSegment, MayRotate, MayFollowLast}
 use Rattle.mvo_store.specs.declared.install.install_step.InstallStep.{InstallStep}
 use Rattle.mvo_store.specs.declared.install.install_step.InstallStep.TheVariants.{Close, Body, Open}
 use Rattle.mvo_store.specs.declared.install.install.Install.{Install as InstallData}
@@ -31,6 +31,8 @@ use Rattle.mvo_store.specs.declared.jobs.jobs.Jobs.{Jobs}
 use Rattle.mvo_store.specs.declared.jobs.jobs.Jobs.TheVariants.{Beside}
 use Rattle.mvo_store.specs.Checkpoint.{IsCheckpointing}
 use Rattle.mvo_store.specs.Merging.{IsMerging, IsMergeWritten, IsMergeReady}
+use Rattle.mvo_load.specs.Old.{is_old}
+use Rattle.mvo_store.specs.Old.{KnowsOld}
 use Rattle.mvo_store.specs.Jobs.{Job, jobs_of, install_of, job_takes_file}
 use Rattle.mvo_store.specs.Jobs.Job.{Rotation, Checkpoint, Merge, MergeInstall}
 use Rattle.mvo_store.specs.StoreData.{StoreData, opening}
@@ -45,7 +47,8 @@ FollowsMark mark (Some g) = (g.prev ≡ mark) × IsGroup g
 -- its body is written behind these parts' last gate
 abbrev pub HasBody : Parts → Option GroupData → ℕ → ℕ → List ℕ → Type 0
 HasBody x None gate next bytes = ⊥
-HasBody x (Some g) gate next bytes = IsBodyBehindGate VERSION x.middle x.last g gate next bytes
+HasBody x (Some g) gate next bytes =
+    IsBodyBehindGate LAST_FORMAT.version x.middle x.last g gate next bytes
 
 -- ---- a job that runs
 
@@ -60,13 +63,16 @@ abbrev pub HasInstallOf : Option InstallData → ℕ → List ℕ → Type 0
 HasInstallOf None slot bytes = Unit {0}
 HasInstallOf (Some i) slot bytes = HasInstall i.step i.next slot bytes
 
--- The segment is fresh in a file that isn't used, and the manifest names it last.
+-- The segment is fresh in a file that isn't used, and the manifest names it last: behind the last
+-- one, which has a group, or in its place, where it is old and has none.
 pub record IsRotating (content : Image) (may : ℕ → List ℕ → Type 0) (m : ManifestData) (x : Parts)
     (fresh : Segment) (next : ManifestData) : Type 0 where
-  pub next_is : next ≡ rotated m fresh.file
-  pub may_rotate : MayRotate m fresh.file
-  pub some : x.last ≢ []
-  pub is_fresh : IsFreshSegment FIRST_FORMAT content may fresh.file
+  pub replaces : Bool
+  pub next_is : next ≡ rotated replaces m fresh.file
+  pub may_rotate : MayRotate replaces m fresh.file
+  pub ends : MayFollowLast replaces x
+  pub old : (n : ℕ) → IsLastFile m n → replaces ≡ true → is_old (content n) ≡ true
+  pub is_fresh : IsFreshSegment LAST_FORMAT content may fresh.file
   pub gate : fresh.gate ≡ HEADER_LEN
 
 -- a merge whose files aren't all written
@@ -146,7 +152,8 @@ MayTakeOverOf places (Some j) = MayTakeOver places j
 -- ---- the store
 
 -- The store is up: its manifest is installed, the files that it names give exactly these rows and
--- the store's mark, and all of that is durable. It knows the places of the live records.
+-- the store's mark, and all of that is durable. It knows the places of the live records, and which
+-- of these files are old.
 pub record IsUp {D : Type 0} (d : Ghosts D) (s : StoreData D) (rows : Map) : Type 0 where
   pub up : s.down ≡ false
   pub parts : Parts
@@ -154,6 +161,7 @@ pub record IsUp {D : Type 0} (d : Ghosts D) (s : StoreData D) (rows : Map) : Typ
       IsSettled (d.content s.disk) (d.may_leave s.disk) s.manifest parts
   pub rows_are : rows ≡ rows_of_parts parts
   pub mark_is : s.mark ≡ mark_of_parts parts
+  pub marks : KnowsOld (d.content s.disk) s.manifest 1024 s.old_marks
   pub last : IsLastFile s.manifest s.segment.file
   pub gate : s.segment.gate ≡ gate_of parts.last
   pub few : s.segment.gate < MAX_SEGMENT_LEN

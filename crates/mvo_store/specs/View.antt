@@ -7,6 +7,7 @@ store_data s = record {
   disk = s.disk;
   manifest = s.manifest;
   places = s.places;
+  old_marks = s.old_marks.items;
   segment = s.segment;
   mark = s.mark.0;
   pending = s.pending;

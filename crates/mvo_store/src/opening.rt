@@ -1,19 +1,24 @@
 //! Opens a store over what is on its disk.
-ghost use Rattle.std.specs.Prelude.{◌≡◌, ◌<◌, ◌≤◌, Ok, OnOk, IfOk, IfErr};
-ghost use Rattle.mvo_disk.specs.Disk.{IsHonest};
+ghost use Rattle.std.specs.Prelude.{◌≡◌, ◌<◌, ◌≤◌, ◌+◌, ◌^◌, Ok, OnOk, IfOk, IfErr};
+ghost use Rattle.mvo_disk.specs.Disk.{IsHonest, AllStay, AllOf, LeavesOnly};
 ghost use Rattle.mvo_types.specs.declared.limits.TheConstants.{MAX_SEGMENT_LEN, MAX_STAMP};
+ghost use Rattle.mvo_pair.specs.Answers.{Tells};
+ghost use Rattle.mvo_pair.specs.Writing.{IsStop, CountsFaults};
 ghost use Rattle.mvo_manifest.specs.Rules.{IsFile};
 ghost use Rattle.mvo_recovery.specs.Parts.{IsLastFile};
 ghost use Rattle.mvo_recovery.specs.Settled.{IsUsed};
+ghost use Rattle.mvo_recovery.specs.image.Files.{OpensAs};
 ghost use Rattle.mvo_load.specs.Loaded.{IsLoaded};
 ghost use Rattle.mvo_load.specs.Parts.{HavePlaces};
 ghost use Rattle.mvo_store.specs.declared.limits.TheConstants.{MAX_FAULTS};
+ghost use Rattle.mvo_store.specs.Old.{KnowsOld};
 ghost use Rattle.mvo_store.specs.Standing.{IsUp, Gives, HasSlots, KeepsRows};
 ghost use Rattle.mvo_store.specs.Opening.{IsAnswer, HasBegun, KeepsContent, LeavesAsBefore};
 ghost use Rattle.mvo_store.specs.Opening.{HasSynced, IsNotOpened};
 
 use crate::jobs::jobs::Jobs;
 use crate::limits::MAX_FAULTS;
+use crate::old::find_old;
 use crate::store::Store;
 use crate::syncing::sync_used;
 use mvo_disk::Disk;
@@ -33,23 +38,59 @@ fn last_segment(manifest: &Manifest) -> u16
     segments[segments.len() - 1]
 }
 
-/// What is on the disk, which is durable then.
+/// What is on the disk, and which of the files that its manifest names are old. Nothing changes.
+fn load_marked<D: Disk>(
+    rt: &(impl Threads + Sync),
+    alloc: Global,
+    seed: u64,
+    disk: &mut D,
+) -> Result<(Loaded, Vec<bool>), Refusal>
+    requires room { D.fault_count disk.old + 1 < 2 ^ 64 }
+    ensures says { IsHonest (D.moment disk.new) → Tells IsStop (λ l. (l.0.rows, l.0.mark.0)) result
+        (OpensAs (D.content disk.old)) }
+    ensures parts { IsHonest (D.moment disk.new) → IfOk result (λ l. IsLoaded
+        (D.content disk.old) l.0.manifest l.0.rows l.0.mark.0 l.0.gate) }
+    ensures places { IsHonest (D.moment disk.new) → IfOk result (λ l. HavePlaces
+        l.0.manifest.version (D.content disk.old) l.0.manifest.pairs l.0.places.at) }
+    ensures marks { IsHonest (D.moment disk.new) → IfOk result (λ l.
+        KnowsOld (D.content disk.old) l.0.manifest 1024 l.1.items) }
+    ensures few { IfOk result (λ l. l.0.gate < MAX_SEGMENT_LEN) }
+    ensures stamp { IfOk result (λ l. l.0.mark.0 ≤ MAX_STAMP) }
+    ensures count { CountsFaults (D.fault_count disk.old) (D.fault_count disk.new) result }
+    ensures rest { AllStay (D.content disk.old) (D.content disk.new) (D.may_leave disk.old)
+        (D.may_leave disk.new) }
+    ensures any_moment { LeavesOnly D.moment D.left_since disk.old disk.new
+        (AllOf (D.may_leave disk.old)) }
+{
+    let loaded = match load(rt, alloc, disk, seed) {
+        Ok(loaded) => loaded,
+        Err(refusal) => return Err(refusal),
+    };
+    match find_old(alloc, disk, &loaded.manifest) {
+        Ok(marks) => Ok((loaded, marks)),
+        Err(refusal) => Err(refusal),
+    }
+}
+
+/// The same of a disk that is durable then.
 fn load_synced<D: Disk>(
     rt: &(impl Threads + Sync),
     alloc: Global,
     seed: u64,
     disk: &mut D,
-) -> Result<Loaded, Refusal>
+) -> Result<(Loaded, Vec<bool>), Refusal>
     ensures loaded { IsHonest (D.moment disk.new) → IfOk result (λ l. IsLoaded
-        (D.content disk.old) l.manifest l.rows l.mark.0 l.gate) }
-    ensures places { IsHonest (D.moment disk.new) → IfOk result (λ l. HavePlaces l.manifest.version
-        (D.content disk.old) l.manifest.pairs l.places.at) }
+        (D.content disk.old) l.0.manifest l.0.rows l.0.mark.0 l.0.gate) }
+    ensures places { IsHonest (D.moment disk.new) → IfOk result (λ l. HavePlaces
+        l.0.manifest.version (D.content disk.old) l.0.manifest.pairs l.0.places.at) }
+    ensures marks { IsHonest (D.moment disk.new) → IfOk result (λ l.
+        KnowsOld (D.content disk.old) l.0.manifest 1024 l.1.items) }
     ensures answer { IsHonest (D.moment disk.new) → IfOk result (λ l.
-        IsAnswer (D.content disk.old) (Ok (l.rows, l.mark.0))) }
+        IsAnswer (D.content disk.old) (Ok (l.0.rows, l.0.mark.0))) }
     ensures synced { IfOk result (λ l.
-        HasSynced D.Disk (IsUsed l.manifest) 1024 disk.old disk.new) }
-    ensures gate { IfOk result (λ l. l.gate < MAX_SEGMENT_LEN) }
-    ensures stamp { IfOk result (λ l. l.mark.0 ≤ MAX_STAMP) }
+        HasSynced D.Disk (IsUsed l.0.manifest) 1024 disk.old disk.new) }
+    ensures gate { IfOk result (λ l. l.0.gate < MAX_SEGMENT_LEN) }
+    ensures stamp { IfOk result (λ l. l.0.mark.0 ≤ MAX_STAMP) }
     ensures few { OnOk result (D.fault_count disk.old < MAX_FAULTS) }
     ensures refused { IfErr result (λ e. IsNotOpened D.Disk disk.old e disk.new) }
     ensures content { KeepsContent D.Disk disk.old disk.new }
@@ -58,14 +99,14 @@ fn load_synced<D: Disk>(
     if disk.faults() >= MAX_FAULTS {
         return Err(Refusal::ClockSpent);
     }
-    let loaded = match load(rt, alloc, disk, seed) {
-        Ok(loaded) => loaded,
+    let found = match load_marked(rt, alloc, seed, disk) {
+        Ok(found) => found,
         Err(refusal) => return Err(refusal),
     };
-    let Ok(()) = sync_used(disk, &loaded.manifest) else {
+    let Ok(()) = sync_used(disk, &found.0.manifest) else {
         return Err(Refusal::DiskFault);
     };
-    Ok(loaded)
+    Ok(found)
 }
 
 impl<D: Disk> Store<D> {
@@ -100,16 +141,17 @@ impl<D: Disk> Store<D> {
         ensures any_moment_err { IfErr result (λ e. LeavesAsBefore D.Disk disk e.1) }
     {
         let mut disk = disk;
+        let (loaded, old_marks) = match load_synced(rt, alloc, seed, &mut disk) {
+            Ok(found) => found,
+            Err(refusal) => return Err((refusal, disk)),
+        };
         let Loaded {
             manifest,
             rows,
             places,
             mark,
             gate,
-        } = match load_synced(rt, alloc, seed, &mut disk) {
-            Ok(loaded) => loaded,
-            Err(refusal) => return Err((refusal, disk)),
-        };
+        } = loaded;
         let segment = Segment {
             file: last_segment(&manifest),
             gate,
@@ -120,6 +162,7 @@ impl<D: Disk> Store<D> {
             disk,
             manifest,
             places,
+            old_marks,
             segment,
             mark,
             pending: None,

@@ -1,5 +1,6 @@
 use crate::jobs::due::Due;
 use crate::jobs::jobs::Jobs;
+use crate::old::{marked_count, marked_pair_count};
 use mvo_disk::Disk;
 use mvo_frame::Segment;
 use mvo_group::Group;
@@ -21,6 +22,8 @@ pub struct Store<D: Disk> {
     pub(crate) manifest: Manifest,
     /// Where the live records of its pairs lie.
     pub(crate) places: Places,
+    /// Which of the files that it names are of an older version, by their numbers.
+    pub(crate) old_marks: Vec<bool>,
     /// The last segment.
     pub(crate) segment: Segment,
     /// The mark of the last group whose gate is open and synced.
@@ -42,6 +45,7 @@ impl<D: Disk + Drop> Drop for Store<D> {
             disk: _,
             manifest: _,
             places: _,
+            old_marks: _,
             segment: _,
             mark: _,
             pending: _,
@@ -71,8 +75,10 @@ impl<D: Disk> Model for Store<D> {
 }
 
 impl<D: Disk> Store<D> {
-    ghost use Rattle.std.specs.Prelude.{◌≡◌, None, Ok, IfErr};
+    ghost use Rattle.std.specs.Prelude.{◌≡◌, false, None, Ok, IfErr};
+    ghost use Rattle.mvo_disk.specs.Disk.{IsHonest};
     ghost use Rattle.mvo_store.specs.Jobs.{next_due};
+    ghost use Rattle.mvo_store.specs.Old.{old_file_count};
     ghost use Rattle.mvo_store.specs.Causes.{has_group, why_not_take};
     ghost use Rattle.mvo_store.specs.Calls.StoreStep.{Take};
     ghost use Rattle.mvo_store.specs.Calls.{IsStoreStep, without_group};
@@ -86,6 +92,7 @@ impl<D: Disk> Store<D> {
             disk,
             manifest: _,
             places: _,
+            old_marks: _,
             segment: _,
             mark: _,
             pending: _,
@@ -124,6 +131,16 @@ impl<D: Disk> Store<D> {
         ensures { result ≡ next_due self.now.jobs }
     {
         self.jobs.next_step()
+    }
+
+    /// How many of the files that the installed manifest names are of an older version than the one
+    /// that is written. The slots aren't among them.
+    pub fn old_files(&self) -> usize
+        ensures { self.now.down ≡ false → IsHonest (D.moment self.now.disk) →
+            result ≡ old_file_count (D.content self.now.disk) self.now.manifest }
+    {
+        let (pairs, segments) = (self.manifest.pairs(), self.manifest.segments());
+        marked_pair_count(&self.old_marks, pairs) + marked_count(&self.old_marks, segments)
     }
 
     /// Whether a group is being appended.

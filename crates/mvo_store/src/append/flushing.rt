@@ -8,9 +8,9 @@ use crate::jobs::whole::run_rotation;
 use mvo_types::Refusal;
 
 /// Makes the group durable that is being appended, or else the next one; false where there is none.
-/// Where the segment is full for it, the log is rotated first. It is refused as the first of its
-/// calls that stops it, and what its earlier ones did stays done: so Busy where the segment is full
-/// beside a job, since a job is brought on by its own steps alone.
+/// Where the segment is full for it, or is of an older version, the log is rotated first. It is
+/// refused as the first of its calls that stops it, and what its earlier ones did stays done: so
+/// Busy where the segment is so beside a job, since a job is brought on by its own steps alone.
 pub fn turn<L: Log>(log: &mut L) -> Result<bool, Refusal>
     ensures { IsTurn L.takes L.comes_to log.old result log.new }
 {
@@ -33,6 +33,7 @@ fn append<L: Log>(log: &mut L) -> Result<Done, Refusal>
     match log.call(StoreCall::AppendBody) {
         Ok(_) | Err(Refusal::Busy) => log.call(StoreCall::AppendOpen),
         Err(Refusal::SegmentFull) => append_rotated(log),
+        Err(Refusal::OldSegment) => append_rotated(log),
         Err(refusal) => Err(refusal),
     }
 }

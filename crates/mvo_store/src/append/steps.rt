@@ -15,19 +15,23 @@ impl<D: Disk> Store<D> {
     /// present gate of the last segment, in one write, and syncs.
     ///
     /// Refused: Down, then NothingToDo where no group is pending, then Busy where its body is
-    /// written, then SegmentFull where the segment would pass `MAX_SEGMENT_LEN` bytes, then
-    /// OutOfMemory, then DiskFault.
+    /// written, then OldSegment where the last segment is of an older version, then SegmentFull
+    /// where it would pass `MAX_SEGMENT_LEN` bytes, then OutOfMemory, then DiskFault.
     pub fn append_body(&mut self) -> Result<(), Refusal>
         ensures { IsStoreStep D.Disk self.old (Call AppendBody) result self.new }
     {
         if self.down {
             return Err(Refusal::Down);
         }
+        let old = self.has_old_last();
         let Some(group) = &self.pending else {
             return Err(Refusal::NothingToDo);
         };
         if self.written {
             return Err(Refusal::Busy);
+        }
+        if old {
+            return Err(Refusal::OldSegment);
         }
         match self.segment.write_body(self.alloc, &mut self.disk, group) {
             Ok(()) => {

@@ -9,7 +9,7 @@ ghost use Rattle.mvo_store.specs.Writing.{JobStandsFor, IsJobStep};
 
 use crate::checkpoint::checkpointing::Checkpointing;
 use mvo_disk::Disk;
-use mvo_format::FIRST_FORMAT;
+use mvo_format::LAST_FORMAT;
 use mvo_manifest::Manifest;
 use mvo_pair::{Pair, append_delta, write_delta};
 use mvo_types::Refusal;
@@ -69,7 +69,7 @@ pub fn write_next_delta<D: Disk>(
         result }
 {
     if written == 0 {
-        return write_delta(alloc, disk, FIRST_FORMAT, checkpoint.pair, &[]);
+        return write_delta(alloc, disk, LAST_FORMAT, checkpoint.pair, &[]);
     }
     append_older_delta(alloc, disk, manifest, checkpoint, written)
 }

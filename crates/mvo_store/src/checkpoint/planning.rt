@@ -11,6 +11,7 @@ use crate::checkpoint::checkpointing::Checkpointing;
 use crate::checkpoint::stage::CheckpointStage;
 use crate::files::two_free;
 use mvo_ckpt::{DeltaEntries, build};
+use mvo_format::LAST_FORMAT;
 use mvo_frame::Contents;
 use mvo_manifest::Manifest;
 use mvo_pair::Pair;
@@ -84,9 +85,8 @@ fn checkpointed(
     pairs.push(pair)?;
     let segments = manifest.segments();
     let segments = segments[1..].to_vec(alloc)?;
-    let version = manifest.version();
     let generation = manifest.generation() + 1;
-    match Manifest::new(version, generation, pair.hi, pairs, segments)? {
+    match Manifest::new(LAST_FORMAT.version, generation, pair.hi, pairs, segments)? {
         Some(next) => Ok(next),
         None => unreachable!(),
     }

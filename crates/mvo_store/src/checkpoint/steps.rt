@@ -2,7 +2,7 @@
 ghost use Rattle.std.specs.Prelude.{◌≡◌, ◌⊎◌, ◌<◌, ◌+◌, ◌^◌, IfOk, OnOk, IfErr, length};
 ghost use Rattle.std.specs.Prelude.{slice_index_or};
 ghost use Rattle.mvo_disk.specs.Disk.{IsHonest};
-ghost use Rattle.mvo_format.specs.declared.format.TheConstants.{FIRST_FORMAT};
+ghost use Rattle.mvo_format.specs.declared.format.TheConstants.{LAST_FORMAT};
 ghost use Rattle.mvo_frame.specs.declared.kind.Kind.TheVariants.{Sealed};
 ghost use Rattle.mvo_frame.specs.Standing.{IsAllRead};
 ghost use Rattle.mvo_manifest.specs.Rules.{IsManifest};
@@ -30,7 +30,7 @@ use crate::jobs::progress::Progress;
 use crate::limits::MAX_GENERATION;
 use crate::store::Store;
 use mvo_disk::Disk;
-use mvo_format::FIRST_FORMAT;
+use mvo_format::LAST_FORMAT;
 use mvo_frame::{Contents, Kind};
 use mvo_load::segment_on;
 use mvo_manifest::Manifest;
@@ -48,11 +48,11 @@ fn read_oldest<D: Disk>(
 ) -> Result<Contents, Refusal>
     requires room { D.fault_count disk.old + 1 < 2 ^ 64 }
     ensures says { IsHonest (D.moment disk.new) → Tells IsStop (λ s. s.groups.items) result
-        (SegmentIs FIRST_FORMAT.version (slice_index_or manifest.now.segments 0 0)
+        (SegmentIs LAST_FORMAT.version (slice_index_or manifest.now.segments 0 0)
         manifest.now.checkpoint_mark Sealed
         (D.content disk.old (slice_index_or manifest.now.segments 0 0))) }
     ensures groups { IfOk result (λ s.
-        MayBeGroups FIRST_FORMAT.version manifest.now.checkpoint_mark Sealed s.groups.items) }
+        MayBeGroups LAST_FORMAT.version manifest.now.checkpoint_mark Sealed s.groups.items) }
     ensures place { IfOk result (IsAllRead manifest.now.checkpoint_mark) }
     ensures is { OnOk result (IsManifest manifest.now) }
     ensures why { IfErr result (λ e. IsStop e ⊎ IsMisread e) }
@@ -60,7 +60,7 @@ fn read_oldest<D: Disk>(
 {
     let mark = manifest.checkpoint_mark();
     let file = manifest.segments()[0];
-    match segment_on(alloc, disk, FIRST_FORMAT.version, file, mark, Kind::Sealed) {
+    match segment_on(alloc, disk, LAST_FORMAT.version, file, mark, Kind::Sealed) {
         Ok(contents) => Ok(contents),
         Err(refusal) => Err(refusal),
     }

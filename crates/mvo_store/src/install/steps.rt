@@ -8,13 +8,15 @@ ghost use Rattle.mvo_store.specs.Calls.{IsStoreStep, AnswersGeneration};
 ghost use Rattle.mvo_store.specs.Causes.{why_not_install_open};
 ghost use Rattle.mvo_store.specs.Jobs.{next_installed, after_install};
 ghost use Rattle.mvo_store.specs.Standing.{MayTakeOverOf, HaveKeysOf};
-ghost use Rattle.mvo_store.specs.Steps.{manifest_by, places_by, segment_by};
+ghost use Rattle.mvo_store.specs.Old.{AreUnmarked};
+ghost use Rattle.mvo_store.specs.Steps.{manifest_by, places_by, segment_by, filled_by};
 
 use crate::install::generation::Generation;
 use crate::install::install_step::InstallStep;
 use crate::jobs::due::Due;
 use crate::jobs::jobs::Jobs;
 use crate::jobs::step_files::write_step;
+use crate::old::{unmark, unmark_pair};
 use crate::store::Store;
 use mvo_disk::Disk;
 use mvo_frame::Segment;
@@ -41,6 +43,19 @@ fn take_over(places: &mut Places, jobs: &Jobs)
             let (left, right) = (seen.left.data_file, seen.right.data_file);
             move_places(places, left, right, seen.pair.data_file, records);
         }
+    }
+}
+
+/// Takes away the marks of the files to which the job has given new content whose manifest is
+/// installed: they are of the last version.
+fn unmark_taken(marks: &mut Vec<bool>, jobs: &Jobs)
+    ensures { AreUnmarked (filled_by (next_installed jobs.now)) marks.old.items marks.new.items }
+{
+    match jobs {
+        Jobs::Rotation(fresh, _) => unmark(marks, fresh.file),
+        Jobs::Beside(None, _) => {}
+        Jobs::Beside(Some(checkpoint), _) => unmark_pair(marks, &checkpoint.pair),
+        Jobs::Merge(seen, _) => unmark_pair(marks, &seen.pair),
     }
 }
 
@@ -120,6 +135,7 @@ impl<D: Disk> Store<D> {
         match write_step(self.alloc, &mut self.disk, &self.manifest, &self.jobs, step) {
             Ok(()) => {
                 take_over(&mut self.places, &self.jobs);
+                unmark_taken(&mut self.old_marks, &self.jobs);
                 let jobs = replace(&mut self.jobs, Jobs::none());
                 self.jobs = put_installed(jobs, &mut self.manifest, &mut self.segment);
                 Ok(Generation(self.manifest.generation()))

@@ -18,7 +18,7 @@ use crate::jobs::due::Due;
 use crate::jobs::jobs::Jobs;
 use crate::merge::merging::Merging;
 use mvo_disk::Disk;
-use mvo_format::FIRST_FORMAT;
+use mvo_format::LAST_FORMAT;
 use mvo_manifest::{Manifest, close_slot, open_slot, write_slot};
 use mvo_pair::write_data;
 use mvo_types::Refusal;
@@ -90,7 +90,7 @@ fn write_checkpoint<D: Disk>(
     match checkpoint.stage {
         CheckpointStage::Data => {
             let records = &checkpoint.made.records;
-            write_data(alloc, disk, FIRST_FORMAT, checkpoint.pair, records)
+            write_data(alloc, disk, LAST_FORMAT, checkpoint.pair, records)
         }
         CheckpointStage::Delta(written) => {
             write_next_delta(alloc, disk, manifest, checkpoint, written)
@@ -112,7 +112,7 @@ fn write_merge_data<D: Disk>(
     ensures { IsJobStep D.Disk disk.old disk.new manifest.now (Merge merge.now) result }
 {
     let records = &merge.seen.made.records;
-    write_data(alloc, disk, FIRST_FORMAT, merge.seen.pair, records)
+    write_data(alloc, disk, LAST_FORMAT, merge.seen.pair, records)
 }
 
 /// Writes the file of this step of the job whose next it is, other than the last file of a merge,

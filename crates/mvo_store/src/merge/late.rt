@@ -11,7 +11,7 @@ ghost use Rattle.mvo_store.specs.declared.merge.stage.MergeStage.TheVariants.{De
 use crate::merge::merging::Merging;
 use crate::merge::planning::{merged, neighbours};
 use mvo_disk::Disk;
-use mvo_format::FIRST_FORMAT;
+use mvo_format::LAST_FORMAT;
 use mvo_manifest::Manifest;
 use mvo_pair::{Pair, late_numbers, write_delta};
 use mvo_types::Refusal;
@@ -74,7 +74,7 @@ fn write_late<D: Disk>(
         ..seen.pair
     };
     let next = merged(alloc, manifest, seen.place, pair)?;
-    match write_delta(alloc, disk, FIRST_FORMAT, pair, late) {
+    match write_delta(alloc, disk, LAST_FORMAT, pair, late) {
         Ok(()) => Ok(next),
         Err(refusal) => Err(refusal),
     }

@@ -9,6 +9,7 @@ use crate::files::two_free;
 use crate::merge::merging::Merging;
 use crate::merge::seen_pairs::SeenPairs;
 use crate::merge::stage::MergeStage;
+use mvo_format::LAST_FORMAT;
 use mvo_manifest::Manifest;
 use mvo_merge::Merged;
 use mvo_pair::Pair;
@@ -52,10 +53,9 @@ pub fn merged(
     pairs.push(pair)?;
     pairs.extend_from_slice(&old[place + 2..])?;
     let segments = manifest.segments().to_vec(alloc)?;
-    let version = manifest.version();
     let generation = manifest.generation() + 1;
     match Manifest::new(
-        version,
+        LAST_FORMAT.version,
         generation,
         manifest.checkpoint_mark(),
         pairs,

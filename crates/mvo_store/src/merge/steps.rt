@@ -1,6 +1,6 @@
 //! Reads two neighbouring pairs, and writes the pair that they become, in steps.
 ghost use Rattle.std.specs.Prelude.{◌≡◌, ◌⊎◌, ◌<◌, ◌+◌, ◌^◌, IfOk, IfErr};
-ghost use Rattle.mvo_format.specs.declared.format.TheConstants.{FIRST_FORMAT};
+ghost use Rattle.mvo_format.specs.declared.format.TheConstants.{LAST_FORMAT};
 ghost use Rattle.mvo_disk.specs.Disk.{IsHonest};
 ghost use Rattle.mvo_load.specs.Read.{HasRead, IsMisread, MayBeLive};
 ghost use Rattle.mvo_store.specs.Calls.StoreStep.{Call};
@@ -26,7 +26,7 @@ use crate::merge::merging::Merging;
 use crate::merge::planning::{live_count, neighbours, planned_merge};
 use crate::store::Store;
 use mvo_disk::Disk;
-use mvo_format::FIRST_FORMAT;
+use mvo_format::LAST_FORMAT;
 use mvo_load::pair_on;
 use mvo_manifest::Manifest;
 use mvo_merge::build;
@@ -50,18 +50,18 @@ fn read_both<D: Disk>(
     ensures has { IsHonest (D.moment disk.new) → IfOk result (λ x.
         HasLive (D.content disk.old) left x.0.items
         × HasLive (D.content disk.old) right x.1.items) }
-    ensures some { IfOk result (λ x. MayBeLive FIRST_FORMAT.version left x.0.items
-        × MayBeLive FIRST_FORMAT.version right x.1.items) }
+    ensures some { IfOk result (λ x. MayBeLive LAST_FORMAT.version left x.0.items
+        × MayBeLive LAST_FORMAT.version right x.1.items) }
     ensures why { IfErr result (λ e. IsStop e ⊎ IsMisread e) }
     ensures stop { IsHonest (D.moment disk.new) → IfErr result (λ e.
         IsStoppedIn (D.content disk.old) left right e) }
     ensures read { HasRead D.Disk disk.old disk.new result }
 {
-    let first = match pair_on(alloc, disk, FIRST_FORMAT.version, left) {
+    let first = match pair_on(alloc, disk, LAST_FORMAT.version, left) {
         Ok(live) => live,
         Err(refusal) => return Err(refusal),
     };
-    match pair_on(alloc, disk, FIRST_FORMAT.version, right) {
+    match pair_on(alloc, disk, LAST_FORMAT.version, right) {
         Ok(second) => Ok((first, second)),
         Err(refusal) => Err(refusal),
     }

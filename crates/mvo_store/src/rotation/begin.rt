@@ -1,38 +1,54 @@
 //! Begins a rotation of the log.
 ghost use Rattle.std.specs.Prelude.{◌≡◌, IfOk};
 ghost use Rattle.mvo_manifest.specs.Rules.{IsManifest};
-ghost use Rattle.mvo_recovery.specs.Rotation.{rotated};
+ghost use Rattle.mvo_recovery.specs.Rotation.{rotated, segments_left};
 ghost use Rattle.mvo_store.specs.Calls.StoreStep.{Call};
 ghost use Rattle.mvo_store.specs.declared.call.StoreCall.TheVariants.{RotateWrite};
 ghost use Rattle.mvo_store.specs.Calls.{IsStoreStep};
-ghost use Rattle.mvo_store.specs.Causes.{why_not_rotate};
+ghost use Rattle.mvo_store.specs.Causes.{has_old_last, replaces_last, why_not_rotate};
 
 use crate::files::least_free;
 use crate::install::install::Install;
 use crate::install::install_step::InstallStep;
 use crate::jobs::jobs::Jobs;
 use crate::limits::MAX_GENERATION;
+use crate::old::is_marked;
 use crate::store::Store;
 use mvo_disk::Disk;
-use mvo_format::{HEADER_LEN, VERSION};
+use mvo_format::{HEADER_LEN, LAST_FORMAT};
 use mvo_frame::Segment;
 use mvo_manifest::Manifest;
 use mvo_types::{MAX_SEGMENTS, Refusal};
 use std::alloc::{AllocError, Global};
 
-/// The manifest that names a fresh segment last.
-fn rotated(alloc: Global, manifest: &Manifest, fresh: u16) -> Result<Manifest, AllocError>
-    requires { IsManifest (rotated manifest.now fresh) }
-    ensures { IfOk result (λ next. next ≡ rotated manifest.now fresh) }
+/// The segments that a manifest names, without the last one where that is replaced.
+fn segments_left(manifest: &Manifest, replaces: bool) -> &[u16]
+    ensures { result.now ≡ segments_left replaces manifest.now.segments }
+{
+    let segments = manifest.segments();
+    if replaces {
+        return &segments[..segments.len() - 1];
+    }
+    segments
+}
+
+/// The manifest that names a fresh segment last, or in the place of the last one.
+fn rotated(
+    alloc: Global,
+    manifest: &Manifest,
+    replaces: bool,
+    fresh: u16,
+) -> Result<Manifest, AllocError>
+    requires { IsManifest (rotated replaces manifest.now fresh) }
+    ensures { IfOk result (λ next. next ≡ rotated replaces manifest.now fresh) }
 {
     let pairs = manifest.pairs().to_vec(alloc)?;
     let mut segments = Vec::with_capacity(alloc, manifest.segments().len() + 1)?;
-    segments.extend_from_slice(manifest.segments())?;
+    segments.extend_from_slice(segments_left(manifest, replaces))?;
     segments.push(fresh)?;
-    let version = manifest.version();
     let generation = manifest.generation() + 1;
     match Manifest::new(
-        version,
+        LAST_FORMAT.version,
         generation,
         manifest.checkpoint_mark(),
         pairs,
@@ -44,6 +60,20 @@ fn rotated(alloc: Global, manifest: &Manifest, fresh: u16) -> Result<Manifest, A
 }
 
 impl<D: Disk> Store<D> {
+    // Whether the last segment is of an older version.
+    pub(crate) fn has_old_last(&self) -> bool
+        ensures { result ≡ has_old_last self.now }
+    {
+        is_marked(&self.old_marks, self.segment.file)
+    }
+
+    // Whether a rotation replaces the last segment, which is old and holds no group.
+    fn replaces_last(&self) -> bool
+        ensures { result ≡ replaces_last self.now }
+    {
+        self.has_old_last() && self.segment.gate == HEADER_LEN
+    }
+
     // Why no rotation begins, before memory and the disk are asked.
     fn why_not_rotate(&self) -> Option<Refusal>
         ensures { result ≡ why_not_rotate self.now }
@@ -57,21 +87,24 @@ impl<D: Disk> Store<D> {
         if self.manifest.generation() >= MAX_GENERATION {
             return Some(Refusal::ClockSpent);
         }
-        if self.segment.gate == HEADER_LEN {
+        let old = self.has_old_last();
+        let is_empty = self.segment.gate == HEADER_LEN;
+        if is_empty && !old {
             return Some(Refusal::NothingToDo);
         }
-        if self.manifest.segments().len() >= MAX_SEGMENTS {
+        if self.manifest.segments().len() >= MAX_SEGMENTS && !(old && is_empty) {
             return Some(Refusal::SegmentsFull);
         }
         None
     }
 
     /// Writes a fresh segment to the least free file, and syncs it. From then on its manifest is to
-    /// be installed. Appends go on meanwhile.
+    /// be installed. Appends go on meanwhile. It takes the place of a last segment that is of an
+    /// older version and holds no group.
     ///
     /// Refused: Down, then Busy where a job runs, then ClockSpent where the generation is 2^63 or
-    /// above, then NothingToDo where the last segment holds no group, then SegmentsFull where 64
-    /// are named, then OutOfMemory, then DiskFault.
+    /// above, then NothingToDo where the last segment holds no group and isn't old, then
+    /// SegmentsFull where 64 are named and none is replaced, then OutOfMemory, then DiskFault.
     pub fn rotate_write(&mut self) -> Result<(), Refusal>
         ensures { IsStoreStep D.Disk self.old (Call RotateWrite) result self.new }
     {
@@ -79,8 +112,9 @@ impl<D: Disk> Store<D> {
             return Err(refusal);
         }
         let file = least_free(&self.manifest, &[]);
-        let next = rotated(self.alloc, &self.manifest, file)?;
-        let Ok(fresh) = Segment::fresh(&mut self.disk, VERSION, file) else {
+        let replaces = self.replaces_last();
+        let next = rotated(self.alloc, &self.manifest, replaces, file)?;
+        let Ok(fresh) = Segment::fresh(&mut self.disk, LAST_FORMAT.version, file) else {
             self.down = true;
             return Err(Refusal::DiskFault);
         };

@@ -1,4 +1,5 @@
-use Rattle.std.proofs.Common.{◌≡◌, true, ◌∙◌, arith, Err, ap, subst}
+use Rattle.std.proofs.Common.{◌≡◌, true, ◌∙◌, arith, Err, ap, refl, subst}
+use Rattle.mvo_types.specs.declared.refusal.Refusal.TheVariants.{SegmentFull, OldSegment}
 use Rattle.mvo_store.specs.declared.call.StoreCall.TheVariants.{AppendBody}
 use Rattle.mvo_store.specs.Flushing.IsAppend.{AtOpen, AtFull}
 use Rattle.mvo_store.specs.Flushing.{lets_go_on}
@@ -9,7 +10,12 @@ use Rattle.mvo_store.proofs.append.flushing.append.Goals.{in-Ok-1, in-Err+in-Bus
 pub returns-in-Err-SegmentFull : goal.returns-in-Err-SegmentFull
 returns-in-Err-SegmentFull g c =
     let full = c.in-Err-SegmentFull.is ∙ ap (λ e. Err e) c.in-Err-SegmentFull.field-0-is in
-    AtFull c.call.new.self (subst (λ r. g.L.StoreCaller.comes_to c.args.log.now AppendBody r c.call.new.self) full c.call.ensures) c.append_rotated.ensures
+    AtFull SegmentFull c.call.new.self refl (subst (λ r. g.L.StoreCaller.comes_to c.args.log.now AppendBody r c.call.new.self) full c.call.ensures) c.append_rotated.ensures
+
+pub returns-in-Err-OldSegment : goal.returns-in-Err-OldSegment
+returns-in-Err-OldSegment g c =
+    let full = c.in-Err-OldSegment.is ∙ ap (λ e. Err e) c.in-Err-OldSegment.field-0-is in
+    AtFull OldSegment c.call.new.self refl (subst (λ r. g.L.StoreCaller.comes_to c.args.log.now AppendBody r c.call.new.self) full c.call.ensures) c.append_rotated-in-Err-OldSegment.ensures
 
 pub returns-in-Ok : goal.returns-in-Ok
 returns-in-Ok g c =
