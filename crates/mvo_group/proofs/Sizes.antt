@@ -36,24 +36,24 @@ length-body_of g =
     let records : length (flat_map record_bytes g.records) ≡ sum_by record_len g.records = length-flat_map record_bytes g.records ∙ sum_same (λ r. length (record_bytes r)) record_len length-record_bytes g.records in
     simp length-append (omega (arith, length-field 8 g.prev, length-field 8 g.mark, length-field 2 (length g.records), records))
 
--- ---- a record of 256 writes of 1,044 bytes, and 1,024 of them
+-- ---- a record of 256 writes of 4,116 bytes, and 1,024 of them
 
-effect_small : (effect : Effect) → length (put_bytes effect) ≤ 1024 → effect_len effect ≤ 1044
+effect_small : (effect : Effect) → length (put_bytes effect) ≤ 4096 → effect_len effect ≤ 4116
 effect_small Delete h = omega arith
 effect_small (Put x) h = omega arith
 
-writes_small : (ws : List Write) → AllByRecursion KeepsLimits ws → sum_by write_len ws ≤ 1044 * length ws
+writes_small : (ws : List Write) → AllByRecursion KeepsLimits ws → sum_by write_len ws ≤ 4116 * length ws
 writes_small [] all = omega arith
 writes_small (w ∷ ws) all = let a = effect_small w.1 all.0.size in let b = writes_small ws all.1 in simp sum_by-cons (omega (arith, a, b))
 
-pub record_small : (r : RecordData) → IsRecord r → record_len r ≤ 267274
+pub record_small : (r : RecordData) → IsRecord r → record_len r ≤ 1053706
 record_small r is = omega (arith, writes_small r.writes (recursion_from_All KeepsLimits r.writes is.each), is.few)
 
-records_small : (rs : List RecordData) → AllByRecursion IsRecord rs → sum_by record_len rs ≤ 267274 * length rs
+records_small : (rs : List RecordData) → AllByRecursion IsRecord rs → sum_by record_len rs ≤ 1053706 * length rs
 records_small [] all = omega arith
 records_small (r ∷ rs) all = let a = record_small r all.0 in let b = records_small rs all.1 in simp sum_by-cons (omega (arith, a, b))
 
-pub body_small : (rs : List RecordData) → length rs ≤ 1024 → All IsRecord rs → 18 + sum_by record_len rs ≤ 273688594
+pub body_small : (rs : List RecordData) → length rs ≤ 1024 → All IsRecord rs → 18 + sum_by record_len rs ≤ 1078994962
 body_small rs few all = omega (arith, records_small rs (recursion_from_All IsRecord rs all), few)
 
 -- ---- parts of what a loop goes through

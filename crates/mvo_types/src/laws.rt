@@ -8,8 +8,8 @@ use crate::limits::{
 /// The laws of the limits: each is the number that the documents give. The call does nothing.
 pub fn laws_of_limits()
     ensures stamp { MAX_STAMP ≡ 2 ^ 62 }
-    ensures table { MAX_TABLE ≡ 15 }
-    ensures data { MAX_DATA_LEN ≡ 1024 }
+    ensures table { MAX_TABLE ≡ 63 }
+    ensures data { MAX_DATA_LEN ≡ 4096 }
     ensures unfinished { MAX_UNFINISHED ≡ 1024 }
     ensures writes { MAX_WRITES ≡ 256 }
     ensures entries { MAX_ENTRIES ≡ 4096 }

@@ -11,7 +11,7 @@ use std::test::Fail;
 
 const GREATEST: u64 = 1 << 62;
 
-const REFUSALS: [(Refusal, &str); 32] = [
+const REFUSALS: [(Refusal, &str); 33] = [
     (Refusal::NoSuchTransaction, "refused 10"),
     (Refusal::Ended, "refused 11"),
     (Refusal::NotActive, "refused 12"),
@@ -49,6 +49,7 @@ const REFUSALS: [(Refusal, &str); 32] = [
     (Refusal::NothingToDo, "refused 56"),
     (Refusal::AlreadyFormatted, "refused 57"),
     (Refusal::ReadOnly, "refused 60"),
+    (Refusal::OldSegment, "refused 61"),
     (Refusal::OutOfMemory, "refused 90"),
 ];
 
