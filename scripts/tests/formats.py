@@ -8,6 +8,8 @@ import struct
 import sys
 
 OPEN = 0xA5
+# Of each version the greatest table, and the most bytes of data in a row.
+LIMITS = {1: (15, 1_024), 2: (63, 4_096)}
 
 
 class Refused(Exception):
@@ -33,10 +35,13 @@ class Reader:
     def number(self, form):
         return struct.unpack("<" + form, self.take(struct.calcsize(form)))[0]
 
-    def head(self, magic):
+    def head(self, magic, may):
+        """The version, which is one of these."""
         need(self.take(4) == magic, self.file)
-        if self.number("I") != 1:
+        version = self.number("I")
+        if version not in may:
             raise Refused("refused 55")
+        return version
 
 
 def pairs_of(body, mark):
@@ -55,12 +60,12 @@ def pairs_of(body, mark):
 
 
 def slot_of(file, data):
-    """Generation, checkpoint mark, pairs and segments of a slot; None where it is closed."""
+    """Generation, checkpoint mark, pairs, segments and version of a slot; None where it is closed."""
     if not data or data[0] != OPEN:
         return None
     length = Reader(file, data, 1).number("I")
     # The magic and the version stand at their places, whatever the length says.
-    Reader(file, data, 5).head(b"MVOM")
+    version = Reader(file, data, 5).head(b"MVOM", LIMITS)
     need(5 + length <= len(data), file)
     body = Reader(file, data[: 5 + length], 13)
     generation, mark = body.number("Q"), body.number("Q")
@@ -72,29 +77,34 @@ def slot_of(file, data):
     named = [it for pair in pairs for it in pair[:2]] + segments
     differ = len(set(named)) == len(named) and all(2 <= it <= 1023 for it in named)
     need(differ and body.at == len(body.data), file)
-    return generation, mark, pairs, segments
+    return generation, mark, pairs, segments, version
 
 
-def records_of(file, data, lo, hi, count):
-    """Of each record of a data file its table and key, and its sort and data."""
+def up_to(version):
+    return range(1, version + 1)
+
+
+def records_of(file, data, lo, hi, count, upto):
+    """The version of a data file, and of each record its table and key, and its sort and data."""
     reader, found, last = Reader(file, data), [], None
-    reader.head(b"MVOD")
+    version = reader.head(b"MVOD", up_to(upto))
+    most_table, most_data = LIMITS[version]
     for _ in range(count):
         begin, table, key = reader.number("Q"), reader.number("B"), reader.number("Q")
         sort = reader.number("Q")
         length = reader.number("H")
-        need(lo < begin <= hi and table <= 15 and length <= 1024, file)
+        need(lo < begin <= hi and table <= most_table and length <= most_data, file)
         row = sort, reader.take(length)
         need(last is None or last < (begin, table, key), file)
         last = begin, table, key
         found.append(((table, key), row))
-    return found
+    return version, found
 
 
-def numbers_of(file, data, count, entries):
-    """The numbers in a delta file."""
+def numbers_of(file, data, count, entries, version):
+    """The numbers in a delta file, which has the version of its data file."""
     reader, found = Reader(file, data), set()
-    reader.head(b"MVOE")
+    reader.head(b"MVOE", [version])
     for _ in range(entries):
         number = reader.number("I")
         need(number < count and number not in found, file)
@@ -102,36 +112,36 @@ def numbers_of(file, data, count, entries):
     return found
 
 
-def pair_of(pair, files, rows):
+def pair_of(pair, files, rows, upto):
     """Puts the live records of a pair into the rows."""
     data_file, delta_file, lo, hi, count, entries = pair
-    records = records_of(data_file, files.get(data_file, b""), lo, hi, count)
-    dead = numbers_of(delta_file, files.get(delta_file, b""), count, entries)
+    version, records = records_of(data_file, files.get(data_file, b""), lo, hi, count, upto)
+    dead = numbers_of(delta_file, files.get(delta_file, b""), count, entries, version)
     for number, (place, row) in enumerate(records):
         if number not in dead:
             need(place not in rows, data_file)
             rows[place] = row
 
 
-def writes_of(body):
+def writes_of(body, most_table, most_data):
     """The writes of a record, each a table and a key, and what it puts there, if it does."""
     found = []
     count = body.number("H")
     need(1 <= count <= 256, body.file)
     for _ in range(count):
         tag, table, key = body.number("B"), body.number("B"), body.number("Q")
-        need(tag in (1, 2) and table <= 15, body.file)
+        need(tag in (1, 2) and table <= most_table, body.file)
         row = None
         if tag == 1:
             sort, length = body.number("Q"), body.number("H")
-            need(length <= 1024, body.file)
+            need(length <= most_data, body.file)
             row = sort, body.take(length)
         need(not found or found[-1][0] < (table, key), body.file)
         found.append(((table, key), row))
     return found
 
 
-def group_of(body, mark, rows):
+def group_of(body, mark, rows, limits):
     """Does the writes of a group, and answers its mark."""
     prev, new = body.number("Q"), body.number("Q")
     need(prev == mark and prev < new <= 2**62, body.file)
@@ -141,7 +151,7 @@ def group_of(body, mark, rows):
         end = body.number("Q")
         need(last < end <= new, body.file)
         last = end
-        for place, row in writes_of(body):
+        for place, row in writes_of(body, *limits):
             if row:
                 rows[place] = row
             else:
@@ -150,25 +160,25 @@ def group_of(body, mark, rows):
     return new
 
 
-def segment_of(file, data, mark, is_last, rows):
+def segment_of(file, data, mark, is_last, rows, upto):
     """Does the writes of a segment's groups, and answers its mark, how many bytes stand before its
     closed gate, and how many groups it has."""
     reader = Reader(file, data)
-    reader.head(b"MVOL")
+    limits = LIMITS[reader.head(b"MVOL", up_to(upto))]
     frames = 0
     while reader.number("B") == OPEN:
         length = reader.number("I")
         need(length <= 4_194_304, file)
         body = Reader(file, reader.take(length))
         need(reader.at + 1 <= 67_108_864, file)
-        mark = group_of(body, mark, rows)
+        mark = group_of(body, mark, rows, limits)
         frames += 1
     need(frames or is_last, file)
     return mark, reader.at - 1, frames
 
 
 def installed_of(files):
-    """The manifest that counts: its generation, checkpoint mark, pairs and segments."""
+    """The manifest that counts: its generation, checkpoint mark, pairs, segments and version."""
     slots = [slot_of(file, files.get(file, b"")) for file in (0, 1)]
     installed = max((it for it in slots if it), default=None)
     if installed is None:
@@ -177,35 +187,38 @@ def installed_of(files):
 
 
 def opened(files):
-    """The mark of a store with these files, its rows by table and key, and how many pairs and
-    segments it has."""
-    _, mark, pairs, segments = installed_of(files)
+    """The mark of a store with these files, its rows by table and key, and how many pairs, segments
+    and old files it has."""
+    _, mark, pairs, segments, upto = installed_of(files)
     rows = {}
     for pair in pairs:
-        pair_of(pair, files, rows)
+        pair_of(pair, files, rows, upto)
     for file in segments:
-        mark, _, _ = segment_of(file, files.get(file, b""), mark, file == segments[-1], rows)
-    return mark, rows, len(pairs), len(segments)
+        mark, _, _ = segment_of(file, files.get(file, b""), mark, file == segments[-1], rows, upto)
+    named = [it for pair in pairs for it in pair[:2]] + segments
+    old = sum(files[file][4] == 1 for file in named)
+    return mark, rows, len(pairs), len(segments), old
 
 
 def answer_of(files):
     """What `mvo check` must print for these files, or answer on standard error."""
     try:
-        mark, rows, pairs, segments = opened(files)
-        return f"ok mark {mark} rows {len(rows)} pairs {pairs} segments {segments}"
+        mark, rows, pairs, segments, old = opened(files)
+        counts = f"ok mark {mark} rows {len(rows)} pairs {pairs} segments {segments}"
+        return f"{counts} old {old}" if old else counts
     except Refused as refused:
         return str(refused)
 
 
 def stats_of(files):
     """What `mvo stats` must print for these files, which are opened."""
-    _, mark, pairs, segments = installed_of(files)
+    _, mark, pairs, segments, upto = installed_of(files)
     rows, lines = {}, []
     for pair in pairs:
-        pair_of(pair, files, rows)
+        pair_of(pair, files, rows, upto)
     for file in segments:
         is_last = file == segments[-1]
-        mark, count, groups = segment_of(file, files.get(file, b""), mark, is_last, rows)
+        mark, count, groups = segment_of(file, files.get(file, b""), mark, is_last, rows, upto)
         lines.append(f"segment {file} bytes {count} groups {groups}")
     for data, delta, _, _, records, dead in pairs:
         lines.append(f"pair {data} {delta} records {records} dead {dead}")
@@ -221,7 +234,7 @@ def kind_of(files, answer):
         return answer if kind.startswith("refused") else "opened"
     if file in ("0", "1"):
         return "refused 54 of a slot"
-    _, _, pairs, segments = installed_of(files)
+    _, _, pairs, segments, _ = installed_of(files)
     if int(file) in segments:
         return "refused 54 of a segment"
     is_data = int(file) in [it[0] for it in pairs]

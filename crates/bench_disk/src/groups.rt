@@ -142,7 +142,7 @@ fn rotate(store: &mut HostStore) -> Result<(), Refusal> {
     Ok(())
 }
 
-/// Appends a group; a segment that is full is rotated first.
+/// Appends a group; a segment that is full or old is rotated first.
 fn append(store: &mut HostStore, group: Group) -> Result<()> {
     if group.prev().0 != store.mark().0 {
         bail!("the group follows the mark");
@@ -156,7 +156,7 @@ fn append(store: &mut HostStore, group: Group) -> Result<()> {
 /// Writes the group that was taken.
 fn write(store: &mut HostStore) -> Result<(), Refusal> {
     match store.append_body() {
-        Err(Refusal::SegmentFull) => {
+        Err(Refusal::SegmentFull | Refusal::OldSegment) => {
             rotate(store)?;
             store.append_body()?;
         }

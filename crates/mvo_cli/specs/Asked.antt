@@ -15,7 +15,7 @@ folder_rule required = record (new_rule (codes "DIR")) { required = required }
 abbrev pub table_rule : Rule
 table_rule = record (new_rule (codes "TABLE")) {
   required = true;
-  parser = Some (parser.Signed (pos 0) (pos 15));
+  parser = Some (parser.Signed (pos 0) (pos 63));
 }
 
 -- a command with the path of a folder

@@ -17,7 +17,7 @@ use std::alloc::{AllocError, Global};
 /// The program's name.
 const PROGRAM: &str = "mvo";
 /// The program's version, and the versions of files that it reads.
-const VERSION: &str = "0 files 1";
+const VERSION: &str = "0 files 1 2";
 
 /// The task that the words ask for, the program's own name first. An error is help or the version
 /// that was asked for, a wrong or lacking word, or out of memory.
@@ -87,9 +87,9 @@ fn table_arg<'a>(alloc: Global) -> Arg<'a>
     ensures local { result.global ≡ false }
 {
     Arg::new(alloc, TABLE)
-        .help("The number of a table, 0 to 15")
+        .help("The number of a table, 0 to 63")
         .required(true)
-        .value_parser(ValueParser::signed(0, 15))
+        .value_parser(ValueParser::signed(0, 63))
 }
 
 /// A command with the path of a folder.

@@ -112,6 +112,8 @@ pub struct Holdings {
     pub mark: Stamp,
     pub pairs: usize,
     pub segments: usize,
+    /// How many of their files are of an older version than the one that is written.
+    pub old: usize,
 }
 
 impl Drop for Holdings {
@@ -121,6 +123,7 @@ impl Drop for Holdings {
             mark: _,
             pairs: _,
             segments: _,
+            old: _,
         } = self;
     }
 }
@@ -158,5 +161,6 @@ pub fn held_of<D: Disk>(store: &Store<D>, rows: Rows, mark: Stamp) -> Holdings {
         mark,
         pairs,
         segments,
+        old: store.old_files(),
     }
 }

@@ -73,11 +73,20 @@ fn write_row(alloc: Global, row: &Row, writer: &mut impl Write) -> Result<(), Fa
 pub fn write_counts(held: &Holdings, writer: &mut impl Write) -> Result<(), Fault> {
     let (mark, rows) = (held.mark, held.rows.len());
     let (pairs, segments) = (held.pairs, held.segments);
-    writeln!(
+    write!(
         writer,
         "ok mark {mark} rows {rows} pairs {pairs} segments {segments}"
     )
-    .map_err(Fault::Print)
+    .map_err(Fault::Print)?;
+    write_old(held.old, writer)
+}
+
+/// Ends the line, with the count of old files where there are any.
+fn write_old(old: usize, writer: &mut impl Write) -> Result<(), Fault> {
+    if old == 0 {
+        return writeln!(writer).map_err(Fault::Print);
+    }
+    writeln!(writer, " old {old}").map_err(Fault::Print)
 }
 
 /// Writes what a folder has: its mark and rows, then each segment and each pair, the oldest first,

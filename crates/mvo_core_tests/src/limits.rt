@@ -120,29 +120,29 @@ fn reads(
 }
 
 fn check_reads(rt: &impl Abort, alloc: Global, session: &mut Session) -> Result<(), Fail> {
-    for (table, text) in [(15, "none"), (16, "refused 34")] {
+    for (table, text) in [(63, "none"), (64, "refused 34")] {
         reads(rt, alloc, session, RowKey { table, key: 1 }, text)?;
     }
     Ok(())
 }
 
-fn check_table_16(rt: &impl Abort, alloc: Global, session: &mut Session) -> Result<(), Fail> {
-    let reply = session.scan(TX, 16, 0, 1);
+fn check_table_64(rt: &impl Abort, alloc: Global, session: &mut Session) -> Result<(), Fail> {
+    let reply = session.scan(TX, 64, 0, 1);
     says(rt, alloc, &reply, "refused 34")?;
-    let reply = session.delete(TX, RowKey { table: 16, key: 1 });
+    let reply = session.delete(TX, RowKey { table: 64, key: 1 });
     says(rt, alloc, &reply, "refused 34")
 }
 
 fn check_lens(rt: &impl Abort, alloc: Global, session: &mut Session) -> Result<(), Fail> {
     session.follow(rt, &IS_BEGUN)?;
-    inserts(rt, alloc, session, 1, 1_024, "inserted")?;
-    inserts(rt, alloc, session, 2, 1_025, "refused 33")?;
+    inserts(rt, alloc, session, 1, 4_096, "inserted")?;
+    inserts(rt, alloc, session, 2, 4_097, "refused 33")?;
     check_reads(rt, alloc, session)?;
-    check_table_16(rt, alloc, session)
+    check_table_64(rt, alloc, session)
 }
 
 #[test]
-fn data_has_1024_bytes_and_tables_are_16(rt: HostRuntime) -> Result<(), Fail> {
+fn data_has_4096_bytes_and_tables_are_64(rt: HostRuntime) -> Result<(), Fail> {
     let mut session = Session::new(&rt, rt.alloc())?;
     let checked = check_lens(&rt, rt.alloc(), &mut session);
     session.end();

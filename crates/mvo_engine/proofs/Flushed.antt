@@ -119,8 +119,8 @@ module _ {D : Type 0} (d : Ghosts D) where
   appended_group old new a g there (AtOpen q m on body h) =
       let stays = body_stays old m q body in
       then_opens stays (opens_gate m new a g (stays.pending ∙ there) h)
-  appended_group old new a g there (AtFull m body h) =
-      let stays = body_stays old m (Err _) body in
+  appended_group old new a g there (AtFull full m asks body h) =
+      let stays = body_stays old m (Err full) body in
       then_opens stays (appended_rotated m new a g (stays.pending ∙ there) h)
 
   -- one that is refused
@@ -135,7 +135,7 @@ module _ {D : Type 0} (d : Ghosts D) where
   refused_append : (old new : StoreState D) (e : Refusal) → IsAppend (IsLockedCall d) old (Err e) new → Stays old new
   refused_append old new e (AtBody apart stops h) = body_stays old new (Err e) h
   refused_append old new e (AtOpen q m on body h) = then_stays (body_stays old m q body) (refused_stays m new e h)
-  refused_append old new e (AtFull m body h) = then_stays (body_stays old m (Err _) body) (refused_rotated m new e h)
+  refused_append old new e (AtFull full m asks body h) = then_stays (body_stays old m (Err full) body) (refused_rotated m new e h)
 
 -- ---- what was taken
 busy_pending : (down : Bool) (o : Option GroupData) → is_refusal_to_take (first_cause (when down Down ∷ when (is_some o) Busy ∷ [])) Busy → (g : GroupData) × (o ≡ Some g)

@@ -3,7 +3,7 @@ use Rattle.std.proofs.Common.{Result, Ok, Err, ◌≡◌, ◌≢◌, ◌<◌, �
 use Rattle.std.specs.Option.{option_to_list}
 use Rattle.std.specs.Prelude.{is_some}
 use Rattle.mvo_types.specs.declared.refusal.Refusal.{Refusal}
-use Rattle.mvo_types.specs.declared.refusal.Refusal.TheVariants.{Busy, NothingToDo, RingFull, SegmentFull, Down}
+use Rattle.mvo_types.specs.declared.refusal.Refusal.TheVariants.{Busy, NothingToDo, RingFull, Down}
 use Rattle.mvo_disk.specs.declared.disk.Disk.{Ghosts}
 use Rattle.mvo_store.specs.Seen.{pending_of}
 use Rattle.mvo_types.specs.Causes.{when, first_cause}
@@ -137,8 +137,8 @@ module _ {D : Type 0} (d : Ghosts D) where
       let same = quiet_count AppendBody tt w u q it in
       let less = opened_count u v r done is rest in
       omega arith
-  appended_count w v r done is (AtFull u it rest) =
-      let same = quiet_count AppendBody tt w u (Err SegmentFull) it in
+  appended_count w v r done is (AtFull e u asks it rest) =
+      let same = quiet_count AppendBody tt w u (Err e) it in
       let less = rotated_count u v r done is rest in
       omega arith
 

@@ -130,13 +130,22 @@ fn flush_step<D: Disk>(driver: &mut Driver<D>) -> Option<&'static str> {
     None
 }
 
-/// The step of an append that meets a fault. Where the segment is full, the log is rotated first.
+/// Whether the segment is full for the group, or of an older version.
+fn needs_rotation(reply: &LineReply) -> bool {
+    matches!(
+        reply,
+        LineReply::Answered(Reply::Refused(Refusal::SegmentFull | Refusal::OldSegment))
+    )
+}
+
+/// The step of an append that meets a fault. Where the segment is full or old, the log is rotated
+/// first.
 fn append_step<D: Disk>(driver: &mut Driver<D>) -> Option<&'static str> {
     let reply = driver.answer(b"body");
     if is_fault(&reply) {
         return Some("body");
     }
-    if let LineReply::Answered(Reply::Refused(Refusal::SegmentFull)) = reply {
+    if needs_rotation(&reply) {
         if let Some(step) = first_fault(driver, &ROTATION) {
             return Some(step);
         }

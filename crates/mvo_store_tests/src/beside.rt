@@ -55,7 +55,7 @@ const ONE_CHECKPOINT: [(Step, Reply); 19] = [
 ];
 
 /// A delta file with the number 2.
-const THIRD_ENDED: [u8; 12] = [0x4d, 0x56, 0x4f, 0x45, 1, 0, 0, 0, 2, 0, 0, 0];
+const THIRD_ENDED: [u8; 12] = [0x4d, 0x56, 0x4f, 0x45, 2, 0, 0, 0, 2, 0, 0, 0];
 
 // A disk whose two pairs became one, beside a checkpoint.
 fn merged_beside(rt: &(impl Abort + Threads + Sync), alloc: Global) -> Result<MemDisk, Fail> {
@@ -99,7 +99,7 @@ const TWO_CHECKPOINTS: [(Step, Reply); 12] = [
 ];
 
 /// A delta file with the numbers 2 and 3.
-const TWO_ENDED: [u8; 16] = [0x4d, 0x56, 0x4f, 0x45, 1, 0, 0, 0, 2, 0, 0, 0, 3, 0, 0, 0];
+const TWO_ENDED: [u8; 16] = [0x4d, 0x56, 0x4f, 0x45, 2, 0, 0, 0, 2, 0, 0, 0, 3, 0, 0, 0];
 
 // Of both pairs numbers come late, each by a checkpoint of its own.
 #[test]
@@ -122,7 +122,7 @@ const AFTERWARDS: [(Step, Reply); 3] = [
 ];
 
 /// A delta file with the numbers 2 and 1.
-const NEXT_ENDED: [u8; 16] = [0x4d, 0x56, 0x4f, 0x45, 1, 0, 0, 0, 2, 0, 0, 0, 1, 0, 0, 0];
+const NEXT_ENDED: [u8; 16] = [0x4d, 0x56, 0x4f, 0x45, 2, 0, 0, 0, 2, 0, 0, 0, 1, 0, 0, 0];
 
 // The records of the merged pair have their places, whatever ended meanwhile.
 #[test]

@@ -5,7 +5,7 @@ use crate::stores::{new_store, spans};
 use crate::told::Told::{self, Durable, Installed, Ready, Reclaimed, Refused, Shut, Written};
 use crate::told::told_of;
 use mvo_disk::MemDisk;
-use mvo_format::FIRST_FORMAT;
+use mvo_format::LAST_FORMAT;
 use mvo_group::Group;
 use mvo_store::Reclaimed::{Done, More};
 use mvo_store::StoreCall::{
@@ -33,16 +33,16 @@ pub(crate) const BODY: StoreCall = StoreCall::Step(Due::Install(InstallStep::Bod
 pub(crate) const OPEN: StoreCall = StoreCall::Step(Due::Install(InstallStep::Open));
 
 /// Each call is answered so.
-fn answers(rt: &impl Abort, store: &mut Store<MemDisk>, calls: &[(StoreCall, Told)]) {
+pub(crate) fn answers(rt: &impl Abort, store: &mut Store<MemDisk>, calls: &[(StoreCall, Told)]) {
     for (at, (call, wanted)) in calls.iter().enumerate() {
         same_at(rt, at, &told_of(store.call(*call)), wanted);
     }
 }
 
 /// The store takes the group, which it can.
-fn accept(store: &mut Store<MemDisk>, alloc: Global, body: Body) -> Result<(), Fail> {
+pub(crate) fn accept(store: &mut Store<MemDisk>, alloc: Global, body: Body) -> Result<(), Fail> {
     let body = body.bytes(alloc)?;
-    let group = Group::decode(alloc, FIRST_FORMAT, &body)?.ok_or("the bytes are a group")?;
+    let group = Group::decode(alloc, LAST_FORMAT, &body)?.ok_or("the bytes are a group")?;
     if store.can_take().is_some() || group.prev().0 != store.mark().0 {
         return Err(Fail::from("a group that can be taken"));
     }

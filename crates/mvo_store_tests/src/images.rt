@@ -58,8 +58,8 @@ const OF_A_PAIR: [Case; 6] = [
     (&[(0, 35, &[1])], "refused 54 0"),
     // A number that no record has.
     (&[(0, 55, &[1]), (5, 0, &SECOND_ENDED)], "refused 54 5"),
-    // Table 16, and a record too few.
-    (&[(4, 16, &[16])], "refused 54 4"),
+    // Table 64, and a record too few.
+    (&[(4, 16, &[64])], "refused 54 4"),
     (&[(0, 51, &[2])], "refused 54 4"),
     // The pair's hi and the checkpoint mark are beyond the last timestamp.
     (&[(0, 43, &BEYOND), (0, 21, &BEYOND)], "refused 54 0"),

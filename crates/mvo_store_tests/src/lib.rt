@@ -30,6 +30,8 @@ mod merges;
 #[cfg(test)]
 mod numbers;
 #[cfg(test)]
+mod old;
+#[cfg(test)]
 mod refused;
 #[cfg(test)]
 mod reply;

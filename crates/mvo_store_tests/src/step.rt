@@ -2,7 +2,7 @@
 use crate::bodies::Body;
 use crate::reply::{Reply, done, emptied, free, installed, marked, written};
 use mvo_disk::MemDisk;
-use mvo_format::FIRST_FORMAT;
+use mvo_format::LAST_FORMAT;
 use mvo_group::Group;
 use mvo_store::{Durable, Generation, Progress, Store};
 use mvo_types::Refusal;
@@ -56,7 +56,7 @@ const DUE: [Step; 7] = [
 
 fn take(store: &mut Store<MemDisk>, alloc: Global, body: Body) -> Result<Reply, Fail> {
     let body = body.bytes(alloc)?;
-    let group = Group::decode(alloc, FIRST_FORMAT, &body)?.ok_or("the bytes are a group")?;
+    let group = Group::decode(alloc, LAST_FORMAT, &body)?.ok_or("the bytes are a group")?;
     if group.prev().0 != store.mark().0 {
         return Err(Fail::from("the group follows the mark"));
     }

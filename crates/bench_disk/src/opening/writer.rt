@@ -67,10 +67,10 @@ pub fn rotate(store: &mut MemStore) -> Result<(), Refusal> {
     install(store)
 }
 
-// Appends the body of the group that was taken; a segment that is full is rotated first.
+// Appends the body of the group that was taken; a segment that is full or old is rotated first.
 fn append_behind(store: &mut MemStore) -> Result<(), Refusal> {
     match append_body(store) {
-        Err(Refusal::SegmentFull) => {
+        Err(Refusal::SegmentFull | Refusal::OldSegment) => {
             rotate(store)?;
             append_body(store)
         }

@@ -90,7 +90,7 @@ fn the_version_is_told(rt: HostRuntime) -> Result<(), Fail> {
         let fault = Fault::CommandLine(error);
         same(&rt, &fault.status(), &0);
         let text = fault.to_string(alloc)?;
-        same(&rt, &text.as_str(), &"mvo 0 files 1\n");
+        same(&rt, &text.as_str(), &"mvo 0 files 1 2\n");
     }
     Ok(())
 }

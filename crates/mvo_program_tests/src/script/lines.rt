@@ -214,17 +214,17 @@ fn push_digits(script: &mut Vec<u8>, start: &[u8], digits: usize) -> Result<(), 
 }
 
 #[test]
-fn a_line_has_4096_bytes_at_most(rt: HostRuntime) -> Result<(), Fail> {
+fn a_line_has_12288_bytes_at_most(rt: HostRuntime) -> Result<(), Fail> {
     let alloc = rt.alloc();
     let mut script = b"begin t1\n".to_vec(alloc)?;
-    push_digits(&mut script, b"insert t1 0 5 500 ", 4_078)?;
-    push_digits(&mut script, b"insert t1 0 5 50 ", 4_080)?;
+    push_digits(&mut script, b"insert t1 0 5 500 ", 12_270)?;
+    push_digits(&mut script, b"insert t1 0 5 50 ", 12_272)?;
     push_digits(&mut script, b"insert t1 0 5 50 ", 100_000)?;
     script.extend_from_slice(b"read t1 0 5\n")?;
     let expected = b"began 1\nrefused 33\nbad line\nbad line\nnone\n";
     assert_replies(&rt, alloc, script.as_slice(), expected.as_slice())?;
     script.truncate(9);
-    push_digits(&mut script, b"insert t1 0 5 50 ", 4_080)?;
+    push_digits(&mut script, b"insert t1 0 5 50 ", 12_272)?;
     script.pop();
     assert_replies(
         &rt,
@@ -235,12 +235,12 @@ fn a_line_has_4096_bytes_at_most(rt: HostRuntime) -> Result<(), Fail> {
 }
 
 #[test]
-fn data_has_1024_bytes_at_most(rt: HostRuntime) -> Result<(), Fail> {
+fn data_has_4096_bytes_at_most(rt: HostRuntime) -> Result<(), Fail> {
     let alloc = rt.alloc();
     let mut script = b"begin t1\n".to_vec(alloc)?;
-    push_digits(&mut script, b"insert t1 0 5 50 ", 2_048)?;
-    push_digits(&mut script, b"insert t1 0 6 50 ", 2_050)?;
-    script.extend_from_slice(b"insert t1 16 7 50 -\n")?;
+    push_digits(&mut script, b"insert t1 0 5 50 ", 8_192)?;
+    push_digits(&mut script, b"insert t1 0 6 50 ", 8_194)?;
+    script.extend_from_slice(b"insert t1 64 7 50 -\n")?;
     let expected = b"began 1\ninserted\nrefused 33\nrefused 34\n";
     assert_replies(&rt, alloc, script.as_slice(), expected.as_slice())
 }

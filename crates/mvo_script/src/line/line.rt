@@ -12,7 +12,7 @@ use mvo_types::{RowKey, Stamp};
 use std::str;
 
 /// The most bytes of a line, its line feed not counted. A longer one is a bad line.
-pub const MAX_LINE_LEN: usize = 4_096;
+pub const MAX_LINE_LEN: usize = 12_288;
 
 /// A line of a script. Its first word says which.
 #[derive(Clone, Copy)]
