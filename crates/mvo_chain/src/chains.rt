@@ -1,4 +1,4 @@
-ghost use Rattle.std.specs.Prelude.{◌≡◌, ◌<◌, ◌≤◌, ◌^◌, [], length, vec_len, vec_capacity, IsSome, IfOk, OnOk, OnErr, IfSome, Some, None, option_copied};
+ghost use Rattle.std.specs.Prelude.{◌≡◌, ◌<◌, ◌≤◌, ◌^◌, ◌-◌, [], length, vec_len, vec_capacity, IsSome, IfOk, OnOk, OnErr, IfSome, Some, None, option_copied};
 ghost use Rattle.mvo_chain.specs.Slots.{version_at, IsHole, hole_count, with_room, with_slot, with_change, added};
 
 use crate::pieces::Pieces;
@@ -66,6 +66,13 @@ impl Chains {
         ensures { result ≡ length self.now }
     {
         self.slots.len()
+    }
+
+    /// How many versions there are.
+    pub fn version_count(&self) -> usize
+        ensures { result ≡ length self.now - hole_count self.now }
+    {
+        self.slots.len() - self.holes.len()
     }
 
     /// The version with the number, if there is one.

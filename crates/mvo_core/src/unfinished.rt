@@ -1,4 +1,4 @@
-//! Which of the unfinished transactions are Active.
+//! How many versions and unfinished transactions there are, and which of these are Active.
 ghost use Rattle.std.specs.Prelude.{◌≡◌};
 ghost use Rattle.mvo_core.specs.Unfinished.{IsNextActive, IsNextBegun, is_active_kind, is_active_in, is_open_kind};
 
@@ -12,7 +12,15 @@ impl Core {
     ghost use Rattle.std.specs.Prelude.{◌≡◌};
     ghost use Rattle.std.specs.FinMap as map;
     ghost use Rattle.mvo_txn.specs.Next.{IsNextBegin};
+    ghost use Rattle.mvo_core.specs.Counting.{version_count};
     ghost use Rattle.mvo_core.specs.Unfinished.{IsNextActive, IsNextActiveWhole};
+
+    /// How many versions there are, those that are garbage among them.
+    pub fn version_count(&self) -> usize
+        ensures { result ≡ version_count self.now }
+    {
+        self.versions.version_count()
+    }
 
     /// How many transactions aren't finished.
     pub fn unfinished_count(&self) -> usize

@@ -47,8 +47,9 @@ impl Model for Versions {
 }
 
 impl Versions {
-    ghost use Rattle.std.specs.Prelude.{◌≡◌, ◌≤◌, ◌<◌, ◌^◌, IfOk, OnErr, IsSome, IfSome, option_copied};
-    ghost use Rattle.mvo_chain.specs.Slots.{version_at};
+    ghost use Rattle.std.specs.Prelude.{◌≡◌, ◌≤◌, ◌<◌, ◌^◌, ◌-◌, IfOk, OnErr, IsSome, IfSome, option_copied};
+    ghost use Rattle.std.specs.Prelude.{length};
+    ghost use Rattle.mvo_chain.specs.Slots.{version_at, hole_count};
     ghost use Rattle.mvo_representation.specs.Steps.{ended_by};
     ghost use Rattle.mvo_types.specs.declared.limits.TheConstants.{MAX_STAMP as LIMIT};
     ghost use Rattle.mvo_versions.specs.Data.{AreIndexed};
@@ -83,6 +84,13 @@ impl Versions {
         ensures indexed { AreIndexed self.now }
     {
         self.indexed.get(number)
+    }
+
+    /// How many versions there are.
+    pub fn version_count(&self) -> usize
+        ensures { result ≡ length self.now.slots - hole_count self.now.slots }
+    {
+        self.indexed.chains().version_count()
     }
 
     /// Puts the row as a version of the transaction, which nobody has ended, in front of those of
