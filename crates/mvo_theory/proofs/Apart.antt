@@ -24,7 +24,7 @@ use Rattle.mvo_theory.proofs.Between.{free_key}
 use Rattle.mvo_types.specs.declared.entry.Entry.TheVariants.{Key, Range}
 
 -- ---- what holds of each entry holds at each operation
-same_entry : (e d : Entry) → is_same e d ≡ true → e ≡ d
+pub same_entry : (e d : Entry) → is_same e d ≡ true → e ≡ d
 same_entry (Key k) (Key j) h =
     let p = and_parts (k.table == j.table) (k.key == j.key) h in
     ap (λ n. Key (record { table = n; key = k.key })) (eqb-true k.table j.table p.0) ∙ ap (λ n. Key (record { table = j.table; key = n })) (eqb-true k.key j.key p.1)
@@ -35,7 +35,7 @@ same_entry (Range t lo hi) (Range u a b) h =
     let q = and_parts (lo == a) (hi == b) p.1 in
     ap (λ n. Range n lo hi) (eqb-true t u p.0) ∙ ap (λ n. Range u n hi) (eqb-true lo a q.0) ∙ ap (λ n. Range u a n) (eqb-true hi b q.1)
 
-any_exact : (P : Entry → Type 0) (e : Entry) (es : List Entry) → AllByRecursion P es → has_entry es e ≡ true → P e
+pub any_exact : (P : Entry → Type 0) (e : Entry) (es : List Entry) → AllByRecursion P es → has_entry es e ≡ true → P e
 any_exact P e [] h f = absurd (false≢true f)
 any_exact P e (d ∷ ds) h f = go (is_same e d) refl f (any_exact P e ds h.1)
   where
@@ -123,7 +123,7 @@ below_alone (Key k) b ds base stamped clock x m d c n pl pr s lt = m (λ y. y.se
 below_alone (Range t lo hi) b ds base stamped clock x m d c n pl pr s lt = λ o.
     range_alone t lo hi b ds base stamped x m d c n s (m (IsPlaced stamped clock) pl).begun lt ((m (λ y. y.settled ≡ false → IsPreparing base stamped y) pr s).consistent o).prints
 
-entry_alone : (e : Entry) (b e' : ℕ) (ds : List ℕ) (base : Map) (stamped : List StampedTx) (clock : ℕ) → IsDecidedOn e b ds base stamped → IsUnchanged stamped b e' e → IsClear stamped → IsFreeToSettle stamped ds → AllByRecursion (λ y. y.end ≢ b) stamped →
+pub entry_alone : (e : Entry) (b e' : ℕ) (ds : List ℕ) (base : Map) (stamped : List StampedTx) (clock : ℕ) → IsDecidedOn e b ds base stamped → IsUnchanged stamped b e' e → IsClear stamped → IsFreeToSettle stamped ds → AllByRecursion (λ y. y.end ≢ b) stamped →
     AllByRecursion (IsPlaced stamped clock) stamped → AllByRecursion (λ y. y.settled ≡ false → IsPreparing base stamped y) stamped → AllByRecursion (λ x. IsEarlier x e' e) stamped
 entry_alone e b e' ds base stamped clock d u c n o pl pr = each_in (λ x. IsEarlier x e' e) stamped one
   where

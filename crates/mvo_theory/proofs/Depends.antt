@@ -112,7 +112,7 @@ below_all b ds [] stamped h = h
 below_all b ds (k ∷ ks) stamped h = below_all b (depend_on ds (last_writer k b stamped)) ks stamped (below_one b ds (last_writer k b stamped) (below_last k b stamped) h)
 
 -- ---- as the stamped ones change
-entry_filter : (keep : StampedTx → Bool) (e : Entry) (b : ℕ) (ds : List ℕ) (base : Map) (stamped : List StampedTx) → AllByRecursion (IsOut keep ds) stamped → IsDecidedOn e b ds base stamped → AgreeOn e (seen_by base stamped b) (seen_by base (filter keep stamped) b)
+pub entry_filter : (keep : StampedTx → Bool) (e : Entry) (b : ℕ) (ds : List ℕ) (base : Map) (stamped : List StampedTx) → AllByRecursion (IsOut keep ds) stamped → IsDecidedOn e b ds base stamped → AgreeOn e (seen_by base stamped b) (seen_by base (filter keep stamped) b)
 entry_filter keep e b ds base stamped o d q = go (counts_for e q b base stamped) refl
   where
     fewer : (c : Bool) → counts_for e q b base (filter keep stamped) ≡ c → counts_for e q b base stamped ≡ false → counts_for e q b base (filter keep stamped) ≡ false

@@ -34,7 +34,7 @@ now_open false b h = refl
 pub like_settled : (e : ℕ) → IsLike (with_settled e)
 like_settled e = λ x. (refl, refl, λ q. or_true x.settled (x.end == e) q, refl)
 
-one_end : (t : StampedTx) (before after : List StampedTx) → IsRising (before ++ t ∷ after) → AllByRecursion (λ u. u.end ≡ t.end → u.history ≡ t.history) (before ++ t ∷ after)
+pub one_end : (t : StampedTx) (before after : List StampedTx) → IsRising (before ++ t ∷ after) → AllByRecursion (λ u. u.end ≡ t.end → u.history ≡ t.history) (before ++ t ∷ after)
 one_end t before after r = each_append (λ u. u.end ≡ t.end → u.history ≡ t.history) before (t ∷ after)
     (each_weaker (λ x. x.end < t.end) (λ u. u.end ≡ t.end → u.history ≡ t.history) (λ u lt e. absurd (omega arith)) before (rising_before before after t r))
     (λ _. refl, each_weaker (λ x. t.end < x.end) (λ u. u.end ≡ t.end → u.history ≡ t.history) (λ u lt e. absurd (omega arith)) after (rising_after before after t r))
@@ -101,7 +101,7 @@ out_here e ds n x f = λ q. let is = eqb-true x.end e (not-false (x.end == e) q)
 pub like_flag : (t e : ℕ) → IsLike (with_flag t e)
 like_flag t e = λ x. (refl, refl, λ q. q, refl)
 
-consistent_after_abort_of_preparing : (base : Map) (stamped : List StampedTx) (t e id : ℕ) (ts : History) (rs : List Row) (ds : List ℕ) (aborted_dependency : Option ℕ) → AllByRecursion (λ x. x.end ≡ e → x.settled ≡ false) stamped → (aborted_dependency ≡ None → IsConsistent base stamped id ts rs ds) → aborted_dependency_after t e ds aborted_dependency ≡ None → IsConsistent base (map (with_flag t e) (filter (not_at e) stamped)) id ts rs ds
+pub consistent_after_abort_of_preparing : (base : Map) (stamped : List StampedTx) (t e id : ℕ) (ts : History) (rs : List Row) (ds : List ℕ) (aborted_dependency : Option ℕ) → AllByRecursion (λ x. x.end ≡ e → x.settled ≡ false) stamped → (aborted_dependency ≡ None → IsConsistent base stamped id ts rs ds) → aborted_dependency_after t e ds aborted_dependency ≡ None → IsConsistent base (map (with_flag t e) (filter (not_at e) stamped)) id ts rs ds
 consistent_after_abort_of_preparing base stamped t e id ts rs ds aborted_dependency o h n =
     let q = spared t e ds aborted_dependency n in
     consistent_map (with_flag t e) (like_flag t e) base (filter (not_at e) stamped) id ts rs ds
@@ -111,7 +111,7 @@ legal_flag : (t e : ℕ) (m : Map) (xs : List StampedTx) → IsLegal m xs → Is
 legal_flag t e m [] h = tt
 legal_flag t e m (x ∷ xs) h = (h.0, legal_flag t e (after_history (cond x.settled x.history []) m) xs h.1)
 
-alone_flag : (t e : ℕ) (x : StampedTx) (d : Entry) → LeavesAlone x d → LeavesAlone (with_flag t e x) d
+pub alone_flag : (t e : ℕ) (x : StampedTx) (d : Entry) → LeavesAlone x d → LeavesAlone (with_flag t e x) d
 alone_flag t e x (Key k) h = h
 alone_flag t e x (Range a lo hi) h = λ n. h (spared t e x.depends_on x.aborted_dependency n).0
 
@@ -125,7 +125,7 @@ clear_flag t e (x ∷ xs) h = (
 others_after_abort_of_preparing : (t e n : ℕ) (stamped : List StampedTx) → AllByRecursion (λ y. y.end ≢ n) stamped → AllByRecursion (λ y. y.end ≢ n) (map (with_flag t e) (filter (not_at e) stamped))
 others_after_abort_of_preparing t e n stamped h = others_map (with_flag t e) (like_flag t e) n (filter (not_at e) stamped) (each_part (not_at e) (λ y. y.end ≢ n) stamped h)
 
-unchanged_after_abort_of_preparing : (t e b c : ℕ) (stamped : List StampedTx) (d : Entry) → IsUnchanged stamped b c d → IsUnchanged (map (with_flag t e) (filter (not_at e) stamped)) b c d
+pub unchanged_after_abort_of_preparing : (t e b c : ℕ) (stamped : List StampedTx) (d : Entry) → IsUnchanged stamped b c d → IsUnchanged (map (with_flag t e) (filter (not_at e) stamped)) b c d
 unchanged_after_abort_of_preparing t e b c stamped d h = unchanged_map (with_flag t e) (like_flag t e) b c d (filter (not_at e) stamped) (each_part (not_at e) (λ u. b < u.end → u.end < c → changes d u ≡ false) stamped h)
 
 preparing_after_abort_of_preparing : (base : Map) (stamped : List StampedTx) (t e : ℕ) → AllByRecursion (λ x. x.end ≡ e → x.settled ≡ false) stamped → (x : StampedTx) → (x.settled ≡ false → IsPreparing base stamped x) → x.settled ≡ false → IsPreparing base (map (with_flag t e) (filter (not_at e) stamped)) (with_flag t e x)

@@ -46,9 +46,17 @@ use Rattle.mvo_theory.proofs.EndSteps.{ends_after_begin, ends_after_operation, e
 use Rattle.mvo_theory.proofs.ClaimSteps.{claimed_same, claimed_after_begin, claimed_after_operation, claimed_after_prepare, claimed_after_check, claimed_after_commit, claimed_after_abort_of_active, claimed_after_abort_of_preparing, claimed_after_termination, claimed_after_trim}
 use Rattle.mvo_theory.proofs.Claims.{first_claim, exclusive_after_begin, IsFirst, exclusive_after_operation, exclusive_after_prepare, exclusive_after_check, exclusive_after_commit, exclusive_after_abort_of_active, exclusive_after_abort_of_preparing, exclusive_after_termination}
 use Rattle.mvo_theory.specs.Calls.Call.{Settle}
-use Rattle.mvo_theory.specs.Origins.{HasOrigins}
+use Rattle.mvo_theory.specs.Origins.{HasOrigins, AreWritten, HaveWrittenClaims}
 use Rattle.mvo_theory.proofs.OriginSteps.{Of, origins_after_begin, origins_after_operation, origins_after_prepare, origins_after_check, origins_after_abort_of_active, origins_after_termination, origins_after_trim}
 use Rattle.mvo_theory.proofs.OriginEnds.{alone_at, origins_after_commit, origins_after_abort_of_preparing}
+
+-- what the trace says of claims, apart from it
+pub written_claims : (xs : List Step) (s : State) → AreClaimed xs s → HaveWrittenClaims s
+written_claims xs s h = record {
+  active = each_weaker (λ r. HasClaims s.marks.opening xs r.id r.history r.claims) (λ r. AreWritten r.history r.claims) (λ r q. q.written) s.active h.active;
+  stamped = each_weaker (λ x. HasClaims s.marks.opening xs x.id x.history x.claims) (λ x. AreWritten x.history x.claims) (λ x q. q.written) s.stamped h.stamped;
+  past = each_weaker (λ x. HasClaims s.marks.opening xs x.id x.history x.claims) (λ x. AreWritten x.history x.claims) (λ x q. q.written) s.past h.past;
+}
 
 -- ---- what an Active transaction sees
 pub sees : (s : State) (t : ℕ) → IsNumbered s → AllByRecursion (λ (r : ActiveTx). r.id ≡ t → snapshot s t ≡ after_history r.history (seen_by s.base s.stamped r.id)) s.active
@@ -235,7 +243,7 @@ settled_origins xs s t x f w n h =
     let p = split_at t s.stamped x f in
     let m = found_in t s.stamped x f in
     let q = free_settled s t x f w n in
-    origins_after_commit xs s t x m.0 (λ P here. subst (AllByRecursion (λ y. y.end ≡ x.end → P y)) (sym p.2) (alone_at p.0 p.1 x (subst IsRising p.2 h.sound.rising) P here)) p.4 q.1 q.0 q.2 h.sound h.started h.claimed h.origins
+    origins_after_commit xs s t x m.0 (λ P here. subst (AllByRecursion (λ y. y.end ≡ x.end → P y)) (sym p.2) (alone_at p.0 p.1 x (subst IsRising p.2 h.sound.rising) P here)) p.4 q.1 q.0 q.2 h.sound h.started (written_claims xs s h.claimed) h.origins
 
 kept_committed : (opening : Map) (xs : List Step) (s : State) (t : ℕ) (x : StampedTx) → preparing_of t s.stamped ≡ Some x → why_not_settle s t ≡ None → waiting_for x.depends_on s.stamped ≡ None → IsKept opening xs s → IsKept opening (xs ++ Commits t (end_of s t) ∷ []) (after_commit_now s t)
 kept_committed opening xs s t x f w n h =
@@ -298,7 +306,7 @@ kept_aborted opening xs s t u h =
           claimed_after_abort_of_preparing xs (Aborts t ∷ []) s t x.end h.claimed,
           (let m = found_in t s.stamped x e in ends_after_abort_of_preparing xs s t x m.0 m.1 h.sound h.started h.numbered h.has_ends),
           prints_after_abort_of_preparing opening xs s t x.end h.prints,
-          origins_after_abort_of_preparing xs s t x.end (subst (AllByRecursion (λ y. y.end ≡ x.end → y.settled ≡ false)) (sym p.2) (alone_open p.0 p.1 x p.4 (subst IsRising p.2 h.sound.rising))) h.sound h.claimed h.origins,
+          origins_after_abort_of_preparing xs s t x.end (subst (AllByRecursion (λ y. y.end ≡ x.end → y.settled ≡ false)) (sym p.2) (alone_open p.0 p.1 x p.4 (subst IsRising p.2 h.sound.rising))) h.sound (written_claims xs s h.claimed) h.origins,
         )
 
 pub kept_failed : (opening : Map) (xs : List Step) (s : State) (t : ℕ) (r : Refusal) → (is_failure r ≡ true → IsUnended s t) → IsKept opening xs s → IsKept opening (xs ++ steps_of_refusal t r) (after_refusal s t r)

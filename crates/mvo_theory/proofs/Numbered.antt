@@ -51,7 +51,7 @@ numbered_after_prepare s r e h = record {
   before = each_filter (λ q. not (q.id == r.id)) (IsOutside s.past) (IsOutside s.past) (λ q _ o. o) s.active h.before;
 }
 
-numbered_map : (s : State) (f : StampedTx → StampedTx) → ((x : StampedTx) → (f x).id ≡ x.id) → IsNumbered s → IsNumbered (record s { stamped = map f s.stamped })
+pub numbered_map : (s : State) (f : StampedTx → StampedTx) → ((x : StampedTx) → (f x).id ≡ x.id) → IsNumbered s → IsNumbered (record s { stamped = map f s.stamped })
 numbered_map s f k h = record {
   distinct = h.distinct;
   apart = each_weaker (IsOutside s.stamped) (IsOutside (map f s.stamped)) (λ r o. each_map f (λ x. x.id ≢ r.id) (λ x. x.id ≢ r.id) (λ x n e. n (sym (k x) ∙ e)) s.stamped o) s.active h.apart;

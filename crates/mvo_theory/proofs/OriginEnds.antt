@@ -13,9 +13,8 @@ use Rattle.mvo_theory.specs.Dependencies.{is_writer, last_writer, has_end}
 use Rattle.mvo_theory.specs.Claims.{end_or, origin}
 use Rattle.mvo_theory.specs.Causes.{last_end, or_first}
 use Rattle.mvo_theory.specs.Changes.{after_commit, with_settled, with_flag, active_with_flag, not_at, after_abort_of_preparing}
-use Rattle.mvo_theory.specs.Claimed.{HasClaims, AreClaimed}
 use Rattle.mvo_theory.specs.Sound.{IsActive, IsPreparing, IsPlaced, IsPast, IsStarted, IsSound, IsRising, IsClear, IsApart, IsUnchanged, IsDecidedOn, changes}
-use Rattle.mvo_theory.specs.Origins.{settled_origin, HaveOrigins, HasOrigins}
+use Rattle.mvo_theory.specs.Origins.{settled_origin, HaveOrigins, HasOrigins, AreWritten, HaveWrittenClaims}
 use Rattle.mvo_theory.proofs.Each.{each_weaker, each_both, each_append, each_front, each_back, each_map}
 use Rattle.mvo_theory.proofs.Stamped.{IsOut, each_part}
 use Rattle.mvo_theory.proofs.Apart.{IsIn, IsFreeToSettle, each_in, each_entry}
@@ -27,10 +26,6 @@ use Rattle.mvo_theory.proofs.Origins.{last_same, last_filter, last_map, last_kep
 use Rattle.mvo_theory.proofs.OriginSteps.{Of, OfPreparing, OfSettled, IsBehind, moved}
 
 -- ---- an abort of a Preparing one
--- what is claimed was written
-abbrev AreWritten : History → List Claim → Type 0
-AreWritten ts cs = AllByRecursion (λ c. is_some (net_write c.key ts) ≡ true) cs
-
 -- who doesn't depend on the one with the end e has the same origins without it
 origins_without : (s : State) (t e id : ℕ) (ts : History) (ds : List ℕ) (cs : List Claim) → AllByRecursion (λ x. x.end ≡ e → x.settled ≡ false) s.stamped → has_end ds e ≡ false → AllByRecursion (λ o. IsDecidedOn (entry_of o.0) id ds s.base s.stamped) ts → AreWritten ts cs → HaveOrigins (origin s id) cs →
     HaveOrigins (λ k. end_or s.marks.opening (last_writer k id (s.past ++ map (with_flag t e) (filter (not_at e) s.stamped)))) cs
@@ -41,16 +36,16 @@ origins_without s t e id ts ds cs alone n decided written h = each_both (λ c. i
         last_map (is_writer k id) (is_writer k id) (with_flag t e) (λ x. refl) (filter (not_at e) s.stamped) (each_in (λ x. is_writer k id (with_flag t e x) ≡ is_writer k id x) (filter (not_at e) s.stamped) (λ x m. refl))
         ∙ last_kept (not_at e) k id ds s.stamped (each_weaker (λ x. x.end ≡ e → x.settled ≡ false) (IsOut (not_at e) ds) (out_here e ds n) s.stamped alone) (written_decided k id ds s.base s.stamped ts w decided)
 
-pub origins_after_abort_of_preparing : (xs : List Step) (s : State) (t e : ℕ) → AllByRecursion (λ x. x.end ≡ e → x.settled ≡ false) s.stamped → IsSound s → AreClaimed xs s → HasOrigins s → HasOrigins (after_abort_of_preparing s t e)
+pub origins_after_abort_of_preparing : (xs : List Step) (s : State) (t e : ℕ) → AllByRecursion (λ x. x.end ≡ e → x.settled ≡ false) s.stamped → IsSound s → HaveWrittenClaims s → HasOrigins s → HasOrigins (after_abort_of_preparing s t e)
 origins_after_abort_of_preparing xs s t e alone sound claimed h = record {
   active = each_map (active_with_flag t e) (λ r. IsActive s.base s.stamped s.clock r × (AreWritten r.history r.claims × Of s r)) (Of now) (λ r q n.
       let f = spared t e r.depends_on r.aborted_dependency n in
       origins_without s t e r.id r.history r.depends_on r.claims alone f.1 (q.0.consistent f.0).decided q.1.0 (q.1.1 f.0)) s.active
-      (each_both (IsActive s.base s.stamped s.clock) (λ r. AreWritten r.history r.claims × Of s r) _ (λ r a b. (a, b)) s.active sound.active (each_both (λ r. HasClaims s.marks.opening xs r.id r.history r.claims) (Of s) (λ r. AreWritten r.history r.claims × Of s r) (λ r a b. (a.written, b)) s.active claimed.active h.active));
+      (each_both (IsActive s.base s.stamped s.clock) (λ r. AreWritten r.history r.claims × Of s r) _ (λ r a b. (a, b)) s.active sound.active (each_both (λ r. AreWritten r.history r.claims) (Of s) (λ r. AreWritten r.history r.claims × Of s r) (λ r a b. (a, b)) s.active claimed.active h.active));
   preparing = each_map (with_flag t e) (λ x. (x.settled ≡ false → IsPreparing s.base s.stamped x) × (AreWritten x.history x.claims × OfPreparing s x)) (OfPreparing now) (λ x q o n.
       let f = spared t e x.depends_on x.aborted_dependency n in
       origins_without s t e x.id x.history x.depends_on x.claims alone f.1 ((q.0 o).consistent f.0).decided q.1.0 (q.1.1 o f.0)) (filter (not_at e) s.stamped) (each_part (not_at e) _ s.stamped
-      (each_both (λ x. x.settled ≡ false → IsPreparing s.base s.stamped x) (λ x. AreWritten x.history x.claims × OfPreparing s x) _ (λ x a b. (a, b)) s.stamped sound.preparing (each_both (λ x. HasClaims s.marks.opening xs x.id x.history x.claims) (OfPreparing s) (λ x. AreWritten x.history x.claims × OfPreparing s x) (λ x a b. (a.written, b)) s.stamped claimed.stamped h.preparing)));
+      (each_both (λ x. x.settled ≡ false → IsPreparing s.base s.stamped x) (λ x. AreWritten x.history x.claims × OfPreparing s x) _ (λ x a b. (a, b)) s.stamped sound.preparing (each_both (λ x. AreWritten x.history x.claims) (OfPreparing s) (λ x. AreWritten x.history x.claims × OfPreparing s x) (λ x a b. (a, b)) s.stamped claimed.stamped h.preparing)));
   settled = each_append (OfSettled now) s.past (map (with_flag t e) (filter (not_at e) s.stamped))
       (each_weaker (OfSettled s) (OfSettled now) keep s.past (each_front (OfSettled s) s.past s.stamped h.settled))
       (each_map (with_flag t e) (OfSettled s) (OfSettled now) keep (filter (not_at e) s.stamped) (each_part (not_at e) (OfSettled s) s.stamped (each_back (OfSettled s) s.past s.stamped h.settled)));
@@ -146,10 +141,10 @@ others_same k b e z f = go z.settled refl
     go false o = over (z.end == e) (nat_lt z.end b && is_some (net_write k z.history)) (none (nat_lt z.end b) refl o)
 
 -- what the one that settles claimed, among the settled ones
-origins_of_settling : (xs : List Step) (s : State) (t : ℕ) (x : StampedTx) → IsIn x s.stamped → x.settled ≡ false → x.valid ≡ true → x.aborted_dependency ≡ None → IsFreeToSettle s.stamped x.depends_on → IsSound s → IsStarted s → AreClaimed xs s → HasOrigins s →
+origins_of_settling : (xs : List Step) (s : State) (t : ℕ) (x : StampedTx) → IsIn x s.stamped → x.settled ≡ false → x.valid ≡ true → x.aborted_dependency ≡ None → IsFreeToSettle s.stamped x.depends_on → IsSound s → IsStarted s → HaveWrittenClaims s → HasOrigins s →
     HaveOrigins (settled_origin (after_commit s t x.end) x.end) x.claims
 origins_of_settling xs s t x m o v n free sound p claimed h = each_both (λ c. is_some (net_write c.key x.history) ≡ true) (λ c. c.origin ≡ origin s x.id c.key) (λ c. c.origin ≡ settled_origin (after_commit s t x.end) x.end c.key) (λ c w q. q ∙ same c.key w) x.claims
-    (m (λ y. HasClaims s.marks.opening xs y.id y.history y.claims) claimed.stamped).written (m (OfPreparing s) h.preparing o n)
+    (m (λ y. AreWritten y.history y.claims) claimed.stamped) (m (OfPreparing s) h.preparing o n)
   where
     placed : IsPlaced s.stamped s.clock x
     placed = m (IsPlaced s.stamped s.clock) sound.placed
@@ -176,27 +171,27 @@ origins_of_settling xs s t x m o v n free sound p claimed h = each_both (λ c. i
         ∙ sym (settled_is s.marks.opening s.past (map (with_settled x.end) s.stamped) k x.end)
 
 -- another that was settled has the same origins
-origins_of_settled : (xs : List Step) (s : State) (t e : ℕ) (mark : ℕ) (y : StampedTx) → HasClaims mark xs y.id y.history y.claims → AllByRecursion (λ z. z.settled ≡ false → z.end < y.end → IsApart z y.history) s.stamped → HaveOrigins (settled_origin s y.end) y.claims →
+origins_of_settled : (xs : List Step) (s : State) (t e : ℕ) (mark : ℕ) (y : StampedTx) → AreWritten y.history y.claims → AllByRecursion (λ z. z.settled ≡ false → z.end < y.end → IsApart z y.history) s.stamped → HaveOrigins (settled_origin s y.end) y.claims →
     HaveOrigins (settled_origin (after_commit s t e) y.end) y.claims
-origins_of_settled xs s t e mark y claimed apart h = each_both (λ c. is_some (net_write c.key y.history) ≡ true) (λ c. c.origin ≡ settled_origin s y.end c.key) (λ c. c.origin ≡ settled_origin (after_commit s t e) y.end c.key) (λ c w q. q ∙ same c.key w) y.claims claimed.written h
+origins_of_settled xs s t e mark y claimed apart h = each_both (λ c. is_some (net_write c.key y.history) ≡ true) (λ c. c.origin ≡ settled_origin s y.end c.key) (λ c. c.origin ≡ settled_origin (after_commit s t e) y.end c.key) (λ c w q. q ∙ same c.key w) y.claims claimed h
   where
     same : (k : RowKey) → is_some (net_write k y.history) ≡ true → settled_origin s y.end k ≡ settled_origin (after_commit s t e) y.end k
     same k w = same_settled s.marks.opening s.past s.stamped (map (with_settled e) s.stamped) k y.end
         (last_map (settles k y.end) (settles k y.end) (with_settled e) (λ z. refl) s.stamped (each_weaker (λ z. z.settled ≡ false → z.end < y.end → IsApart z y.history) (λ z. settles k y.end (with_settled e z) ≡ settles k y.end z)
         (λ z q. others_same k y.end e z (λ o lt. ap is_some (apart_writer k z y.history (q o lt) w))) s.stamped apart))
 
-pub origins_after_commit : (xs : List Step) (s : State) (t : ℕ) (x : StampedTx) → IsIn x s.stamped → ((P : StampedTx → Type 0) → P x → AllByRecursion (λ y. y.end ≡ x.end → P y) s.stamped) → x.settled ≡ false → x.valid ≡ true → x.aborted_dependency ≡ None → IsFreeToSettle s.stamped x.depends_on → IsSound s → IsStarted s → AreClaimed xs s → HasOrigins s →
+pub origins_after_commit : (xs : List Step) (s : State) (t : ℕ) (x : StampedTx) → IsIn x s.stamped → ((P : StampedTx → Type 0) → P x → AllByRecursion (λ y. y.end ≡ x.end → P y) s.stamped) → x.settled ≡ false → x.valid ≡ true → x.aborted_dependency ≡ None → IsFreeToSettle s.stamped x.depends_on → IsSound s → IsStarted s → HaveWrittenClaims s → HasOrigins s →
     HasOrigins (after_commit s t x.end)
 origins_after_commit xs s t x m alone o v n free sound p claimed h = record {
   active = each_weaker (Of s) (Of now) (λ r q f. moved (origin s r.id) (origin now r.id) r.claims (λ k. still k r.id) (q f)) s.active h.active;
   preparing = each_map (with_settled x.end) (OfPreparing s) (OfPreparing now) (λ y q a f. moved (origin s y.id) (origin now y.id) y.claims (λ k. still k y.id) (q (open_of y.settled (y.end == x.end) a) f)) s.stamped h.preparing;
   settled = each_append (OfSettled now) s.past (map (with_settled x.end) s.stamped)
-      (each_both (IsPast s.start) (λ y. HasClaims s.marks.opening xs y.id y.history y.claims × OfSettled s y) (OfSettled now) (λ y u q a. origins_of_settled xs s t x.end s.marks.opening y q.0 (each_weaker (λ z. s.start < z.end) (λ z. z.settled ≡ false → z.end < y.end → IsApart z y.history) (λ z l _ lt. absurd (let b = u.until in omega arith)) s.stamped p.later) (q.1 a)) s.past p.past
-      (each_both (λ y. HasClaims s.marks.opening xs y.id y.history y.claims) (OfSettled s) _ (λ y a b. (a, b)) s.past claimed.past (each_front (OfSettled s) s.past s.stamped h.settled)))
-      (each_map (with_settled x.end) (λ y. (y.end ≡ x.end → OfNow y) × (HasClaims s.marks.opening xs y.id y.history y.claims × (AllByRecursion (λ z. z.settled ≡ false → y.settled ≡ true → z.end < y.end → IsApart z y.history) s.stamped × OfSettled s y))) (OfSettled now) (λ y q a. settling y q.0 q.1.0 q.1.1.0 q.1.1.1 y.settled refl (y.end == x.end) refl a) s.stamped
-      (each_both (λ y. y.end ≡ x.end → OfNow y) (λ y. HasClaims s.marks.opening xs y.id y.history y.claims × (AllByRecursion (λ z. z.settled ≡ false → y.settled ≡ true → z.end < y.end → IsApart z y.history) s.stamped × OfSettled s y)) _ (λ y a b. (a, b)) s.stamped
+      (each_both (IsPast s.start) (λ y. AreWritten y.history y.claims × OfSettled s y) (OfSettled now) (λ y u q a. origins_of_settled xs s t x.end s.marks.opening y q.0 (each_weaker (λ z. s.start < z.end) (λ z. z.settled ≡ false → z.end < y.end → IsApart z y.history) (λ z l _ lt. absurd (let b = u.until in omega arith)) s.stamped p.later) (q.1 a)) s.past p.past
+      (each_both (λ y. AreWritten y.history y.claims) (OfSettled s) _ (λ y a b. (a, b)) s.past claimed.past (each_front (OfSettled s) s.past s.stamped h.settled)))
+      (each_map (with_settled x.end) (λ y. (y.end ≡ x.end → OfNow y) × (AreWritten y.history y.claims × (AllByRecursion (λ z. z.settled ≡ false → y.settled ≡ true → z.end < y.end → IsApart z y.history) s.stamped × OfSettled s y))) (OfSettled now) (λ y q a. settling y q.0 q.1.0 q.1.1.0 q.1.1.1 y.settled refl (y.end == x.end) refl a) s.stamped
+      (each_both (λ y. y.end ≡ x.end → OfNow y) (λ y. AreWritten y.history y.claims × (AllByRecursion (λ z. z.settled ≡ false → y.settled ≡ true → z.end < y.end → IsApart z y.history) s.stamped × OfSettled s y)) _ (λ y a b. (a, b)) s.stamped
       (alone OfNow (origins_of_settling xs s t x m o v n free sound p claimed h))
-      (each_both (λ y. HasClaims s.marks.opening xs y.id y.history y.claims) (λ y. AllByRecursion (λ z. z.settled ≡ false → y.settled ≡ true → z.end < y.end → IsApart z y.history) s.stamped × OfSettled s y) _ (λ y a b. (a, b)) s.stamped claimed.stamped
+      (each_both (λ y. AreWritten y.history y.claims) (λ y. AllByRecursion (λ z. z.settled ≡ false → y.settled ≡ true → z.end < y.end → IsApart z y.history) s.stamped × OfSettled s y) _ (λ y a b. (a, b)) s.stamped claimed.stamped
       (each_both (λ y. AllByRecursion (λ z. z.settled ≡ false → y.settled ≡ true → z.end < y.end → IsApart z y.history) s.stamped) (OfSettled s) _ (λ y a b. (a, b)) s.stamped (clear_pairs s.stamped sound.rising sound.clear) (each_back (OfSettled s) s.past s.stamped h.settled)))));
   behind = each_map (with_settled x.end) (IsBehind s.past) (IsBehind s.past) (λ y q a. q (open_of y.settled (y.end == x.end) a)) s.stamped h.behind;
 }
@@ -214,7 +209,7 @@ origins_after_commit xs s t x m alone o v n free sound p claimed h = record {
     still : (k : RowKey) (b : ℕ) → origin s b k ≡ origin (after_commit s t x.end) b k
     still k b = same_origin s.marks.opening s.past s.stamped (map (with_settled x.end) s.stamped) k b (last_map (is_writer k b) (is_writer k b) (with_settled x.end) (λ y. refl) s.stamped (each_in (λ y. is_writer k b (with_settled x.end y) ≡ is_writer k b y) s.stamped (λ y i. refl)))
 
-    settling : (y : StampedTx) → (y.end ≡ x.end → HaveOrigins (settled_origin (after_commit s t x.end) y.end) y.claims) → HasClaims s.marks.opening xs y.id y.history y.claims → AllByRecursion (λ z. z.settled ≡ false → y.settled ≡ true → z.end < y.end → IsApart z y.history) s.stamped → OfSettled s y →
+    settling : (y : StampedTx) → (y.end ≡ x.end → HaveOrigins (settled_origin (after_commit s t x.end) y.end) y.claims) → AreWritten y.history y.claims → AllByRecursion (λ z. z.settled ≡ false → y.settled ≡ true → z.end < y.end → IsApart z y.history) s.stamped → OfSettled s y →
         (a : Bool) → y.settled ≡ a → (b : Bool) → (y.end == x.end) ≡ b → (a || b) ≡ true → HaveOrigins (settled_origin (after_commit s t x.end) y.end) y.claims
     settling y f c apart q true a b e g = origins_of_settled xs s t x.end s.marks.opening y c (each_weaker (λ z. z.settled ≡ false → y.settled ≡ true → z.end < y.end → IsApart z y.history) (λ z. z.settled ≡ false → z.end < y.end → IsApart z y.history) (λ z w u. w u a) s.stamped apart) (q a)
     settling y f c apart q false a true e g = f (eqb-true y.end x.end e)

@@ -17,7 +17,7 @@ use Rattle.mvo_model.specs.Serial.{scan, scan_cmp}
 use Rattle.mvo_types.specs.declared.entry.Entry.TheVariants.{Range}
 use Rattle.mvo_theory.specs.Ranges.{Row, shows, pass, AgreeOn}
 
-filter-map : {X Y : Type 0} (p : Y → Bool) (f : X → Y) (xs : List X) → filter p (map f xs) ≡ map f (filter (λ x. p (f x)) xs)
+pub filter-map : {X Y : Type 0} (p : Y → Bool) (f : X → Y) (xs : List X) → filter p (map f xs) ≡ map f (filter (λ x. p (f x)) xs)
 filter-map p f [] = refl
 filter-map p f (x ∷ xs) = go (p (f x)) (filter-map p f xs)
   where
@@ -37,7 +37,7 @@ sorted_one : (e : Row) (es : List Row) (b : Bool) → T (below_all key_cmp e.0 e
 sorted_one e es true u v = both _ _ u v
 sorted_one e es false u v = v
 
-sorted_filter : (p : Row → Bool) (es : List Row) → T (fin.is_sorted key_cmp es) → T (fin.is_sorted key_cmp (filter p es))
+pub sorted_filter : (p : Row → Bool) (es : List Row) → T (fin.is_sorted key_cmp es) → T (fin.is_sorted key_cmp (filter p es))
 sorted_filter p [] h = tt
 sorted_filter p (e ∷ es) h = sorted_one e (filter p es) (p e) (below_filter p e.0 es (first _ _ h)) (sorted_filter p es (second _ _ h))
 

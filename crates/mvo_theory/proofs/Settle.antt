@@ -40,7 +40,7 @@ pub rising_after : (before after : List StampedTx) (t : StampedTx) → IsRising 
 rising_after [] after t h = h.0
 rising_after (x ∷ xs) after t h = rising_after xs after t h.1
 
-clear_after : (before after : List StampedTx) (t : StampedTx) → IsClear (before ++ t ∷ after) → t.settled ≡ false → AllByRecursion (λ u. u.settled ≡ true → IsApart t u.history) after
+pub clear_after : (before after : List StampedTx) (t : StampedTx) → IsClear (before ++ t ∷ after) → t.settled ≡ false → AllByRecursion (λ u. u.settled ≡ true → IsApart t u.history) after
 clear_after [] after t h o = h.0 o
 clear_after (x ∷ xs) after t h o = clear_after xs after t h.1 o
 
@@ -66,7 +66,7 @@ legal_between t m (x ∷ xs) after o f g s p a h =
     subst (λ (b : Bool). (b ≡ true → AreSerial x.history m × (footprint_of x.history m ≡ x.footprint)) × IsLegal (after_history (cond b x.history []) m) (map (with_settled t.end) (xs ++ t ∷ after))) (sym (or-false x.settled (x.end == t.end) (ne_eqb x.end t.end f.0)))
     (h.0, legal_between t (after_history (cond x.settled x.history []) m) xs after o f.1 g s p a h.1)
 
-left_settled : (e : ℕ) (before ys : List StampedTx) (m : Map) → AllByRecursion (λ x. x.end < e) before → AllByRecursion (λ x. e ≤ x.end) ys → after_history (settled_below e (before ++ ys)) m ≡ after_settled before m
+pub left_settled : (e : ℕ) (before ys : List StampedTx) (m : Map) → AllByRecursion (λ x. x.end < e) before → AllByRecursion (λ x. e ≤ x.end) ys → after_history (settled_below e (before ++ ys)) m ≡ after_settled before m
 left_settled e [] ys m f g = ap (λ ts. after_history ts m) (settled_none e ys g)
 left_settled e (x ∷ xs) ys m f g =
     after_history-append (cond (x.settled && nat_lt x.end e) x.history []) (settled_below e (xs ++ ys)) m
@@ -98,7 +98,7 @@ legal_settled base before after t r c o n s p l =
     l
 
 -- ---- and no settled one has looked where one before wrote that isn't
-alone_settled : (e : ℕ) (x : StampedTx) (d : Entry) → LeavesAlone x d → LeavesAlone (with_settled e x) d
+pub alone_settled : (e : ℕ) (x : StampedTx) (d : Entry) → LeavesAlone x d → LeavesAlone (with_settled e x) d
 alone_settled e x (Key k) h = h
 alone_settled e x (Range t lo hi) h = h
 

@@ -101,7 +101,7 @@ sound_after_operation s t op a w h = record {
 }
 
 -- ---- precommit
-unchanged_last : (stamped : List StampedTx) (y : StampedTx) (b c : ℕ) (e : Entry) → c ≤ y.end → IsUnchanged stamped b c e → IsUnchanged (stamped ++ y ∷ []) b c e
+pub unchanged_last : (stamped : List StampedTx) (y : StampedTx) (b c : ℕ) (e : Entry) → c ≤ y.end → IsUnchanged stamped b c e → IsUnchanged (stamped ++ y ∷ []) b c e
 unchanged_last stamped y b c e le h = each_append (λ u. b < u.end → u.end < c → changes e u ≡ false) stamped (y ∷ []) h (λ _ lt. absurd (omega arith), tt)
 
 preparing_last : (base : Map) (stamped : List StampedTx) (clock : ℕ) (y x : StampedTx) → clock < y.end → (IsPlaced stamped clock x) × (x.settled ≡ false → IsPreparing base stamped x) → x.settled ≡ false → IsPreparing base (stamped ++ y ∷ []) x
@@ -182,7 +182,7 @@ active_map f l base stamped clock r h = record {
 }
 
 -- ---- a check
-each_take_more : {X : Type 0} (P : X → Type 0) (xs : List X) (n : ℕ) → AllByRecursion P (take n xs) → ((x : X) → slice_get xs n ≡ Some x → P x) → AllByRecursion P (take (suc n) xs)
+pub each_take_more : {X : Type 0} (P : X → Type 0) (xs : List X) (n : ℕ) → AllByRecursion P (take n xs) → ((x : X) → slice_get xs n ≡ Some x → P x) → AllByRecursion P (take (suc n) xs)
 each_take_more P [] n h f = tt
 each_take_more P (x ∷ xs) zero h f = (f x refl, tt)
 each_take_more P (x ∷ xs) (suc n) h f = (h.0, each_take_more P xs n h.1 f)

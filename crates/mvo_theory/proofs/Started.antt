@@ -40,7 +40,7 @@ started_after_prepare s r e lt h = let d = h.drawn in record {
 }
 
 -- a change of each that keeps the ends
-started_map : (s : State) (f : StampedTx → StampedTx) → ((x : StampedTx) → s.start < x.end → s.start < (f x).end) → IsStarted s → IsStarted (record s { stamped = map f s.stamped })
+pub started_map : (s : State) (f : StampedTx → StampedTx) → ((x : StampedTx) → s.start < x.end → s.start < (f x).end) → IsStarted s → IsStarted (record s { stamped = map f s.stamped })
 started_map s f g h = record { past = h.past; rising = h.rising; later = each_map f (λ x. s.start < x.end) (λ x. s.start < x.end) g s.stamped h.later; drawn = h.drawn; opened = h.opened; after = h.after; begun = h.begun }
 
 pub started_after_check : (s : State) (e : ℕ) (v : Bool) → IsStarted s → IsStarted (after_check s e v)

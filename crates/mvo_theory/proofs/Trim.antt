@@ -71,7 +71,7 @@ pub seen_trimmed : (base : Map) (front back : List StampedTx) (b : ℕ) → AllB
 seen_trimmed base front back b s l = ap (λ ts. after_history ts base) (history_below-append b front back) ∙ after_history-append (history_below b front) (history_below b back) base ∙ ap (after_history (history_below b back)) (seen_front b front base s l)
 
 -- ---- fewer keys count
-counts_trimmed : (e : Entry) (q : RowKey) (b : ℕ) (base : Map) (front back : List StampedTx) → AllByRecursion (λ x. x.settled ≡ true) front → AllByRecursion (λ x. x.end < b) front → counts_for e q b (after_settled front base) back ≡ true → counts_for e q b base (front ++ back) ≡ true
+pub counts_trimmed : (e : Entry) (q : RowKey) (b : ℕ) (base : Map) (front back : List StampedTx) → AllByRecursion (λ x. x.settled ≡ true) front → AllByRecursion (λ x. x.end < b) front → counts_for e q b (after_settled front base) back ≡ true → counts_for e q b base (front ++ back) ≡ true
 counts_trimmed (Key k) q b base front back s l h = h
 counts_trimmed (Range t lo hi) q b base front back s l h = go (is_some (pass p q (fin.get (after_settled front base) q))) refl h
   where
@@ -89,7 +89,7 @@ counts_trimmed (Range t lo hi) q b base front back s l h = go (is_some (pass p q
     go true f g = put_more (is_some (pass p q (fin.get base q))) (seen_counts (Range t lo hi) q b base front (subst (λ (m : Map). is_some (pass p q (fin.get m q)) ≡ true) (sym (seen_front b front base s l)) f))
     go false f g = or_right (is_some (pass p q (fin.get base q))) (is_put_below p q b (front ++ back)) (any_right put front back g)
 
-decided_back : (k : RowKey) (b : ℕ) (ds : List ℕ) (front back : List StampedTx) → IsDecided k b ds (front ++ back) → IsDecided k b ds back
+pub decided_back : (k : RowKey) (b : ℕ) (ds : List ℕ) (front back : List StampedTx) → IsDecided k b ds (front ++ back) → IsDecided k b ds back
 decided_back k b ds [] back h = h
 decided_back k b ds (x ∷ xs) back h = decided_back k b ds xs back h.1
 
@@ -120,7 +120,7 @@ front_settled m xs h = each_filter (is_to m) (λ x. x.settled ≡ false → m < 
 pub front_below : (m b : ℕ) (xs : List StampedTx) → m ≤ b → AllByRecursion (λ x. x.end ≢ b) xs → AllByRecursion (λ x. x.end < b) (filter (is_to m) xs)
 front_below m b xs le o = each_filter (is_to m) (λ x. x.end ≢ b) (λ x. x.end < b) (λ x e n. let l = leb-true x.end m e in omega arith) xs o
 
-consistent_to : (m : ℕ) (base : Map) (xs : List StampedTx) (id : ℕ) (ts : History) (rs : List Row) (ds : List ℕ) → IsRising xs → AllByRecursion (λ x. x.settled ≡ false → m < x.end) xs → m ≤ id → AllByRecursion (λ x. x.end ≢ id) xs → IsConsistent base xs id ts rs ds →
+pub consistent_to : (m : ℕ) (base : Map) (xs : List StampedTx) (id : ℕ) (ts : History) (rs : List Row) (ds : List ℕ) → IsRising xs → AllByRecursion (λ x. x.settled ≡ false → m < x.end) xs → m ≤ id → AllByRecursion (λ x. x.end ≢ id) xs → IsConsistent base xs id ts rs ds →
     IsConsistent (after_settled (filter (is_to m) xs) base) (filter (is_after m) xs) id ts rs ds
 consistent_to m base xs id ts rs ds r s le o h =
     consistent_after_trim base (filter (is_to m) xs) (filter (is_after m) xs) id ts rs ds (front_settled m xs s) (front_below m id xs le o)

@@ -1,8 +1,9 @@
 -- Of which version a claim is: of the one that stands for its transaction.
-use Rattle.std.specs.Prelude.{ℕ, ◌≡◌, ◌<◌, true, false, List, None}
+use Rattle.std.specs.Prelude.{ℕ, ◌≡◌, ◌<◌, true, false, is_some, List, None}
 use Rattle.std.specs.List.{AllByRecursion, filter}
 use Rattle.mvo_types.specs.declared.row.RowKey.{RowKey}
 use Rattle.mvo_types.specs.Keys.{Map}
+use Rattle.mvo_model.specs.History.{History, net_write}
 use Rattle.mvo_theory.specs.State.{State, StampedTx, Claim, timeline, seen_by}
 use Rattle.mvo_theory.specs.Dependencies.{last_writer}
 use Rattle.mvo_theory.specs.Claims.{end_or, origin}
@@ -41,3 +42,12 @@ pub record HasOrigins (s : State) : Type 0 where
   pub behind :
       AllByRecursion
       (λ x. x.settled ≡ false → AllByRecursion (λ z. z.end < x.id) s.past) s.stamped
+
+-- what is claimed was written
+abbrev pub AreWritten : History → List Claim → Type 0
+AreWritten ts cs = AllByRecursion (λ c. is_some (net_write c.key ts) ≡ true) cs
+
+pub record HaveWrittenClaims (s : State) : Type 0 where
+  pub active : AllByRecursion (λ r. AreWritten r.history r.claims) s.active
+  pub stamped : AllByRecursion (λ x. AreWritten x.history x.claims) s.stamped
+  pub past : AllByRecursion (λ x. AreWritten x.history x.claims) s.past
