@@ -72,7 +72,7 @@ impl Chains {
     pub fn version_count(&self) -> usize
         ensures { result ≡ length self.now - hole_count self.now }
     {
-        self.slots.len() - self.holes.len()
+        self.slot_count() - self.holes.len()
     }
 
     /// The version with the number, if there is one.

@@ -1,5 +1,5 @@
 -- How many versions there are behind each change of them.
-use Rattle.std.proofs.Common.{◌≡◌, ℕ, ◌+◌, length, zero, suc, List, [], ◌∷◌, Option, None, Some, refl, sym, ap, ◌∙◌, arith}
+use Rattle.std.proofs.Common.{◌≡◌, ℕ, ◌+◌, ◌-◌, length, zero, suc, List, [], ◌∷◌, Option, None, Some, refl, sym, ap, ◌∙◌, arith}
 use Rattle.std.specs.Prelude.{slice_get, slice_index_or, slice_set, Result, Ok, Err, IsErrAnd}
 use Rattle.std.specs.Option.{option_map}
 use Rattle.std.specs.FinMap as fin
@@ -14,7 +14,7 @@ use Rattle.mvo_theory.specs.Ranges.{Row}
 use Rattle.mvo_word.specs.declared.held.Held.{Held}
 use Rattle.mvo_chain.specs.declared.version.Version.{Version}
 use Rattle.mvo_chain.specs.declared.version.VersionNo.{VersionNo}
-use Rattle.mvo_chain.specs.Slots.{Slots, with_room, with_slot}
+use Rattle.mvo_chain.specs.Slots.{Slots, hole_count, with_room, with_slot}
 use Rattle.mvo_txn.specs.Txns.{Txns}
 use Rattle.mvo_deps.specs.declared.node.Node.{Node}
 use Rattle.mvo_work.specs.declared.word_place.WordPlace.{WordPlace}
@@ -39,6 +39,15 @@ use Rattle.mvo_core.specs.Standing.{words_in}
 use Rattle.mvo_core.proofs.SameVersions.{same_all}
 
 -- ---- slots
+-- each has a version, or is empty
+filled_or_empty : (slots : Slots) → length slots ≡ length (all_versions slots) + hole_count slots
+filled_or_empty [] = refl
+filled_or_empty (None ∷ ss) = let h = filled_or_empty ss in omega arith
+filled_or_empty (Some v ∷ ss) = ap suc (filled_or_empty ss)
+
+pub versions_there : (slots : Slots) → length slots - hole_count slots ≡ length (all_versions slots)
+versions_there slots = let h = filled_or_empty slots in omega arith
+
 -- a version changes at its place, if there is one
 changed_counts : (slots : Slots) (n : ℕ) (f : Version → Version) → length (all_versions (slice_set slots n (option_map f (slice_index_or slots n None)))) ≡ length (all_versions slots)
 changed_counts [] zero f = refl

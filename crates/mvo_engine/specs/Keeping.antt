@@ -25,8 +25,8 @@ use Rattle.mvo_engine.specs.declared.engine.TheConstants.{AT_ONCE}
 use Rattle.mvo_engine.specs.declared.keeper.Keeper.{Keeper}
 use Rattle.mvo_engine.specs.declared.keeper.Kept.{Kept}
 use Rattle.mvo_engine.specs.declared.keeper.Kept.TheVariants.{Did, Idle}
-use Rattle.mvo_engine.specs.declared.keeping.chores.Found.{Found}
-use Rattle.mvo_engine.specs.declared.keeping.chores.Found.TheVariants.{More, NoFile, NoGarbage}
+use Rattle.mvo_engine.specs.declared.keeping.chores.Remains.{Remains}
+use Rattle.mvo_engine.specs.declared.keeping.chores.Remains.TheVariants.{More, NoFile, NoGarbage}
 use Rattle.mvo_engine.specs.declared.stats.Stats.{Stats}
 use Rattle.mvo_engine.specs.run.Opening.{Opening}
 use Rattle.mvo_engine.specs.States.{CoreState, StoreState}
@@ -76,8 +76,8 @@ pub record IsStandingBy (k : Keeper) (s : Stats) (named : List Pair) (standing :
     pub may_collect : (standing.may_collect ≡ true) ↔ (k.collected ≢ Some s.core.tale_start)
 
 -- Under its lock the store lay sound and stood so, with these pairs.
-pub record WasSeen {D : Type 0} (d : Ghosts D) (o : Opening) (s : StoreStats) (pairs : List Pair)
-    : Type 0 where
+pub record WasLookedAt {D : Type 0} (d : Ghosts D) (o : Opening) (s : StoreStats)
+    (pairs : List Pair) : Type 0 where
   pub store : StoreState D
   pub sound : IsSoundStore d o store.store store.received
   pub stats : IsStoreStatsOf store s
@@ -108,25 +108,25 @@ pub record HaveCollectedSome (most all : ℕ) : Type 0 where
   pub fewer : all < most → (asked n : ℕ) × (n < asked) × WasCollected asked n
 
 -- what came of it, but for what is answered
-abbrev pub came_of : {A : Type 0} → Result A Refusal → Result Found Refusal
+abbrev pub came_of : {A : Type 0} → Result A Refusal → Result Remains Refusal
 came_of (Ok a) = Ok More
 came_of (Err e) = Err e
 
-abbrev pub found_by : Result Done Refusal → Result Found Refusal
-found_by (Ok (Reclaimed AllDone)) = Ok NoFile
-found_by (Ok done) = Ok More
-found_by (Err e) = Err e
+abbrev pub remains_by : Result Done Refusal → Result Remains Refusal
+remains_by (Ok (Reclaimed AllDone)) = Ok NoFile
+remains_by (Ok done) = Ok More
+remains_by (Err e) = Err e
 
-abbrev pub found_of : ℕ → ℕ → Found
-found_of most all = if nat_lt all most then NoGarbage else More
+abbrev pub remains_of : ℕ → ℕ → Remains
+remains_of most all = if nat_lt all most then NoGarbage else More
 
 -- a call of the store, its lock taken for it alone
-abbrev pub IsCallDone : {D : Type 0} → Ghosts D → StoreCall → Result Found Refusal → Type 0
+abbrev pub IsCallDone : {D : Type 0} → Ghosts D → StoreCall → Result Remains Refusal → Type 0
 IsCallDone d call r = (came : Result Done Refusal) × IsCallAlone d tt call came tt
-    × (r ≡ found_by came)
+    × (r ≡ remains_by came)
 
 -- the chore by the calls that it is made of, and what came of it
-abbrev pub IsChoreDone : {D : Type 0} → Ghosts D → Chore → Result Found Refusal → Type 0
+abbrev pub IsChoreDone : {D : Type 0} → Ghosts D → Chore → Result Remains Refusal → Type 0
 IsChoreDone d Flush r = (came : Result Stamp Refusal) × IsWholeFlush d came × (r ≡ came_of came)
 IsChoreDone d (Step call) r = IsCallDone d call r
 IsChoreDone d Reclaim r = IsCallDone d calls.Reclaim r
@@ -136,7 +136,7 @@ IsChoreDone d Rotate r = IsCallDone d calls.RotateWrite r
 IsChoreDone d (Trim upto) r = (came : Result (Unit {0}) Refusal) × (old new : CoreState)
     × IsCoreStep old (TrimCall upto.0) came new × (r ≡ came_of came)
 IsChoreDone d (Collect most) r = (all : ℕ) × HaveCollectedSome most all
-    × (r ≡ Ok (found_of most all))
+    × (r ≡ Ok (remains_of most all))
 
 -- ---- what is answered
 -- there is nothing to be done, since another thread did it, or has it in hand
@@ -146,8 +146,8 @@ is_of_another Busy = true
 is_of_another RingFull = true
 is_of_another e = false
 
-abbrev pub kept_by : Chore → Result Found Refusal → Result Kept Refusal
-kept_by chore (Ok found) = Ok (Did chore)
+abbrev pub kept_by : Chore → Result Remains Refusal → Result Kept Refusal
+kept_by chore (Ok remains) = Ok (Did chore)
 kept_by chore (Err e) = if is_of_another e then Ok Idle else Err e
 
 -- ---- what is remembered
@@ -160,15 +160,15 @@ abbrev pub is_flush : Chore → Bool
 is_flush Flush = true
 is_flush chore = false
 
-abbrev pub reclaimed_after : ℕ → Result Found Refusal → Option ℕ → Option ℕ
+abbrev pub reclaimed_after : ℕ → Result Remains Refusal → Option ℕ → Option ℕ
 reclaimed_after generation (Ok NoFile) known = Some generation
 reclaimed_after generation came known = known
 
-abbrev pub collected_after : Stamp → Result Found Refusal → Option Stamp → Option Stamp
+abbrev pub collected_after : Stamp → Result Remains Refusal → Option Stamp → Option Stamp
 collected_after start (Ok NoGarbage) known = Some start
 collected_after start came known = known
 
-abbrev pub keeper_after : Stats → Chore → Result Found Refusal → Keeper → Keeper
+abbrev pub keeper_after : Stats → Chore → Result Remains Refusal → Keeper → Keeper
 keeper_after s chore came k = record {
   clock = s.core.clock;
   mark = s.store.durable;
@@ -186,7 +186,7 @@ pub data HasKept {D : Type 0} (d : Ghosts D) (o : Opening) (p : Policy) (old : K
   AtRest : (s : Stats) → WasDue d o p old s None → r ≡ Ok Idle → new ≡ keeper_after_look s old
       → HasKept d o p old r new
   WithChore : (s : Stats) (chore : Chore) → WasDue d o p old s (Some chore)
-      → (came : Result Found Refusal) → IsChoreDone d chore came → r ≡ kept_by chore came
+      → (came : Result Remains Refusal) → IsChoreDone d chore came → r ≡ kept_by chore came
       → new ≡ keeper_after s chore came old → HasKept d o p old r new
 
 -- ---- turn after turn
@@ -196,20 +196,21 @@ ends_keeping DiskFault = true
 ends_keeping Down = true
 ends_keeping e = false
 
-abbrev pub goes_on : Result Kept Refusal → Bool
-goes_on (Ok kept) = true
-goes_on (Err e) = not (ends_keeping e)
+abbrev pub may_go_on : Result Kept Refusal → Bool
+may_go_on (Ok kept) = true
+may_go_on (Err e) = not (ends_keeping e)
 
 -- a turn behind which it goes on
 abbrev pub WentOn : {D : Type 0} → Ghosts D → Opening → Policy → Keeper → Keeper → Type 0
 WentOn d o p k last = (answer : Result Kept Refusal) × HasKept d o p k answer last
-    × (goes_on answer ≡ true)
+    × (may_go_on answer ≡ true)
 
 -- Such turns from a new keeper on: what it remembered before each, the last of them first, and what
 -- it remembers behind them all.
-abbrev pub AreTurns : {D : Type 0} → Ghosts D → Opening → Policy → List Keeper → Keeper → Type 0
-AreTurns d o p [] last = last ≡ new_keeper
-AreTurns d o p (k ∷ ks) last = WentOn d o p k last × AreTurns d o p ks k
+abbrev pub AreKeeperTurns : {D : Type 0} → Ghosts D → Opening → Policy → List Keeper → Keeper
+    → Type 0
+AreKeeperTurns d o p [] last = last ≡ new_keeper
+AreKeeperTurns d o p (k ∷ ks) last = WentOn d o p k last × AreKeeperTurns d o p ks k
 
 -- the marks of flushes, one after another
 abbrev pub WereFlushed : {D : Type 0} → Ghosts D → List Stamp → Type 0
@@ -234,7 +235,7 @@ WentDown d o p k e = (last : Keeper) × HasKept d o p k (Err e) last × (ends_ke
 -- Turns, up to one that finds the store down; or up to a flush of all at the end.
 pub data HasKeptUntil {D : Type 0} (d : Ghosts D) (o : Opening) (p : Policy)
     (r : Result (Unit {0}) Refusal) : Type 0 where
-  WhereDown : (before : List Keeper) (k : Keeper) → AreTurns d o p before k
+  WhereDown : (before : List Keeper) (k : Keeper) → AreKeeperTurns d o p before k
       → (e : Refusal) → WentDown d o p k e → r ≡ Err e → HasKeptUntil d o p r
-  AtEnd : (before : List Keeper) (k : Keeper) → AreTurns d o p before k
+  AtEnd : (before : List Keeper) (k : Keeper) → AreKeeperTurns d o p before k
       → IsFlushToEnd d o r → HasKeptUntil d o p r

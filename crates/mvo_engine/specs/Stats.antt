@@ -4,6 +4,7 @@ use Rattle.std.specs.Prelude.{◌≡◌, length, sum_by}
 use Rattle.std.specs.FinMap as map
 use Rattle.mvo_disk.specs.declared.disk.Disk.{Ghosts}
 use Rattle.mvo_txn.specs.Next.{IsNextBegin}
+use Rattle.mvo_core.specs.Counting.{version_count}
 use Rattle.mvo_core.specs.Seen.{clock_of, closed_mark_of, tale_of}
 use Rattle.mvo_store.specs.Causes.{has_group}
 use Rattle.mvo_store.specs.Jobs.{next_due}
@@ -22,6 +23,7 @@ pub record IsCoreStatsOf (c : CoreState) (s : CoreStats) : Type 0 where
   pub oldest : IsNextBegin c.core.table 0 s.oldest
   pub tale_start : s.tale_start.0 ≡ c.core.start
   pub places : s.places ≡ length (tale_of c.core)
+  pub versions : s.versions ≡ version_count c.core
   pub sessions : s.sessions ≡ c.made
 
 pub record IsStoreStatsOf {D : Type 0} (t : StoreState D) (s : StoreStats) : Type 0 where

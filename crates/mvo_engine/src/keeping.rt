@@ -12,7 +12,7 @@ use crate::gate::Gate;
 use crate::keeper::{Keeper, Kept};
 use crate::run::Run;
 use crate::stats::Stats;
-use chores::Found;
+use chores::Remains;
 use mvo_disk::Disk;
 use mvo_keep::{Chore, Policy};
 use mvo_types::{Refusal, Stamp};
@@ -151,15 +151,15 @@ impl Keeper {
     }
 
     // What it remembers behind a chore.
-    fn after(self, stats: Stats, chore: Chore, came: &Result<Found, Refusal>) -> Keeper
+    fn after(self, stats: Stats, chore: Chore, came: &Result<Remains, Refusal>) -> Keeper
         ensures { result ≡ keeper_after stats chore came.now self }
     {
         let mut keeper = self.after_look(stats);
         keeper.has_flushed = matches!(chore, Chore::Flush);
         match came {
-            Ok(Found::NoFile) => keeper.reclaimed = Some(stats.store.generation),
-            Ok(Found::NoGarbage) => keeper.collected = Some(stats.core.tale_start),
-            Ok(Found::More) => {}
+            Ok(Remains::NoFile) => keeper.reclaimed = Some(stats.store.generation),
+            Ok(Remains::NoGarbage) => keeper.collected = Some(stats.core.tale_start),
+            Ok(Remains::More) => {}
             Err(_) => {}
         }
         keeper
@@ -167,7 +167,7 @@ impl Keeper {
 }
 
 // What a turn answers.
-fn kept_by(chore: Chore, came: Result<Found, Refusal>) -> Result<Kept, Refusal>
+fn kept_by(chore: Chore, came: Result<Remains, Refusal>) -> Result<Kept, Refusal>
     ensures { result ≡ kept_by chore came }
 {
     match came {

@@ -16,6 +16,8 @@ pub struct CoreStats {
     pub tale_start: Stamp,
     /// How many places the tale has, those among them from which nothing is stored any more.
     pub places: usize,
+    /// How many versions of rows there are, those that are garbage among them.
+    pub versions: usize,
     /// How many sessions there are: made, and not retired.
     pub sessions: u32,
 }

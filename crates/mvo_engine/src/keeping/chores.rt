@@ -1,6 +1,6 @@
 //! What is due is done, by the calls that are there.
 ghost use Rattle.std.specs.Prelude.{◌≡◌};
-ghost use Rattle.mvo_engine.specs.Keeping.{came_of, found_by, found_of};
+ghost use Rattle.mvo_engine.specs.Keeping.{came_of, remains_by, remains_of};
 
 use crate::engine::{AT_ONCE, Engine};
 use crate::gate::Gate;
@@ -12,9 +12,9 @@ use mvo_types::{Refusal, Stamp};
 use std::sync::Wait;
 use std::thread;
 
-/// What a chore that is done found at its end.
+/// What remains of its kind behind a chore that is done.
 #[derive(Clone, Copy, Debug, PartialEq, Eq)]
-pub enum Found {
+pub enum Remains {
     /// There may be more of the same.
     More,
     /// No file is left to be emptied.
@@ -27,7 +27,7 @@ impl<L: Run, D: Disk, G: Gate + Drop> Engine<L, D, G> {
     ghost use Rattle.mvo_engine.specs.Keeping.{IsChoreDone, IsCallDone, HaveCollectedSome};
 
     // Does the chore.
-    pub(crate) fn do_chore<R: Wait>(&self, rt: &R, chore: Chore) -> Result<Found, Refusal>
+    pub(crate) fn do_chore<R: Wait>(&self, rt: &R, chore: Chore) -> Result<Remains, Refusal>
         ensures { IsChoreDone D.Disk chore result }
     {
         match chore {
@@ -38,15 +38,15 @@ impl<L: Run, D: Disk, G: Gate + Drop> Engine<L, D, G> {
             Chore::Checkpoint => self.do_call(rt, StoreCall::CheckpointRead),
             Chore::Rotate => self.do_call(rt, StoreCall::RotateWrite),
             Chore::Trim(upto) => came_of(self.enter_core(rt).trim_tale(upto)),
-            Chore::Collect(most) => Ok(found_of(most, self.collect_some(rt, most))),
+            Chore::Collect(most) => Ok(remains_of(most, self.collect_some(rt, most))),
         }
     }
 
     // Makes a call of the store in a turn of its own.
-    fn do_call<R: Wait>(&self, rt: &R, call: StoreCall) -> Result<Found, Refusal>
+    fn do_call<R: Wait>(&self, rt: &R, call: StoreCall) -> Result<Remains, Refusal>
         ensures { IsCallDone D.Disk call result }
     {
-        found_by(self.call_in_turn(rt, call))
+        remains_by(self.call_in_turn(rt, call))
     }
 
     // Takes so many garbage versions out of memory, or all that there are where these are fewer.
@@ -69,33 +69,33 @@ impl<L: Run, D: Disk, G: Gate + Drop> Engine<L, D, G> {
 }
 
 // What came of it, but for what it answers.
-fn came_of<A: Drop>(came: Result<A, Refusal>) -> Result<Found, Refusal>
+fn came_of<A: Drop>(came: Result<A, Refusal>) -> Result<Remains, Refusal>
     ensures { result ≡ came_of came }
 {
     match came {
-        Ok(_) => Ok(Found::More),
+        Ok(_) => Ok(Remains::More),
         Err(refusal) => Err(refusal),
     }
 }
 
-// What a call of the store found.
-fn found_by(came: Result<Done, Refusal>) -> Result<Found, Refusal>
-    ensures { result ≡ found_by came }
+// What remains behind a call of the store.
+fn remains_by(came: Result<Done, Refusal>) -> Result<Remains, Refusal>
+    ensures { result ≡ remains_by came }
 {
     match came {
-        Ok(Done::Reclaimed(Reclaimed::Done)) => Ok(Found::NoFile),
-        Ok(_) => Ok(Found::More),
+        Ok(Done::Reclaimed(Reclaimed::Done)) => Ok(Remains::NoFile),
+        Ok(_) => Ok(Remains::More),
         Err(refusal) => Err(refusal),
     }
 }
 
-// What a collection found that was to take so many, and took so many.
-fn found_of(most: u64, all: u64) -> Found
-    ensures { result ≡ found_of most all }
+// What remains behind a collection that was to take so many, and took so many.
+fn remains_of(most: u64, all: u64) -> Remains
+    ensures { result ≡ remains_of most all }
 {
     if all < most {
-        Found::NoGarbage
+        Remains::NoGarbage
     } else {
-        Found::More
+        Remains::More
     }
 }

@@ -20,7 +20,7 @@ impl<L: Run, D: Disk, G: Gate + Drop> Engine<L, D, G> {
     ghost use Rattle.std.specs.Prelude.{◌≡◌, IfOk, IfErr};
     ghost use Rattle.mvo_types.specs.declared.refusal.Refusal.{Refusal};
     ghost use Rattle.mvo_engine.specs.Stats.{AreStats};
-    ghost use Rattle.mvo_engine.specs.Keeping.{WasDue, WasSeen};
+    ghost use Rattle.mvo_engine.specs.Keeping.{WasDue, WasLookedAt};
 
     /// How the engine stands: first its store, and then its memory, each under its own lock, which
     /// is held shortly. It takes no memory.
@@ -54,7 +54,7 @@ impl<L: Run, D: Disk, G: Gate + Drop> Engine<L, D, G> {
 
     // The store, with its pairs.
     fn see_store<R: Wait>(&self, rt: &R) -> Result<(StoreStats, Vec<Pair>), Refusal>
-        ensures ok { IfOk result (λ seen. WasSeen D.Disk L.opening seen.0 seen.1.items) }
+        ensures ok { IfOk result (λ seen. WasLookedAt D.Disk L.opening seen.0 seen.1.items) }
         ensures err { IfErr result (λ e. e ≡ Refusal.OutOfMemory) }
     {
         let store = self.enter_store(rt);

@@ -20,6 +20,7 @@ impl<L: Run> LockedCore<L> {
             oldest: self.core.oldest_unfinished(),
             tale_start: self.core.tale_start(),
             places: self.core.tale().len(),
+            versions: self.core.version_count(),
             sessions: self.made,
         }
     }

@@ -1,11 +1,11 @@
 use Rattle.std.proofs.Common.{List, subst}
 use Rattle.mvo_pair.specs.declared.pair.Pair.{Pair}
-use Rattle.mvo_engine.specs.Keeping.{IsStandingBy, WasSeen}
+use Rattle.mvo_engine.specs.Keeping.{IsStandingBy, WasLookedAt}
 use Rattle.mvo_engine.proofs.engine.Engine.see_due.Goals as goal
 
 pub returns-clause-ok : goal.returns-clause-ok
 returns-clause-ok g c =
-    let seen : WasSeen g.D.Disk g.L.Run.opening c.in-Ok.seen.0 c.in-Ok.seen.1.items = c.in-Ok.ensures.ok in
+    let seen : WasLookedAt g.D.Disk g.L.Run.opening c.in-Ok.seen.0 c.in-Ok.seen.1.items = c.in-Ok.ensures.ok in
     record {
       store = seen.store;
       core = c.deref.result.now;

@@ -2,7 +2,7 @@ use Rattle.std.proofs.Common.{Result, sym, ap, ◌∙◌, subst}
 use Rattle.std.specs.Prelude.{not}
 use Rattle.mvo_types.specs.declared.refusal.Refusal.{Refusal}
 use Rattle.mvo_engine.specs.declared.keeper.Kept.{Kept}
-use Rattle.mvo_engine.specs.Keeping.{HasKept, goes_on}
+use Rattle.mvo_engine.specs.Keeping.{HasKept, may_go_on}
 use Rattle.mvo_engine.proofs.engine.Engine.turn_or_rest.Goals as goal
 use Rattle.mvo_engine.proofs.engine.Engine.turn_or_rest.Goals.{in-Ok-Idle, in-Err+else-ends_keeping}
 
@@ -18,8 +18,8 @@ returns-clause-ok g c = (
   c.keep.result,
   c.keep.ensures,
   elim c.match-keep.branch [
-    | in-Ok-Idle w ↦ ap goes_on w.in-Ok-Idle.is
+    | in-Ok-Idle w ↦ ap may_go_on w.in-Ok-Idle.is
     | in-Err+else-ends_keeping w ↦
-        ap goes_on w.in-Err.is ∙ ap not (sym w.ends_keeping.ensures ∙ w.if-ends_keeping.false)
+        ap may_go_on w.in-Err.is ∙ ap not (sym w.ends_keeping.ensures ∙ w.if-ends_keeping.false)
   ],
 )
