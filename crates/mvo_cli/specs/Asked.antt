@@ -81,7 +81,8 @@ no_command = record {
 -- with the commands that look at a store, and keep it
 abbrev pub with_looks : App → App
 with_looks app =
-    let checks = with_subcommand app (with_folder (codes "check") true).top in
+    let dumps = with_subcommand app (with_folder (codes "dump") true).top in
+    let checks = with_subcommand dumps (with_folder (codes "check") true).top in
     let stats = with_subcommand checks (with_folder (codes "stats") true).top in
     with_subcommand stats (with_folder (codes "keep") true).top
 

@@ -58,6 +58,7 @@ IsTask name rows task.Run = (name ≡ codes "run") × (first_of (codes "DIR") ro
 IsTask name rows (task.RunIn folder) = (name ≡ codes "run") × HasFolder rows folder.now
 IsTask name rows (task.Rows folder table) =
     (name ≡ codes "rows") × HasFolder rows folder.now × HasTable rows table
+IsTask name rows (task.Dump folder) = (name ≡ codes "dump") × HasFolder rows folder.now
 IsTask name rows (task.Check folder) = (name ≡ codes "check") × HasFolder rows folder.now
 IsTask name rows (task.Stats folder) = (name ≡ codes "stats") × HasFolder rows folder.now
 IsTask name rows (task.Keep folder) = (name ≡ codes "keep") × HasFolder rows folder.now

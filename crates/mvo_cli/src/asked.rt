@@ -171,6 +171,13 @@ fn add_looks<'a>(mvo: Command<'a>, alloc: Global) -> Result<Command<'a>, AllocEr
     let mvo = add_command(
         mvo,
         alloc,
+        "dump",
+        "Prints a script that makes the rows of the store in a folder anew",
+        true,
+    )?;
+    let mvo = add_command(
+        mvo,
+        alloc,
         "check",
         "Opens the store in a folder and counts",
         true,

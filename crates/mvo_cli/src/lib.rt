@@ -3,6 +3,7 @@
 
 mod asked;
 mod asked_work;
+mod dump;
 mod fault;
 mod folder;
 mod folder_stats;

@@ -1,6 +1,7 @@
 use crate::asked::command;
+use crate::dump::write_dump;
 use crate::fault::Fault;
-use crate::folder::{format_folder, open_held, open_world};
+use crate::folder::{format_folder, open_held, open_world, rows_in};
 use crate::folder_stats::stats_in;
 use crate::folders::Folders;
 use crate::keeping::keep_held;
@@ -128,6 +129,7 @@ where
         Task::Run => run_fresh(rt),
         Task::RunIn(folder) => run_in(rt, folder, is_terminal),
         Task::Rows(folder, table) => print_rows(rt, folder, table, is_terminal),
+        Task::Dump(folder) => print_dump(rt, folder, is_terminal),
         Task::Check(folder) => print_counts(rt, folder, is_terminal),
         Task::Stats(folder) => print_stats(rt, folder, is_terminal),
         Task::Keep(folder) => keep_and_count(rt, folder, is_terminal),
@@ -204,6 +206,23 @@ where
 {
     let held = open_held(rt, folder, is_terminal)?;
     write_rows(rt.alloc(), &held, table, io::writer(rt))
+}
+
+/// Prints a script that makes the rows of the store in a folder anew.
+fn print_dump<R>(rt: &R, folder: &str, is_terminal: bool) -> Result<(), Fault>
+where
+    R: AllocGlobal
+        + Print
+        + Eprint
+        + Files<File = File>
+        + RandomSource
+        + Threads
+        + Sync
+        + Clone
+        + Drop,
+{
+    let rows = rows_in(rt, folder, is_terminal)?;
+    write_dump(rt.alloc(), &rows, io::writer(rt))
 }
 
 /// Prints what the store in a folder holds.

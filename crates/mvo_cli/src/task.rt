@@ -28,6 +28,8 @@ pub enum Task<'a> {
     RunIn(&'a str),
     /// `mvo rows DIR TABLE`: the rows of a table of the store in a folder.
     Rows(&'a str, u8),
+    /// `mvo dump DIR`: a script that makes the rows of the store in a folder anew.
+    Dump(&'a str),
     /// `mvo check DIR`: whether the store in a folder can be opened.
     Check(&'a str),
     /// `mvo stats DIR`: what the store in a folder has, file by file.
@@ -60,6 +62,7 @@ pub fn task_of<'a>(name: &str, found: &ArgMatches<'a>) -> Option<Task<'a>>
             let table = found.get_str(TABLE)?.parse::<u8>().ok()?;
             Some(Task::Rows(folder, table))
         }
+        "dump" => Some(Task::Dump(found.get_str(FOLDER)?)),
         "check" => Some(Task::Check(found.get_str(FOLDER)?)),
         "stats" => Some(Task::Stats(found.get_str(FOLDER)?)),
         "keep" => Some(Task::Keep(found.get_str(FOLDER)?)),

@@ -18,6 +18,9 @@ returns-in_ok-table-in-rows-clause-task c =
     let table = number c.parse.result _ _ c.in_ok-table-in-rows.table c.parse.ensures.value.0 (sym c.ok.ensures.value ∙ c.in_ok-table-in-rows.was) in
     (c.in-rows.is, folder, (c.in_ok-get_str-in-rows.field-0.now, text, table))
 
+pub returns-in_ok-get_str-in-dump-clause-task : goal.returns-in_ok-get_str-in-dump-clause-task
+returns-in_ok-get_str-in-dump-clause-task c = (c.in-dump.is, given c.args.found.now _ _ (Some c.in_ok-get_str-in-dump.field-0) c.get_str-in-dump.ensures c.in_ok-get_str-in-dump.was)
+
 pub returns-in_ok-get_str-in-check-clause-task : goal.returns-in_ok-get_str-in-check-clause-task
 returns-in_ok-get_str-in-check-clause-task c = (c.in-check.is, given c.args.found.now _ _ (Some c.in_ok-get_str-in-check.field-0) c.get_str-in-check.ensures c.in_ok-get_str-in-check.was)
 
