@@ -2,7 +2,7 @@ ghost use Rattle.std.specs.Prelude.{◌≡◌, ◌<◌, codes, false, map, optio
 ghost use Rattle.clap.specs.Words.{app_of, found_of, rows_of, rule_of};
 ghost use Rattle.clap.specs.declared.Command.TheViews.{out-Command};
 ghost use Rattle.mvo_cli.specs.Asked.{files_rule, keep_rule, work_command, workers_rule};
-ghost use Rattle.mvo_cli.specs.Tasks.{HasFiles, HasWorkers, IsTask, is_true, text_now};
+ghost use Rattle.mvo_cli.specs.Tasks.{HasCount, HasFiles, IsTask, is_true, text_now};
 
 use crate::asked::with_folder;
 use crate::task::{FOLDER, Task};
@@ -82,7 +82,7 @@ pub fn work_task_of<'a>(
     let Some(folder) = found.get_str(FOLDER) else {
         return Ok(None);
     };
-    let Some(workers) = workers_in(found) else {
+    let Some(workers) = count_in(found, WORKERS) else {
         return Ok(None);
     };
     let files = files_in(alloc, found)?;
@@ -94,7 +94,7 @@ pub fn work_task_of<'a>(
 }
 
 /// Whether an option is there that is set by its name alone.
-fn is_true(word: Option<&str>) -> bool
+pub fn is_true(word: Option<&str>) -> bool
     ensures { result ≡ is_true (option_map text_now word.entry) }
 {
     match word {
@@ -103,11 +103,11 @@ fn is_true(word: Option<&str>) -> bool
     }
 }
 
-/// The number of workers in the matches, if it is one that may be.
-fn workers_in(found: &ArgMatches<'_>) -> Option<Workers>
-    ensures { IfSome result (λ w. HasWorkers (rows_of (found_of found.now)) w.count) }
+/// The number that an option has in the matches, if it is one that may be.
+pub fn count_in(found: &ArgMatches<'_>, option: &str) -> Option<Workers>
+    ensures { IfSome result (λ w. HasCount option.now (rows_of (found_of found.now)) w.count) }
 {
-    let count = found.get_str(WORKERS)?.parse::<usize>().ok()?;
+    let count = found.get_str(option)?.parse::<usize>().ok()?;
     Workers::new(count)
 }
 

@@ -13,4 +13,4 @@ mod script;
 pub use driver::Driver;
 pub use line::{Line, MAX_LINE_LEN, RowText, SortRange, laws_of_lines};
 pub use reply::LineReply;
-pub use script::{ScriptError, run_over};
+pub use script::{ScriptError, read_line, run_over};
