@@ -6,7 +6,6 @@ use crate::jobs::Lines;
 use mvo_disk::Disk;
 use mvo_engine::{Gate, Run, Stats};
 use mvo_script::{MAX_LINE_LEN, read_line};
-use mvo_types::Refusal;
 use std::alloc::Global;
 use std::fs::{File, Files};
 use std::io::{self, BufReader, BufWriter, Write};
@@ -77,10 +76,7 @@ where
         ClientLine::Stats => write_stats(&work.engine().stats(rt), writer),
         ClientLine::Stop => match work.stop(rt, number) {
             Ok(()) => writeln!(writer, "stopped"),
-            Err(_) => {
-                let refusal = Refusal::OutOfMemory;
-                writeln!(writer, "{refusal}")
-            }
+            Err(fault) => write!(writer, "{fault}"),
         },
         ClientLine::OfJob => {
             let reply = lines.answer(rt, line);

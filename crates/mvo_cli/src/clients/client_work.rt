@@ -54,9 +54,9 @@ impl<'e, L: Run, D: Disk, G: Gate + Drop, F: Files<File = File>> ClientWork<'e, 
         self.over.load(Ordering::SeqCst) != 0
     }
 
-    /// Ends the program for all clients, and waits until no other thread serves. The pipes of the
-    /// others are held open so long: who waits for a client, or for a line, doesn't then. Where they
-    /// aren't opened nothing is ended.
+    /// Ends the program for all clients, and waits until no other thread serves. So long the pipes
+    /// of the others are held open: who waits for a client, or for a line, doesn't then. Where they
+    /// can't be opened, nothing is ended.
     pub fn stop<R: Wait>(&self, rt: &R, number: usize) -> Result<(), Fault> {
         let mut ends = self.ends_of_others(number)?;
         self.over.store(1, Ordering::SeqCst);
