@@ -24,8 +24,8 @@ fn the_words_ask_for_a_task(rt: HostRuntime) -> Result<(), Fail> {
     holds(
         &rt,
         matches!(
-            command(alloc, &["mvo", "rows", "d", "15"]),
-            Ok(Task::Rows("d", 15))
+            command(alloc, &["mvo", "rows", "d", "63"]),
+            Ok(Task::Rows("d", 63))
         ),
     );
     holds(
@@ -48,7 +48,7 @@ fn other_words_are_refused(rt: HostRuntime) -> Result<(), Fail> {
         "mvo format",
         "mvo format d e",
         "mvo rows d",
-        "mvo rows d 16",
+        "mvo rows d 64",
         "mvo rows d -1",
         "mvo rows d x",
         "mvo rows d 1 2",
