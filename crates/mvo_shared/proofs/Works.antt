@@ -17,7 +17,7 @@ use Rattle.mvo_types.specs.declared.entry.Entry.TheVariants.{Key, Range}
 use Rattle.mvo_theory.specs.Ranges.{AgreeOn}
 use Rattle.mvo_theory.proofs.Each.{each_weaker, each_append}
 use Rattle.mvo_theory.proofs.Footprints.{or_left, or_right, any_left, any_right}
-use Rattle.mvo_theory.proofs.Looks.{key_is, answer_agrees, agree_left}
+use Rattle.mvo_theory.proofs.Looks.{answer_agrees, agree_left}
 use Rattle.mvo_theory.proofs.Apart.{same_entry, each_entry}
 use Rattle.mvo_shared.specs.Kept.{Looked, WorkContent, rows_shown, map_of_rows, entries_in, rows_kept, with_looked, answer_kept, AreAnsweredByLooks, IsWork, IsOrdered, after_op, AreShown}
 use Rattle.mvo_shared.proofs.Kept.{shown_agrees}

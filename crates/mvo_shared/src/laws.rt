@@ -4,6 +4,8 @@ ghost use Rattle.mvo_shared.specs.Laws.{SharedTaleIsLegal, QuietLooksChangeNothi
 ghost use Rattle.mvo_shared.specs.Laws.{OwnAnswersAreOnSnapshots, OwnLooksMatch, OwnWritesMatch};
 ghost use Rattle.mvo_shared.specs.Laws.{OwnEntriesMatch, OrderStays, WriteShares};
 ghost use Rattle.mvo_shared.specs.Laws.{LastCheckShares, SettleShares, TrimShares};
+ghost use Rattle.mvo_shared.specs.GivenLaws.{EachGivenCallHolds, GivenRunsHold, GivenRunsAreLegal};
+ghost use Rattle.mvo_shared.specs.GivenLaws.{EachOwnCallKeeps, OwnRunsAreSerial};
 
 /// The laws of works outside the core. On every map that shows what its entries keep, the answers
 /// of a work are serial; a core keeps its tale legal whatever works it is given; a look needs the
@@ -30,4 +32,16 @@ pub fn laws_of_works()
     ensures looks { OwnLooksMatch }
     ensures writes { OwnWritesMatch }
     ensures found { OwnEntriesMatch }
+{}
+
+/// The laws of a core that is given works with its calls. Whatever works they are, each call keeps
+/// what the core keeps, so over each list of calls what the settled ones were told is legal. Where
+/// all works are made on this core, each operation is told what the serial step answers on its
+/// snapshot, and no call is refused with a mismatch. The call does nothing.
+pub fn laws_of_given_works()
+    ensures holds { EachGivenCallHolds }
+    ensures runs { GivenRunsHold }
+    ensures legal { GivenRunsAreLegal }
+    ensures keeps { EachOwnCallKeeps }
+    ensures serial { OwnRunsAreSerial }
 {}

@@ -4,4 +4,4 @@
 
 mod laws;
 
-pub use laws::laws_of_works;
+pub use laws::{laws_of_given_works, laws_of_works};
