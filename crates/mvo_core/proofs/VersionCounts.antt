@@ -1,7 +1,8 @@
 -- How many versions there are behind each change of them.
-use Rattle.std.proofs.Common.{◌≡◌, ℕ, ◌+◌, ◌-◌, length, zero, suc, List, [], ◌∷◌, Option, None, Some, refl, sym, ap, ◌∙◌, arith}
+use Rattle.std.proofs.Common.{◌≡◌, ℕ, ◌+◌, ◌-◌, length, zero, suc, List, [], ◌∷◌, Option, None, Some, cond, refl, sym, ap, ◌∙◌, arith}
 use Rattle.std.specs.Prelude.{slice_get, slice_index_or, slice_set, Result, Ok, Err, IsErrAnd}
-use Rattle.std.specs.Option.{option_map}
+use Rattle.std.specs.Option.{is_none, option_map}
+use Rattle.std.proofs.lemmas.List.Recursion.{is_count_by}
 use Rattle.std.specs.FinMap as fin
 use Rattle.mvo_types.specs.declared.answer.Answer.{Answer}
 use Rattle.mvo_types.specs.declared.refusal.Refusal.{Refusal}
@@ -39,14 +40,29 @@ use Rattle.mvo_core.specs.Standing.{words_in}
 use Rattle.mvo_core.proofs.SameVersions.{same_all}
 
 -- ---- slots
+abbrev empties : Slots → ℕ
+empties [] = 0
+empties (None ∷ ss) = 1 + empties ss
+empties (Some v ∷ ss) = empties ss
+
 -- each has a version, or is empty
-filled_or_empty : (slots : Slots) → length slots ≡ length (all_versions slots) + hole_count slots
-filled_or_empty [] = refl
+filled_or_empty : (slots : Slots) → length slots ≡ length (all_versions slots) + empties slots
+filled_or_empty [] = omega arith
 filled_or_empty (None ∷ ss) = let h = filled_or_empty ss in omega arith
-filled_or_empty (Some v ∷ ss) = ap suc (filled_or_empty ss)
+filled_or_empty (Some v ∷ ss) = let h = filled_or_empty ss in omega arith
+
+empties_are_holes : (slots : Slots) → empties slots ≡ hole_count slots
+empties_are_holes = is_count_by empties is_none refl one
+  where
+    one : (s : Option Version) (ss : Slots) → empties (s ∷ ss) ≡ cond (is_none s) (1 + empties ss) (empties ss)
+    one None ss = refl
+    one (Some v) ss = refl
 
 pub versions_there : (slots : Slots) → length slots - hole_count slots ≡ length (all_versions slots)
-versions_there slots = let h = filled_or_empty slots in omega arith
+versions_there slots =
+    let h = filled_or_empty slots in
+    let same = empties_are_holes slots in
+    omega arith
 
 -- a version changes at its place, if there is one
 changed_counts : (slots : Slots) (n : ℕ) (f : Version → Version) → length (all_versions (slice_set slots n (option_map f (slice_index_or slots n None)))) ≡ length (all_versions slots)

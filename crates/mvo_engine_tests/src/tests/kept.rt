@@ -82,6 +82,7 @@ fn put_away() -> Stats {
             oldest: None,
             tale_start: Stamp(2),
             places: 1,
+            versions: 1,
             sessions: 2,
         },
         store: StoreStats {
