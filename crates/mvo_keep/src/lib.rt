@@ -1,15 +1,23 @@
-//! What is due in a store that looks after itself: a function of what counts of it, without memory.
+//! What is due in a store that looks after itself: a function of what counts of it, without memory;
+//! and what who keeps it sees of it, and remembers from one look to the next.
 #![tactic(auto)]
 
 mod choice;
 mod choosing;
 mod chore;
+mod keeper;
 mod neighbours;
 mod policy;
+mod remains;
+mod seen;
+mod sight;
 mod standing;
 mod table;
 
 pub use chore::Chore;
+pub use keeper::Keeper;
 pub use policy::Policy;
+pub use remains::Remains;
+pub use sight::Sight;
 pub use standing::Standing;
 pub use table::due;

@@ -15,3 +15,4 @@ pub mod Justified
 pub mod Steps
 pub mod Promise
 pub mod Logging
+pub mod Keeping

@@ -1,4 +1,5 @@
 mod forgetting;
+mod keeping;
 mod log;
 mod running;
 mod steps;
