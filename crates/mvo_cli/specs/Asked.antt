@@ -42,6 +42,10 @@ keep_rule = record (new_rule (codes "keep")) {
   action = Some SetTrue;
 }
 
+-- the command that runs a script
+abbrev pub run_command : App
+run_command = with_rule (with_folder (codes "run") false) keep_rule
+
 -- the paths of the scripts, of which one must be there
 abbrev pub files_rule : Rule
 files_rule = record (new_rule (codes "FILE")) {
@@ -116,7 +120,7 @@ with_looks app =
 abbrev pub commands : App
 commands =
     let formats = with_subcommand no_command (with_folder (codes "format") true).top in
-    let runs = with_subcommand formats (with_folder (codes "run") false).top in
+    let runs = with_subcommand formats run_command.top in
     let rows = with_subcommand runs rows_command.top in
     let works = with_subcommand (with_looks rows) work_command.top in
     with_subcommand (with_subcommand works serve_command.top) stops_command.top

@@ -62,8 +62,10 @@ HasNumber rows number =
 -- the command and its words ask for the task
 abbrev pub IsTask : Text → List Row → Task → Type 0
 IsTask name rows (task.Format folder) = (name ≡ codes "format") × HasFolder rows folder.now
-IsTask name rows task.Run = (name ≡ codes "run") × (first_of (codes "DIR") rows ≡ None)
-IsTask name rows (task.RunIn folder) = (name ≡ codes "run") × HasFolder rows folder.now
+IsTask name rows (task.Run keeps) =
+    (name ≡ codes "run") × (first_of (codes "DIR") rows ≡ None) × HasKeep rows keeps
+IsTask name rows (task.RunIn folder keeps) =
+    (name ≡ codes "run") × HasFolder rows folder.now × HasKeep rows keeps
 IsTask name rows (task.Rows folder table) =
     (name ≡ codes "rows") × HasFolder rows folder.now × HasTable rows table
 IsTask name rows (task.Dump folder) = (name ≡ codes "dump") × HasFolder rows folder.now

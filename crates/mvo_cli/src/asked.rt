@@ -3,9 +3,10 @@ ghost use Rattle.std.specs.Prelude.{codes, map, option_map};
 ghost use Rattle.clap.specs.Words.{FailsBy, Text, app_of, kind_of, rule_of, subcommand_rows_of, with_subcommand};
 ghost use Rattle.clap.specs.declared.Command.TheViews.{out-Command};
 ghost use Rattle.mvo_cli.specs.Asked.{AsksFor, commands, folder_rule, no_command, rows_command, table_rule, with_folder, work_command};
-ghost use Rattle.mvo_cli.specs.Asked.{serve_command, stops_command, with_looks};
+ghost use Rattle.mvo_cli.specs.Asked.{run_command, serve_command, stops_command, with_looks};
 ghost use Rattle.mvo_cli.specs.Tasks.{IsTask};
 
+use crate::asked_run::run_command;
 use crate::asked_serve::{SERVE, serve_command, serve_task_of};
 use crate::asked_work::{WORK, work_command, work_task_of};
 use crate::stops_words::stops_command;
@@ -125,6 +126,13 @@ fn add_command<'a>(
     }
 }
 
+/// Adds the command that runs a script.
+fn add_run<'a>(mvo: Command<'a>, alloc: Global) -> Result<Command<'a>, AllocError>
+    ensures { IfOk result (λ c. app_of c ≡ with_subcommand (app_of mvo.entry) run_command.top) }
+{
+    mvo.subcommand(run_command(alloc)?)
+}
+
 /// Adds the command that prints the rows of a table.
 fn add_rows<'a>(mvo: Command<'a>, alloc: Global) -> Result<Command<'a>, AllocError>
     ensures { IfOk result (λ c. app_of c ≡ with_subcommand (app_of mvo.entry) rows_command.top) }
@@ -220,14 +228,7 @@ fn command_line<'a>(alloc: Global) -> Result<Command<'a>, AllocError>
         "Makes a new store in a folder",
         true,
     )?;
-    let mvo = add_command(
-        mvo,
-        alloc,
-        "run",
-        "Runs a script from standard input, one reply a line, over a fresh store in memory or \
-         over the store in a folder",
-        false,
-    )?;
+    let mvo = add_run(mvo, alloc)?;
     let mvo = add_rows(mvo, alloc)?;
     let mvo = add_looks(mvo, alloc)?;
     let mvo = add_work(mvo, alloc)?;

@@ -5,7 +5,8 @@ ghost use Rattle.mvo_cli.specs.Asked.{clients_rule, no_keep_rule, pipes_rule, se
 ghost use Rattle.mvo_cli.specs.Tasks.{IsTask};
 
 use crate::asked::with_folder;
-use crate::asked_work::{count_in, is_true};
+use crate::asked_run::is_true;
+use crate::asked_work::count_in;
 use crate::serve_task::ServeTask;
 use crate::task::{FOLDER, Task};
 use clap::builder::ValueParser;

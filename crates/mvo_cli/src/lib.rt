@@ -2,6 +2,7 @@
 #![tactic(auto)]
 
 mod asked;
+mod asked_run;
 mod asked_serve;
 mod asked_work;
 mod clients;

@@ -2,6 +2,7 @@ ghost use Rattle.std.specs.Prelude.{◌≡◌, IfSome, IsSome, codes};
 ghost use Rattle.clap.specs.Words.{found_of, rows_of};
 ghost use Rattle.mvo_cli.specs.Tasks.{IsTask};
 
+use crate::asked_run::run_of;
 use crate::serve_task::ServeTask;
 use crate::work_task::WorkTask;
 use clap::ArgMatches;
@@ -23,10 +24,11 @@ pub const EXPLAIN: &str = "explain";
 pub enum Task<'a> {
     /// `mvo format DIR`: a new store in a folder.
     Format(&'a str),
-    /// `mvo run`: a script from standard input, over a fresh store in memory.
-    Run,
-    /// `mvo run DIR`: the same over the store in a folder.
-    RunIn(&'a str),
+    /// `mvo run [--keep]`: a script from standard input, over a fresh store in memory, and whether
+    /// that is kept meanwhile.
+    Run(bool),
+    /// `mvo run [--keep] DIR`: the same over the store in a folder.
+    RunIn(&'a str, bool),
     /// `mvo rows DIR TABLE`: the rows of a table of the store in a folder.
     Rows(&'a str, u8),
     /// `mvo dump DIR`: a script that makes the rows of the store in a folder anew.
@@ -56,10 +58,7 @@ pub fn task_of<'a>(name: &str, found: &ArgMatches<'a>) -> Option<Task<'a>>
 {
     match name {
         "format" => Some(Task::Format(found.get_str(FOLDER)?)),
-        "run" => match found.get_str(FOLDER) {
-            Some(folder) => Some(Task::RunIn(folder)),
-            None => Some(Task::Run),
-        },
+        "run" => Some(run_of(found)),
         "rows" => {
             let folder = found.get_str(FOLDER)?;
             let table = found.get_str(TABLE)?.parse::<u8>().ok()?;
