@@ -5,3 +5,4 @@ pub mod Fresh
 pub mod Flushing
 pub mod Events
 pub mod Answers
+pub mod Keeping

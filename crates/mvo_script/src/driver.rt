@@ -1,3 +1,5 @@
+mod keeping;
+
 ghost use Rattle.std.specs.Prelude.{◌≡◌, IfOk, IfErr, IfSome};
 ghost use Rattle.mvo_script.specs.Answers.{IsRowOf};
 ghost use Rattle.mvo_script.specs.Fresh.{IsFreshWorld};

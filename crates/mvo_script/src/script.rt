@@ -1,6 +1,8 @@
 use crate::driver::Driver;
 use crate::line::MAX_LINE_LEN;
+use crate::upkeep::{Upkeep, answer_and_keep};
 use mvo_disk::Disk;
+use mvo_keep::Policy;
 use mvo_world::World;
 use std::alloc::Global;
 use std::io::{self, BufRead, BufReader, BufWriter, Read, Write};
@@ -29,33 +31,60 @@ pub fn run_over<D: Disk + Drop, R: Read + Drop, W: Write + Drop>(
     reader: R,
     writer: W,
 ) -> Result<(), ScriptError> {
+    run_by(alloc, world, None, reader, writer)
+}
+
+/// Runs a script over a world as `run_over` does, and keeps the world meanwhile: behind each line
+/// it makes a turn of who keeps it by this policy (`Driver::keep`), of which nothing is written. A
+/// reply that speaks of the store, or of what memory keeps, may then be another than without.
+pub fn run_kept_over<D: Disk + Drop, R: Read + Drop, W: Write + Drop>(
+    alloc: Global,
+    world: World<D>,
+    policy: Policy,
+    reader: R,
+    writer: W,
+) -> Result<(), ScriptError> {
+    run_by(alloc, world, Some(policy), reader, writer)
+}
+
+/// Runs a script over a world that is kept by the policy, where there is one.
+fn run_by<D: Disk + Drop, R: Read + Drop, W: Write + Drop>(
+    alloc: Global,
+    world: World<D>,
+    policy: Option<Policy>,
+    reader: R,
+    writer: W,
+) -> Result<(), ScriptError> {
     let mut driver = Driver::over(alloc, world);
-    run_streams(alloc, &mut driver, reader, writer)
+    let mut upkeep = Upkeep::new(policy);
+    run_streams(alloc, &mut driver, &mut upkeep, reader, writer)
 }
 
 /// Runs a script, reading and writing by buffers.
 fn run_streams<D: Disk, R: Read + Drop, W: Write + Drop>(
     alloc: Global,
     driver: &mut Driver<D>,
+    upkeep: &mut Upkeep,
     reader: R,
     writer: W,
 ) -> Result<(), ScriptError> {
     let mut reader = BufReader::new(alloc, reader).map_err(|_| ScriptError::OutOfMemory)?;
     let mut writer = BufWriter::new(alloc, writer).map_err(|_| ScriptError::OutOfMemory)?;
-    run_lines(alloc, driver, &mut reader, &mut writer)
+    run_lines(alloc, driver, upkeep, &mut reader, &mut writer)
 }
 
 /// Runs a script. What was answered is written also where it can't be read on.
 fn run_lines<D: Disk, R: Read, W: Write>(
     alloc: Global,
     driver: &mut Driver<D>,
+    upkeep: &mut Upkeep,
     reader: &mut BufReader<R>,
     writer: &mut W,
 ) -> Result<(), ScriptError> {
     let mut line = Vec::with_capacity(alloc, MAX_LINE_LEN + 1).map_err(
         |_| ScriptError::OutOfMemory,
     )?;
-    let ran = answer_lines(driver, &mut line, reader, writer);
+    let ran = answer_lines(driver, upkeep, &mut line, reader, writer);
     let flushed = writer.flush().map_err(ScriptError::Write);
     ran?;
     flushed
@@ -64,12 +93,13 @@ fn run_lines<D: Disk, R: Read, W: Write>(
 /// Answers each line of the reader.
 fn answer_lines<D: Disk, R: Read, W: Write>(
     driver: &mut Driver<D>,
+    upkeep: &mut Upkeep,
     line: &mut Vec<u8>,
     reader: &mut BufReader<R>,
     writer: &mut W,
 ) -> Result<(), ScriptError> {
     for _ in 0..u64::MAX {
-        if !answer_next(driver, line, reader, writer)? {
+        if !answer_next(driver, upkeep, line, reader, writer)? {
             break;
         }
     }
@@ -80,6 +110,7 @@ fn answer_lines<D: Disk, R: Read, W: Write>(
 /// so far.
 fn answer_next<D: Disk, R: Read, W: Write>(
     driver: &mut Driver<D>,
+    upkeep: &mut Upkeep,
     line: &mut Vec<u8>,
     reader: &mut BufReader<R>,
     writer: &mut W,
@@ -89,17 +120,18 @@ fn answer_next<D: Disk, R: Read, W: Write>(
     }
     let is_there = read_line(reader, line).map_err(ScriptError::Read)?;
     if is_there {
-        write_reply(driver, line, writer)?;
+        write_reply(driver, upkeep, line, writer)?;
     }
     Ok(is_there)
 }
 
 fn write_reply<D: Disk, W: Write>(
     driver: &mut Driver<D>,
+    upkeep: &mut Upkeep,
     line: &[u8],
     writer: &mut W,
 ) -> Result<(), ScriptError> {
-    let reply = driver.answer(line);
+    let reply = answer_and_keep(driver, upkeep, line);
     writeln!(writer, "{reply}").map_err(ScriptError::Write)
 }
 
