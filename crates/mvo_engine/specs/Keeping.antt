@@ -1,10 +1,7 @@
 -- What a turn of a keeper comes to: it looks, does what is due then, and remembers.
-use Rattle.std.specs.Prelude.{◌≡◌, ◌≢◌, ◌↔◌, ◌⊎◌, ℕ, ◌+◌, ◌<◌, ◌≤◌, ◌++◌, [], ◌∷◌, ◌&&◌, ◌||◌, not, nat_lt, Bool, true, false, List, Option, None, Some, Result, Ok, Err, if◌then◌else◌}
-use Rattle.std.specs.Option.{option_map}
+use Rattle.std.specs.Prelude.{◌≡◌, ℕ, ◌<◌, ◌≤◌, ◌++◌, [], ◌∷◌, not, nat_lt, Bool, true, false, List, Option, None, Some, Result, Ok, Err, if◌then◌else◌}
 use Rattle.std.specs.List.{AllByRecursion, sum}
 use Rattle.mvo_types.specs.declared.ids.Stamp.{Stamp}
-use Rattle.mvo_types.specs.declared.ids.TxId.{TxId}
-use Rattle.mvo_types.specs.declared.limits.TheConstants.{MAX_STAMP}
 use Rattle.mvo_types.specs.declared.refusal.Refusal.{Refusal}
 use Rattle.mvo_types.specs.declared.refusal.Refusal.TheVariants.{NothingToDo, Busy, RingFull, OutOfMemory, DiskFault, Down}
 use Rattle.mvo_disk.specs.declared.disk.Disk.{Ghosts}
@@ -20,13 +17,15 @@ use Rattle.mvo_keep.specs.declared.policy.Policy.{Policy}
 use Rattle.mvo_keep.specs.declared.standing.Standing.{Standing}
 use Rattle.mvo_keep.specs.declared.chore.Chore.{Chore}
 use Rattle.mvo_keep.specs.declared.chore.Chore.TheVariants.{Flush, Step, Reclaim, Merge, Checkpoint, Rotate, Trim, Collect}
+use Rattle.mvo_keep.specs.declared.keeper.Keeper.{Keeper}
+use Rattle.mvo_keep.specs.declared.remains.Remains.{Remains}
+use Rattle.mvo_keep.specs.declared.remains.Remains.TheVariants.{More, NoFile, NoGarbage}
+use Rattle.mvo_keep.specs.declared.sight.Sight.{Sight}
 use Rattle.mvo_keep.specs.Due.{due_chore}
+use Rattle.mvo_keep.specs.Keeping.{IsStandingBy, keeper_after, keeper_after_look, new_keeper}
 use Rattle.mvo_engine.specs.declared.engine.TheConstants.{AT_ONCE}
-use Rattle.mvo_engine.specs.declared.keeper.Keeper.{Keeper}
-use Rattle.mvo_engine.specs.declared.keeper.Kept.{Kept}
-use Rattle.mvo_engine.specs.declared.keeper.Kept.TheVariants.{Did, Idle}
-use Rattle.mvo_engine.specs.declared.keeping.chores.Remains.{Remains}
-use Rattle.mvo_engine.specs.declared.keeping.chores.Remains.TheVariants.{More, NoFile, NoGarbage}
+use Rattle.mvo_engine.specs.declared.kept.Kept.{Kept}
+use Rattle.mvo_engine.specs.declared.kept.Kept.TheVariants.{Did, Idle}
 use Rattle.mvo_engine.specs.declared.stats.Stats.{Stats}
 use Rattle.mvo_engine.specs.run.Opening.{Opening}
 use Rattle.mvo_engine.specs.States.{CoreState, StoreState}
@@ -40,40 +39,22 @@ use Rattle.mvo_engine.specs.Legal.{IsLegalCore}
 use Rattle.mvo_engine.specs.Sound.{IsSoundStore}
 use Rattle.mvo_engine.specs.Stats.{IsStatsOf, IsStoreStatsOf}
 
--- nothing was seen
-abbrev pub new_keeper : Keeper
-new_keeper = record {
-  clock = record { 0 = 0 };
-  mark = record { 0 = 0 };
-  has_flushed = false;
-  reclaimed = None;
-  collected = None;
-}
-
 -- ---- what is seen
--- the begin, or a stamp above all that are drawn
-abbrev pub begin_or_above : Option TxId → ℕ
-begin_or_above None = MAX_STAMP + 1
-begin_or_above (Some t) = t.0
-
--- What counts for what is due, by what is seen and what the keeper remembers. A flush that was the
--- last chore isn't due again, whatever came of it, so that one that is refused holds nothing up.
-pub record IsStandingBy (k : Keeper) (s : Stats) (named : List Pair) (standing : Standing) : Type 0
-  where
-    pub has_group : standing.has_group ≡
-        (not k.has_flushed && (s.store.has_group || nat_lt s.store.durable.0 s.core.closed.0))
-    pub has_commits : standing.has_commits ≡
-        (not k.has_flushed && nat_lt s.core.closed.0 k.clock.0)
-    pub step : standing.step ≡ option_map calls.Step s.store.step
-    pub may_reclaim : (standing.may_reclaim ≡ true) ↔ (k.reclaimed ≢ Some s.store.generation)
-    pub pairs : standing.pairs.items ≡ named
-    pub segments : standing.segments ≡ s.store.segments
-    pub last_segment : standing.last_segment ≡ s.store.last_segment
-    pub tale_start : standing.tale_start ≡ s.core.tale_start
-    pub tale_length : standing.tale_length ≡ s.core.places
-    pub earlier_mark : standing.earlier_mark ≡ k.mark
-    pub oldest_begin : standing.oldest_begin.0 ≡ begin_or_above s.core.oldest
-    pub may_collect : (standing.may_collect ≡ true) ↔ (k.collected ≢ Some s.core.tale_start)
+-- what of it a keeper sees
+abbrev pub sight_of : Stats → Sight
+sight_of s = record {
+  clock = s.core.clock;
+  closed = s.core.closed;
+  oldest = s.core.oldest;
+  tale_start = s.core.tale_start;
+  places = s.core.places;
+  durable = s.store.durable;
+  has_group = s.store.has_group;
+  generation = s.store.generation;
+  segments = s.store.segments;
+  last_segment = s.store.last_segment;
+  step = s.store.step;
+}
 
 -- Under its lock the store lay sound and stood so, with these pairs.
 pub record WasLookedAt {D : Type 0} (d : Ghosts D) (o : Opening) (s : StoreStats)
@@ -83,12 +64,15 @@ pub record WasLookedAt {D : Type 0} (d : Ghosts D) (o : Opening) (s : StoreStats
   pub stats : IsStoreStatsOf store s
   pub pairs_are : pairs ≡ (installed_manifest store.store).pairs
 
--- There were a store and a core under their locks that stood so, and this was due by the policy.
+-- There were a store and a core under their locks that were seen so, and this was due by the
+-- policy.
 pub record WasDue {D : Type 0} (d : Ghosts D) (o : Opening) (p : Policy) (k : Keeper)
-    (s : Stats) (due : Option Chore) : Type 0 where
+    (s : Sight) (due : Option Chore) : Type 0 where
   pub store : StoreState D
   pub core : CoreState
-  pub stats : IsStatsOf d o store core s
+  pub told : Stats
+  pub stats : IsStatsOf d o store core told
+  pub seen : s ≡ sight_of told
   pub standing : Standing
   pub stands : IsStandingBy k s (installed_manifest store.store).pairs standing
   pub due_is : due ≡ due_chore p standing
@@ -150,42 +134,15 @@ abbrev pub kept_by : Chore → Result Remains Refusal → Result Kept Refusal
 kept_by chore (Ok remains) = Ok (Did chore)
 kept_by chore (Err e) = if is_of_another e then Ok Idle else Err e
 
--- ---- what is remembered
--- the clock and the mark, and that no flush came since
-abbrev pub keeper_after_look : Stats → Keeper → Keeper
-keeper_after_look s k =
-    record k { clock = s.core.clock; mark = s.store.durable; has_flushed = false }
-
-abbrev pub is_flush : Chore → Bool
-is_flush Flush = true
-is_flush chore = false
-
-abbrev pub reclaimed_after : ℕ → Result Remains Refusal → Option ℕ → Option ℕ
-reclaimed_after generation (Ok NoFile) known = Some generation
-reclaimed_after generation came known = known
-
-abbrev pub collected_after : Stamp → Result Remains Refusal → Option Stamp → Option Stamp
-collected_after start (Ok NoGarbage) known = Some start
-collected_after start came known = known
-
-abbrev pub keeper_after : Stats → Chore → Result Remains Refusal → Keeper → Keeper
-keeper_after s chore came k = record {
-  clock = s.core.clock;
-  mark = s.store.durable;
-  has_flushed = is_flush chore;
-  reclaimed = reclaimed_after s.store.generation came k.reclaimed;
-  collected = collected_after s.core.tale_start came k.collected;
-}
-
 -- ---- a turn
 -- Memory for the look was refused, and nothing is remembered. Or nothing was due. Or a chore was,
 -- which was done or refused.
 pub data HasKept {D : Type 0} (d : Ghosts D) (o : Opening) (p : Policy) (old : Keeper)
     (r : Result Kept Refusal) (new : Keeper) : Type 0 where
   WithoutMemory : r ≡ Err OutOfMemory → new ≡ old → HasKept d o p old r new
-  AtRest : (s : Stats) → WasDue d o p old s None → r ≡ Ok Idle → new ≡ keeper_after_look s old
+  AtRest : (s : Sight) → WasDue d o p old s None → r ≡ Ok Idle → new ≡ keeper_after_look s old
       → HasKept d o p old r new
-  WithChore : (s : Stats) (chore : Chore) → WasDue d o p old s (Some chore)
+  WithChore : (s : Sight) (chore : Chore) → WasDue d o p old s (Some chore)
       → (came : Result Remains Refusal) → IsChoreDone d chore came → r ≡ kept_by chore came
       → new ≡ keeper_after s chore came old → HasKept d o p old r new
 

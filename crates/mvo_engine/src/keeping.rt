@@ -4,18 +4,15 @@ mod chores;
 mod looking;
 
 ghost use Rattle.std.specs.Prelude.{◌≡◌};
-ghost use Rattle.mvo_engine.specs.Keeping.{ends_keeping, is_flush, is_of_another, kept_by};
-ghost use Rattle.mvo_engine.specs.Keeping.{keeper_after, keeper_after_look};
+ghost use Rattle.mvo_engine.specs.Keeping.{ends_keeping, is_of_another, kept_by};
 
 use crate::engine::Engine;
 use crate::gate::Gate;
-use crate::keeper::{Keeper, Kept};
+use crate::kept::Kept;
 use crate::run::Run;
-use crate::stats::Stats;
-use chores::Remains;
 use mvo_disk::Disk;
-use mvo_keep::{Chore, Policy};
-use mvo_types::{Refusal, Stamp};
+use mvo_keep::{Chore, Keeper, Policy, Remains};
+use mvo_types::Refusal;
 use std::sync::Wait;
 use std::sync::atomic::{AtomicU64, Ordering};
 use std::time::Duration;
@@ -48,16 +45,16 @@ impl<L: Run, D: Disk, G: Gate + Drop> Engine<L, D, G> {
     ) -> Result<Kept, Refusal>
         ensures { HasKept D.Disk L.opening policy.now keeper.old result keeper.new }
     {
-        let (stats, due) = match self.see_due(rt, policy, *keeper) {
+        let (sight, due) = match self.see_due(rt, policy, *keeper) {
             Ok(seen) => seen,
             Err(refusal) => return Err(refusal),
         };
         let Some(chore) = due else {
-            *keeper = keeper.after_look(stats);
+            *keeper = keeper.after_look(&sight);
             return Ok(Kept::Idle);
         };
         let came = self.do_chore(rt, chore);
-        *keeper = keeper.after(stats, chore, &came);
+        *keeper = keeper.after(&sight, chore, &came);
         kept_by(chore, came)
     }
 
@@ -133,36 +130,6 @@ impl<L: Run, D: Disk, G: Gate + Drop> Engine<L, D, G> {
             before = Some(mark);
         }
         unreachable!()
-    }
-}
-
-impl Keeper {
-    // What it remembers behind a look where nothing was due.
-    fn after_look(self, stats: Stats) -> Keeper
-        ensures { result ≡ keeper_after_look stats self }
-    {
-        Keeper {
-            clock: stats.core.clock,
-            mark: stats.store.durable,
-            has_flushed: false,
-            reclaimed: self.reclaimed,
-            collected: self.collected,
-        }
-    }
-
-    // What it remembers behind a chore.
-    fn after(self, stats: Stats, chore: Chore, came: &Result<Remains, Refusal>) -> Keeper
-        ensures { result ≡ keeper_after stats chore came.now self }
-    {
-        let mut keeper = self.after_look(stats);
-        keeper.has_flushed = matches!(chore, Chore::Flush);
-        match came {
-            Ok(Remains::NoFile) => keeper.reclaimed = Some(stats.store.generation),
-            Ok(Remains::NoGarbage) => keeper.collected = Some(stats.core.tale_start),
-            Ok(Remains::More) => {}
-            Err(_) => {}
-        }
-        keeper
     }
 }
 

@@ -1,3 +1,4 @@
+use mvo_keep::Sight;
 use mvo_store::Due;
 use mvo_types::{Stamp, TxId};
 
@@ -50,4 +51,29 @@ pub struct StoreStats {
 pub struct Stats {
     pub core: CoreStats,
     pub store: StoreStats,
+}
+
+impl Stats {
+    ghost use Rattle.std.specs.Prelude.{◌≡◌};
+    ghost use Rattle.mvo_engine.specs.Keeping.{sight_of};
+
+    // What of it a keeper sees.
+    pub(crate) fn sight(&self) -> Sight
+        ensures { result ≡ sight_of self.now }
+    {
+        let (core, store) = (self.core, self.store);
+        Sight {
+            clock: core.clock,
+            closed: core.closed,
+            oldest: core.oldest,
+            tale_start: core.tale_start,
+            places: core.places,
+            durable: store.durable,
+            has_group: store.has_group,
+            generation: store.generation,
+            segments: store.segments,
+            last_segment: store.last_segment,
+            step: store.step,
+        }
+    }
 }

@@ -6,22 +6,11 @@ use crate::engine::{AT_ONCE, Engine};
 use crate::gate::Gate;
 use crate::run::Run;
 use mvo_disk::Disk;
-use mvo_keep::Chore;
+use mvo_keep::{Chore, Remains};
 use mvo_store::{Done, Reclaimed, StoreCall};
 use mvo_types::{Refusal, Stamp};
 use std::sync::Wait;
 use std::thread;
-
-/// What remains of its kind behind a chore that is done.
-#[derive(Clone, Copy, Debug, PartialEq, Eq)]
-pub enum Remains {
-    /// There may be more of the same.
-    More,
-    /// No file is left to be emptied.
-    NoFile,
-    /// No garbage is left.
-    NoGarbage,
-}
 
 impl<L: Run, D: Disk, G: Gate + Drop> Engine<L, D, G> {
     ghost use Rattle.mvo_engine.specs.Keeping.{IsChoreDone, IsCallDone, HaveCollectedSome};

@@ -1,5 +1,5 @@
 use Rattle.std.specs.Prelude.{◌≡◌, List}
-use Rattle.mvo_engine.specs.declared.keeper.Keeper.{Keeper}
+use Rattle.mvo_keep.specs.declared.keeper.Keeper.{Keeper}
 use Rattle.mvo_engine.specs.Keeping.{AreKeeperTurns}
 use Rattle.mvo_engine.proofs.engine.Engine.keep_until.Given as goal
 

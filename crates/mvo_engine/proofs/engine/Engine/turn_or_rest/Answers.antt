@@ -1,7 +1,7 @@
 use Rattle.std.proofs.Common.{Result, sym, ap, ◌∙◌, subst}
 use Rattle.std.specs.Prelude.{not}
 use Rattle.mvo_types.specs.declared.refusal.Refusal.{Refusal}
-use Rattle.mvo_engine.specs.declared.keeper.Kept.{Kept}
+use Rattle.mvo_engine.specs.declared.kept.Kept.{Kept}
 use Rattle.mvo_engine.specs.Keeping.{HasKept, may_go_on}
 use Rattle.mvo_engine.proofs.engine.Engine.turn_or_rest.Goals as goal
 use Rattle.mvo_engine.proofs.engine.Engine.turn_or_rest.Goals.{in-Ok-Idle, in-Err+else-ends_keeping}
