@@ -12,10 +12,8 @@ use super::told::Told::{Byte, Done, Number, Ready};
 use super::trial::{Alone, Meeting, Trial, tried, tried_anew};
 use crate::equal::{holds, same};
 use mvo_disk::Disk;
-use mvo_engine::{
-    CoreStats, Engine, Gate, Keeper, Kept, OpenGate, Run, Session, Stats, StoreStats,
-};
-use mvo_keep::{Chore, Policy};
+use mvo_engine::{CoreStats, Engine, Gate, Kept, OpenGate, Run, Session, Stats, StoreStats};
+use mvo_keep::{Chore, Keeper, Policy};
 use mvo_store::StoreCall::RotateWrite;
 use mvo_types::{Refusal, Stamp};
 use std::alloc::Global;

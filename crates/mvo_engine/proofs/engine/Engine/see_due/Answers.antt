@@ -17,8 +17,8 @@ returns-clause-ok g c =
         core_sound = c.stats-core.ensures.sound;
         core_stats = c.stats-core.ensures.stats;
       };
-      seen = c.sight.ensures;
-      standing = c.standing.result;
-      stands = subst (λ (named : List Pair). IsStandingBy c.args.keeper c.sight.result named c.standing.result) seen.pairs_are c.standing.ensures;
+      seen = c.sight-sight.ensures;
+      standing = c.standing-standing.result;
+      stands = subst (λ (named : List Pair). IsStandingBy c.args.keeper c.sight-sight.result named c.standing-standing.result) seen.pairs_are c.standing-standing.ensures;
       due_is = c.due.ensures.first;
     }
