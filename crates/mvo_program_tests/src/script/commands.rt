@@ -8,11 +8,28 @@ fn the_words_ask_for_a_task(rt: HostRuntime) -> Result<(), Fail> {
     let alloc = rt.alloc();
     holds(
         &rt,
-        matches!(command(alloc, &["mvo", "run"]), Ok(Task::Run)),
+        matches!(command(alloc, &["mvo", "run"]), Ok(Task::Run(false))),
     );
     holds(
         &rt,
-        matches!(command(alloc, &["mvo", "run", "d"]), Ok(Task::RunIn("d"))),
+        matches!(
+            command(alloc, &["mvo", "run", "--keep"]),
+            Ok(Task::Run(true))
+        ),
+    );
+    holds(
+        &rt,
+        matches!(
+            command(alloc, &["mvo", "run", "d"]),
+            Ok(Task::RunIn("d", false))
+        ),
+    );
+    holds(
+        &rt,
+        matches!(
+            command(alloc, &["mvo", "run", "d", "--keep"]),
+            Ok(Task::RunIn("d", true))
+        ),
     );
     holds(
         &rt,
@@ -45,10 +62,11 @@ fn other_words_are_refused(rt: HostRuntime) -> Result<(), Fail> {
         "mvo -r",
         "mvo Run",
         "mvo run d e",
+        "mvo run --keep=true d",
         "mvo format",
         "mvo format d e",
         "mvo rows d",
-        "mvo rows d 16",
+        "mvo rows d 64",
         "mvo rows d -1",
         "mvo rows d x",
         "mvo rows d 1 2",
