@@ -6,7 +6,7 @@ use Rattle.std.specs.Borrow.{Bor}
 use Rattle.std.specs.Result.{OkIff, result_ok}
 use Rattle.clap.specs.Words.{Row, Text, all_of, first_of, first_value, found_of, matched_of, raw_values, rows_of}
 use Rattle.clap.specs.declared.ArgMatches.{ArgMatches}
-use Rattle.mvo_cli.specs.Tasks.{HasWorkers}
+use Rattle.mvo_cli.specs.Tasks.{HasCount}
 use Rattle.mvo_cli.specs.declared.workers.Workers.{Workers}
 use Rattle.mvo_front.specs.declared.workers.TheConstants.{MAX_WORKERS}
 use Rattle.clap.proofs.WalkLemmas.{first_value-rows, raw_values-rows}
@@ -29,7 +29,7 @@ pub number : {E : Type 0} (r : Result ℕ E) (P : Type 0) (v t : ℕ) → OkIff 
 number (Ok x) P v t iff is = sym (some_eq is) ∙ iff.1
 number (Err e) P v t iff is = absurd (cc)
 
-pub has_workers : (rows : List Row) (text : Text) (count : ℕ) (r : Option Workers) → first_of (codes "workers") rows ≡ Some text → count ≡ digits_value 10 (without_leading_plus text)
-    → IfSome r (λ w. (w.count ≡ count) × (1 ≤ w.count) × (w.count ≤ MAX_WORKERS)) → IfSome r (λ w. HasWorkers rows w.count)
-has_workers rows text count None at is h = tt
-has_workers rows text count (Some w) at is h = (text, at, h.0 ∙ is, h.1, h.2)
+pub has_count : (option : Text) (rows : List Row) (text : Text) (count : ℕ) (r : Option Workers) → first_of option rows ≡ Some text → count ≡ digits_value 10 (without_leading_plus text)
+    → IfSome r (λ w. (w.count ≡ count) × (1 ≤ w.count) × (w.count ≤ MAX_WORKERS)) → IfSome r (λ w. HasCount option rows w.count)
+has_count option rows text count None at is h = tt
+has_count option rows text count (Some w) at is h = (text, at, h.0 ∙ is, h.1, h.2)

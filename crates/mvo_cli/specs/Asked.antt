@@ -42,6 +42,10 @@ keep_rule = record (new_rule (codes "keep")) {
   action = Some SetTrue;
 }
 
+-- the command that runs a script
+abbrev pub run_command : App
+run_command = with_rule (with_folder (codes "run") false) keep_rule
+
 -- the paths of the scripts, of which one must be there
 abbrev pub files_rule : Rule
 files_rule = record (new_rule (codes "FILE")) {
@@ -54,6 +58,32 @@ abbrev pub work_command : App
 work_command =
     let workers = with_rule (with_folder (codes "work") true) workers_rule in
     with_rule (with_rule workers keep_rule) files_rule
+
+-- the number of clients, which must be there
+abbrev pub clients_rule : Rule
+clients_rule = record (new_rule (codes "clients")) {
+  long = Some (codes "clients");
+  value_names = 1;
+  required = true;
+  parser = Some (parser.Signed (pos 1) (pos 64));
+}
+
+-- whether the store isn't kept meanwhile, which is said by the option's name alone
+abbrev pub no_keep_rule : Rule
+no_keep_rule = record (new_rule (codes "no-keep")) {
+  long = Some (codes "no-keep");
+  action = Some SetTrue;
+}
+
+-- the folder of the pipes, which must be there
+abbrev pub pipes_rule : Rule
+pipes_rule = record (new_rule (codes "PIPES")) { required = true }
+
+-- the command that serves clients
+abbrev pub serve_command : App
+serve_command =
+    let clients = with_rule (with_folder (codes "serve") true) clients_rule in
+    with_rule (with_rule clients no_keep_rule) pipes_rule
 
 -- the path of a script, which must be there
 abbrev pub script_rule : Rule
@@ -81,7 +111,8 @@ no_command = record {
 -- with the commands that look at a store, and keep it
 abbrev pub with_looks : App → App
 with_looks app =
-    let checks = with_subcommand app (with_folder (codes "check") true).top in
+    let dumps = with_subcommand app (with_folder (codes "dump") true).top in
+    let checks = with_subcommand dumps (with_folder (codes "check") true).top in
     let stats = with_subcommand checks (with_folder (codes "stats") true).top in
     with_subcommand stats (with_folder (codes "keep") true).top
 
@@ -89,10 +120,10 @@ with_looks app =
 abbrev pub commands : App
 commands =
     let formats = with_subcommand no_command (with_folder (codes "format") true).top in
-    let runs = with_subcommand formats (with_folder (codes "run") false).top in
+    let runs = with_subcommand formats run_command.top in
     let rows = with_subcommand runs rows_command.top in
     let works = with_subcommand (with_looks rows) work_command.top in
-    with_subcommand works stops_command.top
+    with_subcommand (with_subcommand works serve_command.top) stops_command.top
 
 -- the words ask for the task
 abbrev pub AsksFor : List Text → Task → Type 0

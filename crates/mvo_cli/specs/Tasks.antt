@@ -1,5 +1,5 @@
 -- What a command asks for, by the words behind it.
-use Rattle.std.specs.Prelude.{◌≡◌, ◌<◌, ◌≤◌, ℕ, Bool, false, List, Option, Some, None, codes, map, vec_len}
+use Rattle.std.specs.Prelude.{◌≡◌, ◌<◌, ◌≤◌, ℕ, Bool, false, not, List, Option, Some, None, codes, map, vec_len}
 use Rattle.std.specs.Borrow.{Bor}
 use Rattle.std.specs.Str.{bytes_eq}
 use Rattle.std.specs.Str.Parse.{digits_value, without_leading_plus}
@@ -18,10 +18,10 @@ HasTable rows table =
     (text : Text) × (first_of (codes "TABLE") rows ≡ Some text)
     × (table ≡ digits_value 10 (without_leading_plus text))
 
--- so many workers, from 1 to 64
-abbrev pub HasWorkers : List Row → ℕ → Type 0
-HasWorkers rows count =
-    (text : Text) × (first_of (codes "workers") rows ≡ Some text)
+-- the option says so many, from 1 to 64
+abbrev pub HasCount : Text → List Row → ℕ → Type 0
+HasCount option rows count =
+    (text : Text) × (first_of option rows ≡ Some text)
     × (count ≡ digits_value 10 (without_leading_plus text)) × (1 ≤ count) × (count ≤ MAX_WORKERS)
 
 -- the text behind a reference
@@ -36,6 +36,14 @@ is_true (Some text) = bytes_eq text (codes "true")
 -- the store is kept meanwhile
 abbrev pub HasKeep : List Row → Bool → Type 0
 HasKeep rows keeps = keeps ≡ is_true (first_of (codes "keep") rows)
+
+-- the store isn't kept meanwhile
+abbrev pub HasNoKeep : List Row → Bool → Type 0
+HasNoKeep rows keeps = keeps ≡ not (is_true (first_of (codes "no-keep") rows))
+
+-- the folder of the pipes is this one
+abbrev pub HasPipes : List Row → Text → Type 0
+HasPipes rows pipes = first_of (codes "PIPES") rows ≡ Some pipes
 
 -- the paths of the scripts are these
 abbrev pub HasFiles : List Row → List Text → Type 0
@@ -54,16 +62,24 @@ HasNumber rows number =
 -- the command and its words ask for the task
 abbrev pub IsTask : Text → List Row → Task → Type 0
 IsTask name rows (task.Format folder) = (name ≡ codes "format") × HasFolder rows folder.now
-IsTask name rows task.Run = (name ≡ codes "run") × (first_of (codes "DIR") rows ≡ None)
-IsTask name rows (task.RunIn folder) = (name ≡ codes "run") × HasFolder rows folder.now
+IsTask name rows (task.Run keeps) =
+    (name ≡ codes "run") × (first_of (codes "DIR") rows ≡ None) × HasKeep rows keeps
+IsTask name rows (task.RunIn folder keeps) =
+    (name ≡ codes "run") × HasFolder rows folder.now × HasKeep rows keeps
 IsTask name rows (task.Rows folder table) =
     (name ≡ codes "rows") × HasFolder rows folder.now × HasTable rows table
+IsTask name rows (task.Dump folder) = (name ≡ codes "dump") × HasFolder rows folder.now
 IsTask name rows (task.Check folder) = (name ≡ codes "check") × HasFolder rows folder.now
 IsTask name rows (task.Stats folder) = (name ≡ codes "stats") × HasFolder rows folder.now
 IsTask name rows (task.Keep folder) = (name ≡ codes "keep") × HasFolder rows folder.now
 IsTask name rows (task.Work t) =
-    (name ≡ codes "work") × HasFolder rows t.folder.now × HasWorkers rows t.workers.count
-    × HasKeep rows t.keeps × HasFiles rows (map (λ f. f.now) t.files.items) × (0 < vec_len t.files)
+    (name ≡ codes "work") × HasFolder rows t.folder.now
+    × HasCount (codes "workers") rows t.workers.count × HasKeep rows t.keeps
+    × HasFiles rows (map (λ f. f.now) t.files.items) × (0 < vec_len t.files)
+IsTask name rows (task.Serve t) =
+    (name ≡ codes "serve") × HasFolder rows t.folder.now
+    × HasCount (codes "clients") rows t.clients.count × HasNoKeep rows t.keeps
+    × HasPipes rows t.pipes.now
 IsTask name rows (task.Stops script) =
     (name ≡ codes "stops") × HasScript rows script.now × (first_of (codes "explain") rows ≡ None)
 IsTask name rows (task.Explain number script) =

@@ -1,15 +1,16 @@
-ghost use Rattle.std.specs.Prelude.{◌≡◌, ◌<◌, codes, false, map, option_map, vec_len, IfOk, IfSome};
+ghost use Rattle.std.specs.Prelude.{◌≡◌, ◌<◌, codes, false, map, vec_len, IfOk, IfSome};
 ghost use Rattle.clap.specs.Words.{app_of, found_of, rows_of, rule_of};
 ghost use Rattle.clap.specs.declared.Command.TheViews.{out-Command};
-ghost use Rattle.mvo_cli.specs.Asked.{files_rule, keep_rule, work_command, workers_rule};
-ghost use Rattle.mvo_cli.specs.Tasks.{HasFiles, HasWorkers, IsTask, is_true, text_now};
+ghost use Rattle.mvo_cli.specs.Asked.{files_rule, work_command, workers_rule};
+ghost use Rattle.mvo_cli.specs.Tasks.{HasCount, HasFiles, IsTask};
 
 use crate::asked::with_folder;
+use crate::asked_run::{KEEP, is_true, keep_arg};
 use crate::task::{FOLDER, Task};
 use crate::work_task::WorkTask;
 use crate::workers::Workers;
 use clap::builder::ValueParser;
-use clap::{Arg, ArgAction, ArgMatches, Command};
+use clap::{Arg, ArgMatches, Command};
 use std::alloc::{AllocError, Global};
 
 /// The name of the command that runs jobs.
@@ -17,9 +18,6 @@ pub const WORK: &str = "work";
 
 /// The name of the word that says how many workers run jobs at once.
 pub const WORKERS: &str = "workers";
-
-/// The name of the option that has the store kept meanwhile.
-pub const KEEP: &str = "keep";
 
 /// The name of the words that are the paths of the scripts.
 pub const FILES: &str = "FILE";
@@ -35,17 +33,6 @@ fn workers_arg<'a>(alloc: Global) -> Arg<'a>
         .help("How many jobs run at once, 1 to 64")
         .required(true)
         .value_parser(ValueParser::signed(1, 64))
-}
-
-/// Whether the store is kept meanwhile.
-fn keep_arg<'a>(alloc: Global) -> Arg<'a>
-    ensures rule { rule_of result ≡ keep_rule }
-    ensures local { result.global ≡ false }
-{
-    Arg::new(alloc, KEEP)
-        .long(KEEP)
-        .help("Has one more thread do what is due: flushes, checkpoints, merges, trims")
-        .action(ArgAction::SetTrue)
 }
 
 /// The paths of the scripts.
@@ -68,7 +55,10 @@ pub fn work_command<'a>(alloc: Global) -> Result<Command<'a>, AllocError>
                  commits durable";
     let work = with_folder(alloc, WORK, about, true)?;
     let work = work.arg(workers_arg(alloc))?;
-    let work = work.arg(keep_arg(alloc))?;
+    let work = work.arg(keep_arg(
+        alloc,
+        "Has one more thread do what is due: flushes, checkpoints, merges, trims",
+    ))?;
     work.arg(files_arg(alloc))
 }
 
@@ -82,7 +72,7 @@ pub fn work_task_of<'a>(
     let Some(folder) = found.get_str(FOLDER) else {
         return Ok(None);
     };
-    let Some(workers) = workers_in(found) else {
+    let Some(workers) = count_in(found, WORKERS) else {
         return Ok(None);
     };
     let files = files_in(alloc, found)?;
@@ -93,21 +83,11 @@ pub fn work_task_of<'a>(
     Ok(Some(Task::Work(WorkTask::new(folder, workers, keeps, files))))
 }
 
-/// Whether an option is there that is set by its name alone.
-fn is_true(word: Option<&str>) -> bool
-    ensures { result ≡ is_true (option_map text_now word.entry) }
+/// The number that an option has in the matches, if it is one that may be.
+pub fn count_in(found: &ArgMatches<'_>, option: &str) -> Option<Workers>
+    ensures { IfSome result (λ w. HasCount option.now (rows_of (found_of found.now)) w.count) }
 {
-    match word {
-        Some(text) => text == "true",
-        None => false,
-    }
-}
-
-/// The number of workers in the matches, if it is one that may be.
-fn workers_in(found: &ArgMatches<'_>) -> Option<Workers>
-    ensures { IfSome result (λ w. HasWorkers (rows_of (found_of found.now)) w.count) }
-{
-    let count = found.get_str(WORKERS)?.parse::<usize>().ok()?;
+    let count = found.get_str(option)?.parse::<usize>().ok()?;
     Workers::new(count)
 }
 

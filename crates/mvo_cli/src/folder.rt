@@ -3,7 +3,7 @@ use crate::seed::draw_seed;
 use crate::shown_progress::ShownProgress;
 use mvo_disk::{DirDisk, Disk, FolderRefusal, Unknown, make_folder};
 use mvo_store::{Store, format};
-use mvo_types::{Refusal, Rows, Stamp};
+use mvo_types::{Refusal, Row, Rows, Stamp};
 use mvo_world::World;
 use std::alloc::Global;
 use std::fs::{File, Files};
@@ -148,6 +148,30 @@ fn held_on<D: Disk + Drop>(
     let seed = draw_seed(rt)?;
     match Store::open(rt, alloc, seed, disk) {
         Ok((store, rows, mark)) => Ok(held_of(&store, rows, mark)),
+        Err((refusal, _)) => Err(Fault::Refused(refusal)),
+    }
+}
+
+/// The rows of the store in a folder, by table and key. The folder isn't used any longer then.
+pub fn rows_in<R>(rt: &R, folder: &str, is_terminal: bool) -> Result<Vec<Row>, Fault>
+where
+    R: AllocGlobal + Eprint + Files<File = File> + RandomSource + Threads + Sync + Clone + Drop,
+{
+    match open_disk(rt, folder, is_terminal) {
+        Ok(disk) => rows_on(rt, rt.alloc(), disk),
+        Err(fault) => Err(fault),
+    }
+}
+
+/// The rows of the store on a disk.
+fn rows_on<D: Disk + Drop>(
+    rt: &(impl RandomSource + Threads + Sync),
+    alloc: Global,
+    disk: D,
+) -> Result<Vec<Row>, Fault> {
+    let seed = draw_seed(rt)?;
+    match Store::open(rt, alloc, seed, disk) {
+        Ok((_, rows, _)) => Ok(rows.into_rows(alloc)?),
         Err((refusal, _)) => Err(Fault::Refused(refusal)),
     }
 }

@@ -52,13 +52,14 @@ fn write_at(
     writer: &mut impl Write,
 ) -> Result<(), Fault> {
     match held.rows.get(key)? {
-        Some(row) => write_row(alloc, &row, writer),
+        Some(row) => write_content(alloc, &row, writer),
         None => Ok(()),
     }
 }
 
-/// Writes one row. Its data is in lower-case hexadecimal digits, and `-` where it has none.
-fn write_row(alloc: Global, row: &Row, writer: &mut impl Write) -> Result<(), Fault> {
+/// Writes one row, `KEY SORT DATA`. Its data is in lower-case hexadecimal digits, and `-` where it
+/// has none.
+pub fn write_content(alloc: Global, row: &Row, writer: &mut impl Write) -> Result<(), Fault> {
     let (key, sort) = (row.key.key, row.sort);
     let digits = hex::encode(alloc, row.bytes())?;
     let text = if row.bytes().is_empty() {

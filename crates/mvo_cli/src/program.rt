@@ -1,16 +1,19 @@
 use crate::asked::command;
+use crate::dump::write_dump;
 use crate::fault::Fault;
-use crate::folder::{format_folder, open_held, open_world};
+use crate::folder::{format_folder, open_held, open_world, rows_in};
 use crate::folder_stats::stats_in;
 use crate::folders::Folders;
 use crate::keeping::keep_held;
 use crate::listing::{write_counts, write_rows, write_stats};
 use crate::seed::draw_seed;
+use crate::serve::serve_in;
 use crate::stops::{print_call, print_stops};
 use crate::task::Task;
 use crate::work::work_in;
 use mvo_disk::Disk;
-use mvo_script::{Driver, run_over};
+use mvo_keep::Policy;
+use mvo_script::{Driver, run_kept_over, run_over};
 use mvo_world::World;
 use std::fs::{File, Files};
 use std::io::Write;
@@ -125,13 +128,15 @@ where
 {
     match task {
         Task::Format(folder) => format_in(rt, folder, is_terminal),
-        Task::Run => run_fresh(rt),
-        Task::RunIn(folder) => run_in(rt, folder, is_terminal),
+        Task::Run(keeps) => run_fresh(rt, keeps),
+        Task::RunIn(folder, keeps) => run_in(rt, folder, keeps, is_terminal),
         Task::Rows(folder, table) => print_rows(rt, folder, table, is_terminal),
+        Task::Dump(folder) => print_dump(rt, folder, is_terminal),
         Task::Check(folder) => print_counts(rt, folder, is_terminal),
         Task::Stats(folder) => print_stats(rt, folder, is_terminal),
         Task::Keep(folder) => keep_and_count(rt, folder, is_terminal),
         Task::Work(task) => work_in(rt, &task, is_terminal),
+        Task::Serve(task) => serve_in(rt, &task, is_terminal),
         Task::Stops(script) => print_stops(rt, script, is_terminal),
         Task::Explain(number, script) => print_call(rt, number, script),
     }
@@ -150,16 +155,17 @@ where
 /// store, it isn't opened, as one in a folder.
 fn run_fresh(
     rt: &(impl AllocGlobal + Input + Print + RandomSource + Threads + Sync),
+    keeps: bool,
 ) -> Result<(), Fault> {
     let seed = draw_seed(rt)?;
     match Driver::new(rt, rt.alloc(), seed) {
-        Ok(driver) => run_world(rt, driver.into_world()),
+        Ok(driver) => run_world(rt, driver.into_world(), keeps),
         Err(refusal) => Err(Fault::Refused(refusal)),
     }
 }
 
 /// Runs the script of standard input over the store in a folder.
-fn run_in<R>(rt: &R, folder: &str, is_terminal: bool) -> Result<(), Fault>
+fn run_in<R>(rt: &R, folder: &str, keeps: bool, is_terminal: bool) -> Result<(), Fault>
 where
     R: AllocGlobal
         + Input
@@ -173,20 +179,24 @@ where
         + Drop,
 {
     match open_world(rt, folder, is_terminal) {
-        Ok(world) => run_world(rt, world),
+        Ok(world) => run_world(rt, world, keeps),
         Err(fault) => Err(fault),
     }
 }
 
-/// Runs the script of standard input over a world.
+/// Runs the script of standard input over a world, which is kept meanwhile where that is asked.
 fn run_world<D: Disk + Drop>(
     rt: &(impl AllocGlobal + Input + Print),
     world: World<D>,
+    keeps: bool,
 ) -> Result<(), Fault> {
-    match run_over(rt.alloc(), world, rt.reader(), io::writer(rt)) {
-        Ok(()) => Ok(()),
-        Err(error) => Err(Fault::Script(error)),
-    }
+    let (alloc, reader, writer) = (rt.alloc(), rt.reader(), io::writer(rt));
+    let ran = if keeps {
+        run_kept_over(alloc, world, Policy::standard(), reader, writer)
+    } else {
+        run_over(alloc, world, reader, writer)
+    };
+    ran.map_err(Fault::Script)
 }
 
 /// Prints the rows of a table of the store in a folder.
@@ -204,6 +214,23 @@ where
 {
     let held = open_held(rt, folder, is_terminal)?;
     write_rows(rt.alloc(), &held, table, io::writer(rt))
+}
+
+/// Prints a script that makes the rows of the store in a folder anew.
+fn print_dump<R>(rt: &R, folder: &str, is_terminal: bool) -> Result<(), Fault>
+where
+    R: AllocGlobal
+        + Print
+        + Eprint
+        + Files<File = File>
+        + RandomSource
+        + Threads
+        + Sync
+        + Clone
+        + Drop,
+{
+    let rows = rows_in(rt, folder, is_terminal)?;
+    write_dump(rt.alloc(), &rows, io::writer(rt))
 }
 
 /// Prints what the store in a folder holds.

@@ -81,9 +81,9 @@ impl Events {
 
     pub fn key(&mut self) -> RowKey {
         let table = match self.draws.below(128) {
-            0 => 16,
+            0 => 64,
             1..=63 => 0,
-            _ => 15,
+            _ => 63,
         };
         let key = self.draws.below(self.keys);
         RowKey { table, key }
@@ -100,7 +100,7 @@ impl Events {
         let sort = self.draws.below(SORTS);
         let mut bytes = self.draws.draw().to_be_bytes().to_vec(self.alloc)?;
         if self.draws.below(64) == 0 {
-            bytes = vec![in self.alloc; 97; 1_025]?;
+            bytes = vec![in self.alloc; 97; 4_097]?;
         }
         Row::new(key, sort, bytes)
     }

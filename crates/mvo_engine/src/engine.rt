@@ -27,7 +27,11 @@ use std::sync::{Mutex, MutexGuard, Wait};
 use std::thread;
 
 /// How often a thread tries to take the lock of the core before it sleeps over it.
-const TRIES: u32 = 256;
+const TRIES: u32 = 64;
+
+/// How often it yields at most between two tries. Each try that fails writes the word of the lock,
+/// which the thread that has it has to fetch back then.
+const MOST_YIELDS: u32 = 32;
 
 /// So many versions are collected at most before the lock of the core is given back: it is held a
 /// few dozen microseconds, as long as some hundred reads.
@@ -225,14 +229,17 @@ impl<L: Run, D: Disk, G: Gate + Drop> Engine<L, D, G> {
     }
 
     // Passes the gate and takes the lock of the core. It tries for a while first, since a step
-    // gives the lock back sooner than a thread falls asleep and is woken.
+    // gives the lock back sooner than a thread falls asleep and is woken. It rests between two
+    // tries, longer from one to the next, so that who has the lock isn't held up by tries.
     pub(crate) fn enter_core<R: Wait>(&self, rt: &R) -> MutexGuard<'_, LockedCore<L>> {
         self.gate.pass(Place::Core);
+        let mut yields = 1;
         for _ in 0..TRIES {
             if let Some(core) = self.core.try_lock() {
                 return core;
             }
-            thread::yield_now();
+            rest(yields);
+            yields = yields.saturating_mul(2).min(MOST_YIELDS);
         }
         self.core.lock(rt)
     }
@@ -262,6 +269,13 @@ impl<L: Run, D: Disk, G: Gate + Drop> Engine<L, D, G> {
         ensures { result.now ≡ L.marks }
     {
         &self.marks
+    }
+}
+
+// Yields so often.
+fn rest(yields: u32) {
+    for _ in 0..yields {
+        thread::yield_now();
     }
 }
 

@@ -5,6 +5,8 @@ pub enum Place {
     Core,
     /// Before it takes the lock of the store.
     Store,
+    /// Before it takes the turn for a step of a job.
+    Turn,
     /// Before it runs the job of this number.
     JobStart(u32),
     /// Behind the job of this number.

@@ -1,5 +1,6 @@
 //! The tests of what is found out of a disk.
 mod broken;
 mod image;
+mod mixed;
 mod vectors;
 mod written;

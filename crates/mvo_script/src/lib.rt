@@ -14,4 +14,4 @@ mod upkeep;
 pub use driver::Driver;
 pub use line::{Line, MAX_LINE_LEN, RowText, SortRange, laws_of_lines};
 pub use reply::LineReply;
-pub use script::{ScriptError, run_kept_over, run_over};
+pub use script::{ScriptError, read_line, run_kept_over, run_over};

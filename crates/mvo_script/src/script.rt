@@ -136,8 +136,8 @@ fn write_reply<D: Disk, W: Write>(
 }
 
 /// Reads on behind the next line feed. The line is what stands before it, or, where that is
-/// longer than a line may be, its first 4,097 bytes. False where nothing is left to read.
-fn read_line<R: BufRead>(reader: &mut R, line: &mut Vec<u8>) -> io::Result<bool> {
+/// longer than a line may be, its first 12,289 bytes. False where nothing is left to read.
+pub fn read_line<R: BufRead>(reader: &mut R, line: &mut Vec<u8>) -> io::Result<bool> {
     line.clear();
     let limit = MAX_LINE_LEN as u64 + 1;
     let taken = Read::take(&mut *reader, limit).read_until(b'\n', line)?;

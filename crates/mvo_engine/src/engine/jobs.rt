@@ -5,6 +5,7 @@ ghost use Rattle.mvo_engine.specs.Jobs.{IsInstallAnswer, told_of};
 use super::Engine;
 use super::call_by_call::CallByCall;
 use crate::gate::Gate;
+use crate::place::Place;
 use crate::run::Run;
 use mvo_disk::Disk;
 use mvo_store::{Done, Generation, StoreCall, run_checkpoint, run_merge, run_rotation};
@@ -64,6 +65,7 @@ impl<L: Run, D: Disk, G: Gate + Drop> Engine<L, D, G> {
     pub(crate) fn call_in_turn<R: Wait>(&self, rt: &R, call: StoreCall) -> Result<Done, Refusal>
         ensures { IsCallAlone D.Disk tt call result tt }
     {
+        self.gate.pass(Place::Turn);
         let turn = self.turns.take(rt);
         let done = self.guard_store(rt).call(call);
         drop(turn);

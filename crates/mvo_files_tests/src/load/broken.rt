@@ -19,7 +19,7 @@ const SLOTS: [Case; 7] = [
     (
         &[
             (0, FORMATTED),
-            (1, "a5 1e000000 4d564f4d 02000000"),
+            (1, "a5 1e000000 4d564f4d 03000000"),
             (2, FRESH),
         ],
         "refused 55",

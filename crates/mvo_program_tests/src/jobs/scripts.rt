@@ -45,7 +45,7 @@ const SCRIPTS: [(&str, &str); 11] = [
     ),
     // Refusals that leave the transaction as it was.
     (
-        "begin t\nread t 16 0\ninsert t 0 1 2 61\ncommit t\ncommit t\n",
+        "begin t\nread t 64 0\ninsert t 0 1 2 61\ncommit t\ncommit t\n",
         "job 1\nbegan 1\nrefused 34\ninserted\ncommitted 2\nbad line\ndurable 2\n",
     ),
     // A read-only one goes on where it would write, and no second begin is inside it.

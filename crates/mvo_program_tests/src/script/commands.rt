@@ -41,8 +41,8 @@ fn the_words_ask_for_a_task(rt: HostRuntime) -> Result<(), Fail> {
     holds(
         &rt,
         matches!(
-            command(alloc, &["mvo", "rows", "d", "15"]),
-            Ok(Task::Rows("d", 15))
+            command(alloc, &["mvo", "rows", "d", "63"]),
+            Ok(Task::Rows("d", 63))
         ),
     );
     holds(

@@ -102,7 +102,7 @@ fn each_step_of_it_has_its_own_line(rt: HostRuntime) -> Result<(), Fail> {
         ("begin-read r", "began 1"),
         ("update r 0 5 1 61", "refused 60"),
         ("delete r 0 5", "refused 60"),
-        ("read r 16 5", "refused 34"),
+        ("read r 64 5", "refused 34"),
         ("read r 0 5", "none"),
         ("poll r", "no"),
         ("settle r", "refused 13"),

@@ -10,6 +10,7 @@ with_one sub a = with_subcommand a sub.top
 
 pub returns : goal.returns
 returns c =
-    let checks = c.in_ok-mvo.ensures in
-    let stats = c.in_ok-mvo-2.ensures ∙ ap (with_one (with_folder (codes "stats") true)) checks in
-    IfOk-weaker c.add_command-3.result _ _ (λ r adds. adds ∙ ap (with_one (with_folder (codes "keep") true)) stats) c.add_command-3.ensures
+    let dumps = c.in_ok-mvo.ensures in
+    let checks = c.in_ok-mvo-2.ensures ∙ ap (with_one (with_folder (codes "check") true)) dumps in
+    let stats = c.in_ok-mvo-3.ensures ∙ ap (with_one (with_folder (codes "stats") true)) checks in
+    IfOk-weaker c.add_command-4.result _ _ (λ r adds. adds ∙ ap (with_one (with_folder (codes "keep") true)) stats) c.add_command-4.ensures

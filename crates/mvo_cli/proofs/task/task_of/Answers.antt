@@ -1,15 +1,9 @@
-use Rattle.std.proofs.Common.{◌∙◌, Some, None, sym}
+use Rattle.std.proofs.Common.{◌∙◌, Some, sym}
 use Rattle.mvo_cli.proofs.Given.{given, number}
 use Rattle.mvo_cli.proofs.task.task_of.Goals as goal
 
 pub returns-in_ok-get_str-in-format-clause-task : goal.returns-in_ok-get_str-in-format-clause-task
 returns-in_ok-get_str-in-format-clause-task c = (c.in-format.is, given c.args.found.now _ _ (Some c.in_ok-get_str-in-format.field-0) c.get_str.ensures c.in_ok-get_str-in-format.was)
-
-pub returns-in-Some-clause-task : goal.returns-in-Some-clause-task
-returns-in-Some-clause-task c = (c.in-run.is, given c.args.found.now _ _ (Some c.in-Some.folder) c.get_str-in-run.ensures c.in-Some.is)
-
-pub returns-in-None-clause-task : goal.returns-in-None-clause-task
-returns-in-None-clause-task c = (c.in-run.is, given c.args.found.now _ _ None c.get_str-in-run.ensures c.in-None.is)
 
 pub returns-in_ok-table-in-rows-clause-task : goal.returns-in_ok-table-in-rows-clause-task
 returns-in_ok-table-in-rows-clause-task c =
@@ -17,6 +11,9 @@ returns-in_ok-table-in-rows-clause-task c =
     let text = given c.args.found.now _ _ (Some c.in_ok-get_str-in-rows.field-0) c.get_str-in-rows-2.ensures c.in_ok-get_str-in-rows.was in
     let table = number c.parse.result _ _ c.in_ok-table-in-rows.table c.parse.ensures.value.0 (sym c.ok.ensures.value ∙ c.in_ok-table-in-rows.was) in
     (c.in-rows.is, folder, (c.in_ok-get_str-in-rows.field-0.now, text, table))
+
+pub returns-in_ok-get_str-in-dump-clause-task : goal.returns-in_ok-get_str-in-dump-clause-task
+returns-in_ok-get_str-in-dump-clause-task c = (c.in-dump.is, given c.args.found.now _ _ (Some c.in_ok-get_str-in-dump.field-0) c.get_str-in-dump.ensures c.in_ok-get_str-in-dump.was)
 
 pub returns-in_ok-get_str-in-check-clause-task : goal.returns-in_ok-get_str-in-check-clause-task
 returns-in_ok-get_str-in-check-clause-task c = (c.in-check.is, given c.args.found.now _ _ (Some c.in_ok-get_str-in-check.field-0) c.get_str-in-check.ensures c.in_ok-get_str-in-check.was)

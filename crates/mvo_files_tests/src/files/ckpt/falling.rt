@@ -15,7 +15,7 @@ const LAST: RecordPlace = RecordPlace {
 
 /// Table, key, data file and number of each.
 const OPENING: [(u8, u64, u16, u32); 5] = [
-    (15, 18_446_744_073_709_551_615, 1_023, 4_194_303),
+    (63, 18_446_744_073_709_551_615, 1_023, 4_194_303),
     (15, 7, 2, 5),
     (2, 1_099_511_627_776, 2, 6),
     (2, 9, 4, 0),
@@ -23,8 +23,8 @@ const OPENING: [(u8, u64, u16, u32); 5] = [
 ];
 
 /// Tables and keys between those and beyond them.
-const OTHERS: [(u8, u64); 9] = [
-    (15, 18_446_744_073_709_551_614),
+const OTHERS: [(u8, u64); 11] = [
+    (63, 18_446_744_073_709_551_614),
     (15, 8),
     (15, 6),
     (14, 7),
@@ -33,6 +33,8 @@ const OTHERS: [(u8, u64); 9] = [
     (2, 0),
     (1, 0),
     (0, 1),
+    (16, 7),
+    (15, 18_446_744_073_709_551_615),
 ];
 
 fn opening(rt: &impl Abort, alloc: Global) -> Result<Places, Fail> {
@@ -112,6 +114,19 @@ fn keys_of_an_opening_change_their_places(rt: HostRuntime) -> Result<(), Fail> {
     Ok(())
 }
 
+/// The last table of files of version 1, the one behind it, and the last of all.
+#[test]
+fn keys_of_each_table_change_their_places(rt: HostRuntime) -> Result<(), Fail> {
+    let mut places = opening(&rt, rt.alloc())?;
+    places.reserve(4)?;
+    for table in [0, 15, 16, 63] {
+        change(&rt, &mut places, RowKey { table, key: 11 })?;
+    }
+    have_theirs(&rt, &places, &OPENING);
+    have_none(&rt, &places, &OTHERS);
+    Ok(())
+}
+
 #[test]
 fn keys_come_beside_those_of_an_opening(rt: HostRuntime) -> Result<(), Fail> {
     let mut places = opening(&rt, rt.alloc())?;
@@ -163,11 +178,11 @@ fn a_checkpoint_is_taken_over_an_opening(rt: HostRuntime) -> Result<(), Fail> {
 
 /// Table and key, and whether it may stand behind those before it.
 const PUSHED: [(u8, u64, bool); 9] = [
-    (16, 0, false),
-    (15, 7, true),
-    (15, 7, false),
-    (15, 8, false),
-    (15, 6, true),
+    (64, 0, false),
+    (63, 7, true),
+    (63, 7, false),
+    (63, 8, false),
+    (63, 6, true),
     (3, 100, true),
     (4, 0, false),
     (3, 99, true),
@@ -193,8 +208,8 @@ fn only_keys_that_fall_are_taken(rt: HostRuntime) -> Result<(), Fail> {
     have_theirs(
         &rt,
         &places,
-        &[(15, 7, 1, 2), (15, 6, 1, 2), (3, 100, 1, 2), (3, 99, 1, 2)],
+        &[(63, 7, 1, 2), (63, 6, 1, 2), (3, 100, 1, 2), (3, 99, 1, 2)],
     );
-    have_none(&rt, &places, &[(16, 0), (15, 8), (4, 0)]);
+    have_none(&rt, &places, &[(64, 0), (63, 8), (4, 0)]);
     Ok(())
 }
