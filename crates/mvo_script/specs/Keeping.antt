@@ -57,7 +57,8 @@ module _ {D : Type 0} (IsStep : WorldData D → Event → Reply → WorldData D 
   IsChoreBy (Collect most) d r d' = AreCollections most d r d'
 
 -- Memory for the look was refused, and nothing changes. Or nothing was due of the world, which
--- stays as it is. Or a chore was, which was done; what that was answered is remembered, and not told.
+-- stays as it is. Or a chore was, which was done; what that was answered is remembered, and not
+-- told.
 pub data HasKeptTurn {D : Type 0} (d : Ghosts D) (p : Policy) (old : Driver D) (k : Keeper)
     (r : Result (Option Chore) Refusal) (k' : Keeper) (new : Driver D) : Type 0 where
   WithoutMemory : r ≡ Err OutOfMemory → k' ≡ k → new ≡ old → HasKeptTurn d p old k r k' new

@@ -4,7 +4,7 @@ use mvo_cli::{Fault, Task, command};
 use std::test::Fail;
 
 #[test]
-fn the_words_ask_for_a_task(rt: HostRuntime) -> Result<(), Fail> {
+fn the_words_ask_for_a_run(rt: HostRuntime) -> Result<(), Fail> {
     let alloc = rt.alloc();
     holds(
         &rt,
@@ -31,6 +31,12 @@ fn the_words_ask_for_a_task(rt: HostRuntime) -> Result<(), Fail> {
             Ok(Task::RunIn("d", true))
         ),
     );
+    Ok(())
+}
+
+#[test]
+fn the_words_ask_for_a_task(rt: HostRuntime) -> Result<(), Fail> {
+    let alloc = rt.alloc();
     holds(
         &rt,
         matches!(
