@@ -126,6 +126,63 @@ fn pairs_stay_few(rt: HostRuntime) -> Result<(), Fail> {
     Ok(())
 }
 
+/// The next number of a sequence that looks as if it were drawn, below another.
+fn drawn(state: &mut u64, below: u64) -> u64 {
+    *state = state
+        .wrapping_mul(6_364_136_223_846_793_005)
+        .wrapping_add(1_442_695_040_888_963_407);
+    (*state >> 33).checked_rem(below).unwrap_or(0)
+}
+
+/// Does the chore that is due of the files, if one is.
+fn do_due(
+    standing: &mut Standing,
+    policy: &Policy,
+    rows: u64,
+    written: u64,
+) -> Result<(), AllocError> {
+    match due(policy, standing) {
+        Some(Chore::Checkpoint) => checkpoint(standing, rows, written),
+        Some(Chore::Merge(place)) => {
+            merge(standing, place);
+            Ok(())
+        }
+        _ => Ok(()),
+    }
+}
+
+/// So many draws: one of sixteen seals a segment, and behind the others the chore that is due is
+/// done, of a segment of up to 520,000 rows, of a store of up to 50,000,000. Answers the most
+/// segments and the most pairs that there were.
+fn most_drawn(alloc: Global, draws: u64) -> Result<(usize, usize), AllocError> {
+    let policy = Policy::standard();
+    let mut standing = idle(alloc);
+    let mut state = 7u64;
+    let mut rows = 1_000_000u64;
+    let (mut segments, mut pairs) = (0usize, 0usize);
+    for number in 0..draws {
+        if number % 50_000 == 0 {
+            rows = drawn(&mut state, 50_000_000).max(1_000);
+        }
+        let written = drawn(&mut state, 520_000).max(1);
+        if drawn(&mut state, 16) == 0 {
+            standing.segments = standing.segments.saturating_add(1);
+        } else {
+            do_due(&mut standing, &policy, rows, written)?;
+        }
+        segments = segments.max(standing.segments);
+        pairs = pairs.max(standing.pairs.len());
+    }
+    Ok((segments, pairs))
+}
+
+// A simulation of the same rules and draws beside this says so: there never are as many as may be.
+#[test]
+fn drawn_sizes_fill_no_store(rt: HostRuntime) -> Result<(), Fail> {
+    same(&rt, &most_drawn(rt.alloc(), 1_000_000)?, &(5, 25));
+    Ok(())
+}
+
 // Everything is due; what comes first is done, and then what comes next.
 #[test]
 fn what_is_due_comes_in_turn(rt: HostRuntime) -> Result<(), Fail> {

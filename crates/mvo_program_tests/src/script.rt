@@ -4,6 +4,7 @@ mod checkpoints;
 mod commands;
 mod durable;
 mod full_segment;
+mod kept;
 mod lines;
 mod logs;
 mod merges;

@@ -2,6 +2,7 @@
 mod explained;
 mod failing;
 mod forgotten;
+mod kept;
 mod longer;
 mod looked_at;
 mod moments;

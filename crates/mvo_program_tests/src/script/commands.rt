@@ -4,16 +4,39 @@ use mvo_cli::{Fault, Task, command};
 use std::test::Fail;
 
 #[test]
-fn the_words_ask_for_a_task(rt: HostRuntime) -> Result<(), Fail> {
+fn the_words_ask_for_a_run(rt: HostRuntime) -> Result<(), Fail> {
     let alloc = rt.alloc();
     holds(
         &rt,
-        matches!(command(alloc, &["mvo", "run"]), Ok(Task::Run)),
+        matches!(command(alloc, &["mvo", "run"]), Ok(Task::Run(false))),
     );
     holds(
         &rt,
-        matches!(command(alloc, &["mvo", "run", "d"]), Ok(Task::RunIn("d"))),
+        matches!(
+            command(alloc, &["mvo", "run", "--keep"]),
+            Ok(Task::Run(true))
+        ),
     );
+    holds(
+        &rt,
+        matches!(
+            command(alloc, &["mvo", "run", "d"]),
+            Ok(Task::RunIn("d", false))
+        ),
+    );
+    holds(
+        &rt,
+        matches!(
+            command(alloc, &["mvo", "run", "d", "--keep"]),
+            Ok(Task::RunIn("d", true))
+        ),
+    );
+    Ok(())
+}
+
+#[test]
+fn the_words_ask_for_a_task(rt: HostRuntime) -> Result<(), Fail> {
+    let alloc = rt.alloc();
     holds(
         &rt,
         matches!(
@@ -45,6 +68,7 @@ fn other_words_are_refused(rt: HostRuntime) -> Result<(), Fail> {
         "mvo -r",
         "mvo Run",
         "mvo run d e",
+        "mvo run --keep=true d",
         "mvo format",
         "mvo format d e",
         "mvo rows d",
