@@ -342,7 +342,7 @@ fn assert_met(rt: &impl Abort, counts: &Counts, met: &Met) {
     let floors = [
         (counts.groups, 19),
         (counts.installed, 12),
-        (counts.checkpoints, 5),
+        (counts.checkpoints, 3),
         (counts.merges, 3),
         (counts.beside, 0),
         (counts.emptied, 5),
