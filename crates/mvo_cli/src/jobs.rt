@@ -6,5 +6,4 @@ mod replies;
 mod running;
 mod session_work;
 
-pub use lines::Lines;
-pub use running::{WorkError, flushed, run_kept, work_over};
+pub use running::{WorkError, work_over};
