@@ -8,4 +8,3 @@ mod looked_at;
 mod moments;
 mod random;
 mod read_only;
-mod upgrades;

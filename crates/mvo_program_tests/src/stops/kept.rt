@@ -76,8 +76,8 @@ fn turn(
     }
 }
 
-/// Answers the lines, and makes turns until nothing is due any more. Answers the lines with those of
-/// the chores behind them.
+/// Answers the lines, and makes turns until nothing is due any more. Answers the lines with those
+/// of the chores behind them.
 fn written_out(rt: &(impl Threads + Sync), alloc: Global, script: &[u8]) -> Result<Vec<u8>, Fail> {
     let mut driver = Driver::new(rt, alloc, 7)?;
     let mut keeper = Keeper::new();
