@@ -349,7 +349,7 @@ fn assert_met(rt: &impl Abort, counts: &Counts, met: &Met) {
         (met.in_opening, 43),
         (met.in_append, 77),
         (met.in_rotate, 19),
-        (met.in_checkpoint, 31),
+        (met.in_checkpoint, 20),
         (met.in_merge, 20),
         (met.in_install, 74),
         (met.in_reclaim, 63),
