@@ -11,26 +11,17 @@
 //!
 //! With `sessions N COMMITS FOLDER`: the durable commits a second of N sessions of an engine, each
 //! of which commits so many small transactions one after another and makes each durable.
-//!
-//! With `kept N COMMITS FOLDER` and with `unkept N COMMITS FOLDER`: the same of N sessions that
-//! replace 1,000,000 rows, while one more thread keeps the engine, or none does.
-//!
-//! With `through MEBIBYTES`: about so many of log through a world over a disk in memory that is
-//! kept, with a segment of one MiB; its rows are compared at the end.
 #![tactic(auto)]
 
 mod folder;
 mod groups;
-mod kept;
 mod opening;
 mod raw;
 mod sessions;
-mod through;
 mod times;
 
 use anyhow::{Context, Result, bail};
 use folder::Scratch;
-use kept::Service;
 use mvo_store::format;
 use opening::{WORKS, Work};
 use std::env;
@@ -42,9 +33,6 @@ use std::time::Instant;
 const ROUNDS: u64 = 20;
 
 const ROWS: u64 = 10_000;
-
-/// How many rows a service has.
-const SERVED_ROWS: u64 = 1_000_000;
 
 fn main(rt: HostRuntime) -> Result<()> {
     let mut words = env::args(&rt)?.skip(1);
@@ -79,16 +67,6 @@ where
         "groups" => run_groups(rt, threads, first, number_or(second, ROUNDS)?),
         "open" => run_open(threads, number_or(first, ROWS)?, second),
         "sessions" => run_sessions(rt, threads, third, number(first)?, number(second)?),
-        "through" => run_through(rt, threads, number(first)?),
-        "kept" | "unkept" => {
-            let service = Service {
-                sessions: number(first)?,
-                commits: number(second)?,
-                rows: SERVED_ROWS,
-                keeps: kind == "kept",
-            };
-            run_service(rt, threads, third, service)
-        }
         _ => bail!("nothing that is timed has this name"),
     }
 }
@@ -195,54 +173,5 @@ fn time_sessions(
     let all = u128::from(count.saturating_mul(commits)).saturating_mul(1_000_000_000);
     let rate = all.checked_div(nanos).unwrap_or(0);
     eprintln!(rt; "{count} sessions: {rate} durable commits a second")?;
-    Ok(())
-}
-
-/// Times the durable commits of a service.
-fn run_service(
-    rt: &HostRuntime,
-    threads: &(impl Threads + Wait + Sync),
-    folder: &Option<String>,
-    service: Service,
-) -> Result<()> {
-    let scratch = scratch_in(rt, folder)?;
-    let ran = time_service(rt, threads, &scratch, service);
-    scratch.remove(rt)?;
-    ran
-}
-
-fn time_service(
-    rt: &HostRuntime,
-    threads: &(impl Threads + Wait + Sync),
-    scratch: &Scratch,
-    service: Service,
-) -> Result<()> {
-    let Ok(disk) = format(rt.alloc(), scratch.disk(rt, "service")?) else {
-        bail!("the store isn't made");
-    };
-    kept::load(threads, rt.alloc(), disk, service.rows)?;
-    eprintln!(rt; "loaded")?;
-    let start = Instant::now(rt)?;
-    let disk = scratch.disk(rt, "service")?;
-    let mark = kept::serve(threads, rt.alloc(), disk, service)?;
-    let nanos = start.elapsed(rt)?.as_nanos();
-    println!(rt; "{} sessions: mark {mark}", service.sessions)?;
-    let commits = service.sessions.saturating_mul(service.commits);
-    let all = u128::from(commits).saturating_mul(1_000_000_000);
-    let rate = all.checked_div(nanos).unwrap_or(0);
-    eprintln!(rt;
-        "{} sessions: {rate} durable commits a second",
-        service.sessions
-    )?;
-    Ok(())
-}
-
-/// Brings so much log through a kept world, and says what that came to.
-fn run_through(rt: &HostRuntime, threads: &(impl Threads + Sync), mebibytes: u64) -> Result<()> {
-    let through = through::run(threads, rt.alloc(), mebibytes)?;
-    println!(rt;
-        "{} bytes of log, {} segments at most",
-        through.bytes, through.segments
-    )?;
     Ok(())
 }
