@@ -2,8 +2,9 @@
 use super::pairs::{PAIRS, pair_of, sum_of, written};
 use anyhow::{Result, bail};
 use mvo_disk::{Disk, MemDisk};
+use mvo_format::LAST_FORMAT;
 use mvo_load::pair_on;
-use mvo_pair::{FIRST_FORMAT, Live, Pair};
+use mvo_pair::{Live, Pair};
 use mvo_places::{Places, RecordPlace};
 use mvo_types::{MAX_FILE, MAX_PAIR_RECORDS, Rows};
 use std::alloc::{AllocError, Global};
@@ -51,7 +52,7 @@ fn live_of(alloc: Global, disk: &mut MemDisk, pair: Pair) -> Result<Vec<Live>> {
     if pair.data_file >= 1000 || pair.delta_file >= 1000 || disk.faults() != 0 {
         bail!("files of a disk without a fault");
     }
-    match pair_on(alloc, disk, FIRST_FORMAT.version, pair) {
+    match pair_on(alloc, disk, LAST_FORMAT.version, pair) {
         Ok(live) => Ok(live),
         Err(refusal) => bail!("a pair isn't read: {refusal}"),
     }

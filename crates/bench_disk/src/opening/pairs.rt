@@ -2,8 +2,9 @@ use super::opened::{Opened, open};
 use super::writer::sort_of;
 use anyhow::{Result, bail};
 use mvo_disk::{Disk, MemDisk};
+use mvo_format::LAST_FORMAT;
 use mvo_manifest::Manifest;
-use mvo_pair::{DataRecord, FIRST_FORMAT, Pair, are_entries, write_data, write_delta};
+use mvo_pair::{DataRecord, Pair, are_entries, write_data, write_delta};
 use mvo_store::format;
 use mvo_types::{Row, RowKey, Rows, Stamp};
 use std::alloc::{AllocError, Global};
@@ -52,17 +53,17 @@ fn pair(data_file: u16, lo: u64, hi: u64) -> Pair {
 // Writes the two files of a pair.
 fn write_pair(alloc: Global, disk: &mut MemDisk, pair: Pair) -> Result<()> {
     let entries = entries(alloc, pair.lo.0, pair.hi.0)?;
-    if !are_entries(FIRST_FORMAT, pair, &entries) || pair.data_file >= 1000 {
+    if !are_entries(LAST_FORMAT, pair, &entries) || pair.data_file >= 1000 {
         bail!("the records of a pair");
     }
     if pair.delta_file >= 1000 || disk.faults() != 0 {
         bail!("a disk without a fault");
     }
-    write_data(alloc, disk, FIRST_FORMAT, pair, &entries)?;
+    write_data(alloc, disk, LAST_FORMAT, pair, &entries)?;
     if disk.faults() != 0 {
         bail!("a disk without a fault");
     }
-    write_delta(alloc, disk, FIRST_FORMAT, pair, &[])?;
+    write_delta(alloc, disk, LAST_FORMAT, pair, &[])?;
     Ok(())
 }
 
@@ -102,7 +103,7 @@ fn write_pairs(alloc: Global, disk: &mut MemDisk, count: u64) -> Result<Vec<Pair
 fn manifest(alloc: Global, pairs: Vec<Pair>, count: u64) -> Result<Manifest> {
     let mark = Stamp((count / PAIRS).wrapping_mul(PAIRS));
     let segments = vec![in alloc; 2u16]?;
-    match Manifest::new(FIRST_FORMAT.version, 1, mark, pairs, segments)? {
+    match Manifest::new(LAST_FORMAT.version, 1, mark, pairs, segments)? {
         Some(manifest) => Ok(manifest),
         None => bail!("the pairs and the segment make a manifest"),
     }
