@@ -27,7 +27,7 @@ use Rattle.mvo_theory.specs.Words.{words_without, words_left, is_done}
 use Rattle.mvo_theory.specs.Changes.{with_words, taken_over, after_operation, after_answer, after_commit, without_ended, after_finish}
 use Rattle.mvo_theory.specs.Causes.{claimed_by, conflict, awaited, awaited_by, waiting_for, is_failure, why_not_settle}
 use Rattle.mvo_theory.specs.Steps.{after_precommit_of, after_commit_of, after_settle_unless, after_settle, after_abort_of, after_abort, after_refusal}
-use Rattle.mvo_theory.specs.Sound.{IsActive, IsRising, how_many, IsNumbered}
+use Rattle.mvo_theory.specs.Sound.{IsSound, IsActive, IsRising, how_many, IsNumbered}
 use Rattle.mvo_theory.specs.Calls.{Call, takes_memory, answer_in, after_refused}
 use Rattle.mvo_theory.specs.Calls.Call.{Begin, Do, Precommit, Validate, Settle, Rollback, Finish, Trim, Close}
 use Rattle.mvo_theory.proofs.Each.{each_weaker, each_map}
@@ -62,9 +62,9 @@ use Rattle.mvo_shared.proofs.GivenCauses.{given_done, do_failed, given_prepared,
 
 -- ---- begin
 held_begun : (opening : Map) (g : GivenState) → IsHeldGiven opening g → IsHeldGiven opening (after_took g (record { history = []; looked = [] }) Begin)
-held_begun opening g h = record {
-  shared = shared_begun g.state g.taken (g.state.clock + 1) (omega arith) h.shared;
-  standing = standing_begun opening g.state (g.state.clock + 1) (omega arith) h.shared.sound h.standing;
+held_begun opening g h = let now = shared_begun g.state g.taken (g.state.clock + 1) (omega arith) h.shared in record {
+  shared = now;
+  standing = standing_begun opening g.state (g.state.clock + 1) (omega arith) now.sound h.standing;
 }
 
 -- ---- an operation
@@ -114,20 +114,20 @@ first_given_write : (s : State) (t : ℕ) (op : Op) (a : AnswerData) → is_some
 first_given_write s t op a w c n k e = each_weaker (λ (q : ActiveTx). q.id ≡ t → history_of_active t s.active ≡ q.history) (λ (q : ActiveTx). q.id ≡ t → is_some (net_write k q.history) ≡ false → claimed_by s q.id k ≡ None)
     (λ q own is none. subst (λ (u : ℕ). claimed_by s u k ≡ None) (sym is) (unclaimed s t k (is_ending s t op a k w c e) (ap (λ ts. is_some (net_write k ts)) (own is) ∙ none))) s.active (history_is t s.active n.distinct)
 
-standing_worded : (opening : Map) (f : EndedTx → List Word) (s : State) → IsStanding opening s → IsStanding opening (with_words f s)
-standing_worded opening f s h = standing_ended opening s (map {A = EndedTx} (λ u. record u { words = f u }) s.ended)
+standing_worded : (opening : Map) (f : EndedTx → List Word) (s : State) → IsSound (with_words f s) → IsStanding opening s → IsStanding opening (with_words f s)
+standing_worded opening f s sound h = standing_ended opening s (map {A = EndedTx} (λ u. record u { words = f u }) s.ended)
     (λ t. count_map (is_ended_as t) (λ (u : EndedTx). record u { words = f u }) s.ended (λ u q. q))
-    (each_map (λ (u : EndedTx). record u { words = f u }) (λ u. u.id ≤ s.clock) (λ u. u.id ≤ s.clock) (λ u q. q) s.ended h.single.drawn) h
+    (each_map (λ (u : EndedTx). record u { words = f u }) (λ u. u.id ≤ s.clock) (λ u. u.id ≤ s.clock) (λ u q. q) s.ended h.single.drawn) sound h
 
 held_worded : (opening : Map) (f : EndedTx → List Word) (s : State) (all : AllTaken) → IsHeldGiven opening (record { state = s; taken = all }) → IsHeldGiven opening (record { state = with_words f s; taken = all })
-held_worded opening f s all h = record { shared = shared_worded f s all h.shared; standing = standing_worded opening f s h.standing }
+held_worded opening f s all h = let now = shared_worded f s all h.shared in record { shared = now; standing = standing_worded opening f s now.sound h.standing }
 
 held_over : (opening : Map) (c : Option Claim) (s : State) (all : AllTaken) → IsHeldGiven opening (record { state = s; taken = all }) → IsHeldGiven opening (record { state = taken_over c s; taken = all })
 held_over opening None s all h = h
 held_over opening (Some c) s all h = held_worded opening (λ u. words_without c u.outcome u.words) s all h
 
 held_registered : (opening : Map) (s : State) (all : AllTaken) (t : ℕ) (op : Op) → IsHeldGiven opening (record { state = s; taken = all }) → IsHeldGiven opening (record { state = after_registering s t op; taken = all })
-held_registered opening s all t op h = record { shared = shared_registered s all t op h.shared; standing = standing_registered opening s t op h.standing }
+held_registered opening s all t op h = let now = shared_registered s all t op h.shared in record { shared = now; standing = standing_registered opening s t op now.sound h.standing }
 
 held_done : (opening : Map) (s : State) (all : AllTaken) (t : ℕ) (w : WorkContent) (op : Op) → conflict_given s t w op ≡ None → IsHeldGiven opening (record { state = s; taken = all }) → IsHeldGiven opening (record { state = after_do_given s t w op; taken = all })
 held_done opening s all t w op c h = told (is_some (write_of op (answer_given s t w op))) refl
@@ -137,10 +137,12 @@ held_done opening s all t w op c h = told (is_some (write_of op (answer_given s 
 
     writes : is_some (write_of op (answer_given s t w op)) ≡ true → (b : Bool) → is_some (write_of own (answer_in s t own)) ≡ b → IsHeldGiven opening (record { state = cond b (after_answer s t own (answer_in s t own)) (after_registering s t own); taken = all })
     writes e false f = held_registered opening s all t own h
-    writes e true f = held_over opening (new_claim s t own (answer_in s t own)) (after_operation s t own (answer_in s t own)) all (record {
-      shared = shared_written s all t own (answer_in s t own) f (answers_now s t own h.standing.numbered) h.shared;
-      standing = standing_written opening s t own (answer_in s t own) (first_given_write s t op (answer_given s t w op) e c h.standing.numbered) h.standing;
-    })
+    writes e true f =
+        let now = shared_written s all t own (answer_in s t own) f (answers_now s t own h.standing.numbered) h.shared in
+        held_over opening (new_claim s t own (answer_in s t own)) (after_operation s t own (answer_in s t own)) all (record {
+          shared = now;
+          standing = standing_written opening s t own (answer_in s t own) (first_given_write s t op (answer_given s t w op) e c h.standing.numbered) now.sound h.standing;
+        })
 
     told : (b : Bool) → is_some (write_of op (answer_given s t w op)) ≡ b → IsHeldGiven opening (record { state = cond b (after_core_op s t own (answer_in s t own)) (after_registering s t op); taken = all })
     told false e = held_registered opening s all t op h
@@ -154,9 +156,10 @@ held_prepared opening s all t w work n h =
     let now = sym (ap (after_precommit_of s) f.1) in
     let more = with_taken all (s.clock + 1) (record { work = w; checked = 0 }) in
     let same : active_of r.id s.active ≡ Some r = subst (λ (u : ℕ). active_of u s.active ≡ Some r) (sym (id_of t s.active r f.1)) f.1 in
+    let then = shared_prepared s all r (s.clock + 1) w (omega arith) (active_holds (IsActive s.base s.stamped s.clock) t s.active r f.1 h.shared.sound.active).0 (active_holds (λ q. OnlyWrites q.history) t s.active r f.1 h.shared.active).0 work (same_by_test r w f.3) h.shared in
     record {
-      shared = subst (λ (q : State). IsShared q more) now (shared_prepared s all r (s.clock + 1) w (omega arith) (active_holds (IsActive s.base s.stamped s.clock) t s.active r f.1 h.shared.sound.active).0 (active_holds (λ q. OnlyWrites q.history) t s.active r f.1 h.shared.active).0 work (same_by_test r w f.3) h.shared);
-      standing = subst (IsStanding opening) now (standing_prepared opening s r (s.clock + 1) (omega arith) same h.shared.sound h.standing);
+      shared = subst (λ (q : State). IsShared q more) now then;
+      standing = subst (IsStanding opening) now (standing_prepared opening s r (s.clock + 1) (omega arith) same then.sound h.standing);
     }
 
 -- ---- a check
@@ -178,10 +181,8 @@ held_checked opening s all t n h =
         let more = one_more_checked all x.end in
         let next : TakenWork = record { work = (all x.end).work; checked = (all x.end).checked + 1 } in
         let through : length (looked_of (more x.end)) ≤ (more x.end).checked = subst (λ (w : TakenWork). length (looked_of w) ≤ w.checked) (sym (taken_there all x.end next)) (leb-true (length (looked_of (all x.end))) ((all x.end).checked + 1) f) in
-        record {
-          shared = shared_valid s more x.end (everywhere x before after e (λ y. (y.settled ≡ false) × (length (looked_of (more y.end)) ≤ (more y.end).checked)) (o, through)) g;
-          standing = standing_valid opening s x.end h.standing;
-        }
+        let now = shared_valid s more x.end (everywhere x before after e (λ y. (y.settled ≡ false) × (length (looked_of (more y.end)) ≤ (more y.end).checked)) (o, through)) g in
+        record { shared = now; standing = standing_valid opening s x.end now.sound h.standing }
 
     go : (x : StampedTx) (before after : List StampedTx) → s.stamped ≡ before ++ x ∷ after → x.settled ≡ false → (b : Bool) → x.valid ≡ b → (x.valid ≡ false → (l : Looked) → next_looked all x.end ≡ Some l → is_found s.base s.stamped x l ≡ true) →
         IsHeldGiven opening (cond b (record { state = s; taken = all }) (record { state = cond (is_last_look (all x.end)) (after_valid s x.end) s; taken = one_more_checked all x.end }))
@@ -197,11 +198,13 @@ held_committed opening s all t x f w n h =
     let split = record s { stamped = p.0 ++ x ∷ p.1 } in
     let there : IsShared split all = subst (λ (l : List StampedTx). IsShared (record s { stamped = l }) all) p.2 h.shared in
     let free = subst (AllByRecursion (λ y. y.settled ≡ false → has_end x.depends_on y.end ≡ false)) p.2 q.2 in
+    let now : IsShared (after_commit s t x.end) all =
+        subst (λ (l : List StampedTx). IsShared (after_commit (record s { stamped = l }) t x.end) all) (sym p.2)
+        (subst (λ (i : ℕ). IsShared (after_commit split i x.end) all) p.3
+        (shared_settled s.start s.base s.past s.marks s.clock s.active p.0 p.1 x s.ended all p.4 q.1 q.0 free there)) in
     record {
-      shared = subst (λ (l : List StampedTx). IsShared (after_commit (record s { stamped = l }) t x.end) all) (sym p.2)
-          (subst (λ (i : ℕ). IsShared (after_commit split i x.end) all) p.3
-          (shared_settled s.start s.base s.past s.marks s.clock s.active p.0 p.1 x s.ended all p.4 q.1 q.0 free there));
-      standing = standing_settled opening s t x f m.0 (λ P here. subst (AllByRecursion (λ y. y.end ≡ x.end → P y)) (sym p.2) (alone_at p.0 p.1 x (subst IsRising p.2 h.shared.sound.rising) P here)) p.4 q.1 q.0 q.2 h.shared.sound h.standing;
+      shared = now;
+      standing = standing_settled opening s t x f m.0 (λ P here. subst (AllByRecursion (λ y. y.end ≡ x.end → P y)) (sym p.2) (alone_at p.0 p.1 x (subst IsRising p.2 h.shared.sound.rising) P here)) p.4 q.1 q.0 q.2 now.sound h.standing;
     }
 
 held_settled : (opening : Map) (s : State) (all : AllTaken) (t : ℕ) → why_not_settle s t ≡ None → IsHeldGiven opening (record { state = s; taken = all }) → IsHeldGiven opening (record { state = after_settle s t; taken = all })
@@ -219,11 +222,12 @@ held_aborted : (opening : Map) (s : State) (all : AllTaken) (t : ℕ) → IsUnen
 held_aborted opening s all t u h = go (preparing_of t s.stamped) refl
   where
     go : (v : Option StampedTx) → preparing_of t s.stamped ≡ v → IsHeldGiven opening (record { state = after_abort_of s t v; taken = all })
-    go None e = let r = u e in record { shared = shared_aborted_active s all t h.shared; standing = standing_aborted_active opening s t r.0 r.1 h.shared.sound h.standing }
+    go None e = let r = u e in let now = shared_aborted_active s all t h.shared in record { shared = now; standing = standing_aborted_active opening s t r.0 r.1 now.sound h.standing }
     go (Some x) e =
         let p = split_at t s.stamped x e in
         let alone : AllByRecursion (λ y. y.end ≡ x.end → y.settled ≡ false) s.stamped = subst (AllByRecursion (λ y. y.end ≡ x.end → y.settled ≡ false)) (sym p.2) (alone_open p.0 p.1 x p.4 (subst IsRising p.2 h.shared.sound.rising)) in
-        record { shared = shared_aborted s all t x.end alone h.shared; standing = standing_aborted opening s t x e alone h.shared.sound h.standing }
+        let now = shared_aborted s all t x.end alone h.shared in
+        record { shared = now; standing = standing_aborted opening s t x e alone now.sound h.standing }
 
 held_failed : (opening : Map) (s : State) (all : AllTaken) (t : ℕ) (r : Refusal) → (is_failure r ≡ true → IsUnended s t) → IsHeldGiven opening (record { state = s; taken = all }) → IsHeldGiven opening (record { state = after_refusal s t r; taken = all })
 held_failed opening s all t r f h = go (is_failure r) refl
@@ -253,9 +257,9 @@ held_finished : (opening : Map) (s : State) (all : AllTaken) (t : ℕ) → IsHel
 held_finished opening s all t h = go (is_done s t)
   where
     go : (b : Bool) → IsHeldGiven opening (record { state = cond b (record s { ended = without_ended t s.ended }) (with_words (words_left t) s); taken = all })
-    go true = record {
-      shared = shared_ended s all (without_ended t s.ended) h.shared;
-      standing = standing_ended opening s (without_ended t s.ended) (λ n. fewer_without n t s.ended) (each_without (λ u. u.id ≤ s.clock) t s.ended h.standing.single.drawn) h.standing;
+    go true = let now = shared_ended s all (without_ended t s.ended) h.shared in record {
+      shared = now;
+      standing = standing_ended opening s (without_ended t s.ended) (λ n. fewer_without n t s.ended) (each_without (λ u. u.id ≤ s.clock) t s.ended h.standing.single.drawn) now.sound h.standing;
     }
     go false = held_worded opening (words_left t) s all h
 
@@ -276,13 +280,13 @@ held_took opening g w (Validate t) work n h = held_checked opening g.state g.tak
 held_took opening g w (Settle t) work n h = held_settled opening g.state g.taken t (no_cause _ n) h
 held_took opening g w (Rollback t) work n h = held_aborted opening g.state g.taken t (unended_rolled_back g.state t (no_cause _ n)) h
 held_took opening g w (Finish t) work n h = held_finished opening g.state g.taken t h
-held_took opening g w (Trim m) work n h = let t = may_trim g.state m (no_cause _ n) h.shared.sound in record {
-  shared = shared_trimmed g.state g.taken m t h.shared;
-  standing = standing_trimmed opening g.state m t h.shared.sound h.standing;
+held_took opening g w (Trim m) work n h = let t = may_trim g.state m (no_cause _ n) h.shared.sound in let now = shared_trimmed g.state g.taken m t h.shared in record {
+  shared = now;
+  standing = standing_trimmed opening g.state m t now.sound h.standing;
 }
-held_took opening g w (Close fits group full) work n h = record {
-  shared = shared_closed g.state g.taken group.mark h.shared;
-  standing = standing_closed opening g.state group.mark h.standing;
+held_took opening g w (Close fits group full) work n h = let now = shared_closed g.state g.taken group.mark h.shared in record {
+  shared = now;
+  standing = standing_closed opening g.state group.mark now.sound h.standing;
 }
 
 -- a failure stands in the list, since it isn't want of memory

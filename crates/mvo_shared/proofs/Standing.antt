@@ -38,6 +38,7 @@ use Rattle.mvo_shared.specs.Standing.{IsStanding}
 -- ---- what each core has kept so far has it
 pub standing_of : (opening : Map) (steps : List Step) (s : State) → IsKept opening steps s → IsStanding opening s
 standing_of opening steps s h = record {
+  sound = h.sound;
   numbered = h.numbered;
   single = h.single;
   exclusive = h.exclusive;
@@ -49,10 +50,11 @@ standing_of opening steps s h = record {
 }
 
 -- ---- begin
-pub standing_begun : (opening : Map) (s : State) (t : ℕ) → s.clock < t → IsSound s → IsStanding opening s → IsStanding opening (after_begin s t)
+pub standing_begun : (opening : Map) (s : State) (t : ℕ) → s.clock < t → IsSound (after_begin s t) → IsStanding opening s → IsStanding opening (after_begin s t)
 standing_begun opening s t lt sound h = record {
-  numbered = numbered_after_begin s t lt sound h.started h.numbered;
-  single = single_after_begin s t lt sound h.single;
+  sound = sound;
+  numbered = numbered_after_begin s t lt h.sound h.started h.numbered;
+  single = single_after_begin s t lt h.sound h.single;
   exclusive = exclusive_after_begin s t h.exclusive;
   started = started_after_begin s t lt h.started;
   origins = origins_after_begin s t h.origins;
@@ -67,10 +69,11 @@ distinct_map : (s : State) (t : ℕ) (op : Op) (rs : List ActiveTx) → AreDisti
 distinct_map s t op [] h = tt
 distinct_map s t op (r ∷ rs) h = (each_map (with_dependencies s t op) (λ q. q.id ≢ r.id) (λ q. q.id ≢ r.id) (λ q n. n) rs h.0, distinct_map s t op rs h.1)
 
-pub standing_registered : (opening : Map) (s : State) (t : ℕ) (op : Op) → IsStanding opening s → IsStanding opening (after_registering s t op)
-standing_registered opening s t op h =
+pub standing_registered : (opening : Map) (s : State) (t : ℕ) (op : Op) → IsSound (after_registering s t op) → IsStanding opening s → IsStanding opening (after_registering s t op)
+standing_registered opening s t op sound h =
     let f = with_dependencies s t op in
     record {
+      sound = sound;
       numbered = record {
         distinct = distinct_map s t op s.active h.numbered.distinct;
         apart = each_map f (λ r. AllByRecursion (λ x. x.id ≢ r.id) s.stamped) (λ r. AllByRecursion (λ x. x.id ≢ r.id) s.stamped) (λ r q. q) s.active h.numbered.apart;
@@ -113,8 +116,9 @@ write_one : (s : State) (op : Op) (a : AnswerData) (r : ActiveTx) (b : Bool) →
 write_one s op a r true h = claim_written s op a r h
 write_one s op a r false h = h
 
-pub standing_written : (opening : Map) (s : State) (t : ℕ) (op : Op) (a : AnswerData) → IsFirst s t op a → IsStanding opening s → IsStanding opening (after_operation s t op a)
-standing_written opening s t op a first h = record {
+pub standing_written : (opening : Map) (s : State) (t : ℕ) (op : Op) (a : AnswerData) → IsFirst s t op a → IsSound (after_operation s t op a) → IsStanding opening s → IsStanding opening (after_operation s t op a)
+standing_written opening s t op a first sound h = record {
+  sound = sound;
   numbered = numbered_after_operation s t op a h.numbered;
   single = single_after_operation s t op a h.single;
   exclusive = exclusive_after_operation s t op a (let o = h.single.once t in omega arith) first h.exclusive;
@@ -126,13 +130,14 @@ standing_written opening s t op a first h = record {
 }
 
 -- ---- precommit
-pub standing_prepared : (opening : Map) (s : State) (r : ActiveTx) (e : ℕ) → s.clock < e → active_of r.id s.active ≡ Some r → IsSound s → IsStanding opening s → IsStanding opening (after_prepare s r e)
+pub standing_prepared : (opening : Map) (s : State) (r : ActiveTx) (e : ℕ) → s.clock < e → active_of r.id s.active ≡ Some r → IsSound (after_prepare s r e) → IsStanding opening s → IsStanding opening (after_prepare s r e)
 standing_prepared opening s r e lt f sound h = record {
+  sound = sound;
   numbered = numbered_after_prepare s r e h.numbered;
   single = single_after_prepare s r e f (omega arith) h.single;
   exclusive = exclusive_after_prepare s r e f h.exclusive;
   started = started_after_prepare s r e lt h.started;
-  origins = origins_after_prepare s r e lt (active_holds (IsActive s.base s.stamped s.clock) r.id s.active r f sound.active).0 (active_holds (Of s) r.id s.active r f h.origins.active).0 (active_holds (λ q. AllByRecursion (λ x. x.end ≢ q.id) s.past) r.id s.active r f h.others).0 (active_holds (λ q. s.start ≤ q.id) r.id s.active r f h.started.begun).0 sound h.started h.origins;
+  origins = origins_after_prepare s r e lt (active_holds (IsActive s.base s.stamped s.clock) r.id s.active r f h.sound.active).0 (active_holds (Of s) r.id s.active r f h.origins.active).0 (active_holds (λ q. AllByRecursion (λ x. x.end ≢ q.id) s.past) r.id s.active r f h.others).0 (active_holds (λ q. s.start ≤ q.id) r.id s.active r f h.started.begun).0 h.sound h.started h.origins;
   written = record {
     active = each_filter (λ q. not (q.id == r.id)) (λ q. AreWritten q.history q.claims) (λ q. AreWritten q.history q.claims) (λ q _ w. w) s.active h.written.active;
     stamped = each_append (λ x. AreWritten x.history x.claims) s.stamped (to_stamped e r ∷ []) h.written.stamped ((active_holds (λ q. AreWritten q.history q.claims) r.id s.active r f h.written.active).0, tt);
@@ -143,10 +148,11 @@ standing_prepared opening s r e lt f sound h = record {
 }
 
 -- ---- the last check
-pub standing_valid : (opening : Map) (s : State) (e : ℕ) → IsStanding opening s → IsStanding opening (after_valid s e)
-standing_valid opening s e h =
+pub standing_valid : (opening : Map) (s : State) (e : ℕ) → IsSound (after_valid s e) → IsStanding opening s → IsStanding opening (after_valid s e)
+standing_valid opening s e sound h =
     let f = with_valid e in
     record {
+      sound = sound;
       numbered = numbered_map s f (λ x. refl) h.numbered;
       single = record { once = λ u. let l = count_map (is_preparing_as u) f s.stamped (λ x q. q) in let o = h.single.once u in omega (arith, l, o); drawn = h.single.drawn };
       exclusive = exclusive_map s f (λ x. refl) h.exclusive;
@@ -174,24 +180,26 @@ standing_valid opening s e h =
     keep x q o = moved (settled_origin s x.end) (settled_origin (after_valid s e) x.end) x.claims (λ k. still.1 k x.end) (q o)
 
 -- ---- a settlement
-pub standing_settled : (opening : Map) (s : State) (t : ℕ) (x : StampedTx) → preparing_of t s.stamped ≡ Some x → IsIn x s.stamped → ((P : StampedTx → Type 0) → P x → AllByRecursion (λ y. y.end ≡ x.end → P y) s.stamped) → x.settled ≡ false → x.valid ≡ true → x.aborted_dependency ≡ None → IsFreeToSettle s.stamped x.depends_on → IsSound s → IsStanding opening s →
+pub standing_settled : (opening : Map) (s : State) (t : ℕ) (x : StampedTx) → preparing_of t s.stamped ≡ Some x → IsIn x s.stamped → ((P : StampedTx → Type 0) → P x → AllByRecursion (λ y. y.end ≡ x.end → P y) s.stamped) → x.settled ≡ false → x.valid ≡ true → x.aborted_dependency ≡ None → IsFreeToSettle s.stamped x.depends_on → IsSound (after_commit s t x.end) → IsStanding opening s →
     IsStanding opening (after_commit s t x.end)
 standing_settled opening s t x f m alone o v n free sound h = record {
+  sound = sound;
   numbered = numbered_after_commit s t x.end h.numbered;
-  single = single_after_commit s t x f sound h.single;
+  single = single_after_commit s t x f h.sound h.single;
   exclusive = exclusive_after_commit s t x.end h.exclusive;
   started = started_after_commit s t x.end h.started;
-  origins = origins_after_commit [] s t x m alone o v n free sound h.started h.written h.origins;
+  origins = origins_after_commit [] s t x m alone o v n free h.sound h.started h.written h.origins;
   written = record { active = h.written.active; stamped = each_map (with_settled x.end) (λ y. AreWritten y.history y.claims) (λ y. AreWritten y.history y.claims) (λ y q. q) s.stamped h.written.stamped; past = h.written.past };
   base = h.base;
   others = h.others;
 }
 
 -- ---- aborts
-pub standing_aborted_active : (opening : Map) (s : State) (t : ℕ) (r : ActiveTx) → active_of t s.active ≡ Some r → IsSound s → IsStanding opening s → IsStanding opening (after_abort_of_active s t)
+pub standing_aborted_active : (opening : Map) (s : State) (t : ℕ) (r : ActiveTx) → active_of t s.active ≡ Some r → IsSound (after_abort_of_active s t) → IsStanding opening s → IsStanding opening (after_abort_of_active s t)
 standing_aborted_active opening s t r f sound h = record {
+  sound = sound;
   numbered = numbered_after_abort_of_active s t h.numbered;
-  single = single_after_abort_of_active s t r f sound h.single;
+  single = single_after_abort_of_active s t r f h.sound h.single;
   exclusive = exclusive_after_abort_of_active s t h.exclusive;
   started = started_after_abort_of_active s t h.started;
   origins = origins_after_abort_of_active s t h.origins;
@@ -200,13 +208,14 @@ standing_aborted_active opening s t r f sound h = record {
   others = each_filter (λ q. not (q.id == t)) (λ q. AllByRecursion (λ x. x.end ≢ q.id) s.past) (λ q. AllByRecursion (λ x. x.end ≢ q.id) s.past) (λ q _ w. w) s.active h.others;
 }
 
-pub standing_aborted : (opening : Map) (s : State) (t : ℕ) (x : StampedTx) → preparing_of t s.stamped ≡ Some x → AllByRecursion (λ y. y.end ≡ x.end → y.settled ≡ false) s.stamped → IsSound s → IsStanding opening s → IsStanding opening (after_abort_of_preparing s t x.end)
+pub standing_aborted : (opening : Map) (s : State) (t : ℕ) (x : StampedTx) → preparing_of t s.stamped ≡ Some x → AllByRecursion (λ y. y.end ≡ x.end → y.settled ≡ false) s.stamped → IsSound (after_abort_of_preparing s t x.end) → IsStanding opening s → IsStanding opening (after_abort_of_preparing s t x.end)
 standing_aborted opening s t x f alone sound h = record {
+  sound = sound;
   numbered = numbered_after_abort_of_preparing s t x.end h.numbered;
-  single = single_after_abort_of_preparing s t x f sound h.single;
+  single = single_after_abort_of_preparing s t x f h.sound h.single;
   exclusive = exclusive_after_abort_of_preparing s t x.end h.exclusive;
   started = started_after_abort_of_preparing s t x.end h.started;
-  origins = origins_after_abort_of_preparing [] s t x.end alone sound h.written h.origins;
+  origins = origins_after_abort_of_preparing [] s t x.end alone h.sound h.written h.origins;
   written = record {
     active = each_map (active_with_flag t x.end) (λ q. AreWritten q.history q.claims) (λ q. AreWritten q.history q.claims) (λ q w. w) s.active h.written.active;
     stamped = each_map (with_flag t x.end) (λ y. AreWritten y.history y.claims) (λ y. AreWritten y.history y.claims) (λ y w. w) (filter (not_at x.end) s.stamped) (each_part (not_at x.end) (λ y. AreWritten y.history y.claims) s.stamped h.written.stamped);
@@ -217,26 +226,28 @@ standing_aborted opening s t x f alone sound h = record {
 }
 
 -- ---- a trim
-pub standing_trimmed : (opening : Map) (s : State) (m : ℕ) → IsTrim m s → IsSound s → IsStanding opening s → IsStanding opening (after_trim s m)
+pub standing_trimmed : (opening : Map) (s : State) (m : ℕ) → IsTrim m s → IsSound (after_trim s m) → IsStanding opening s → IsStanding opening (after_trim s m)
 standing_trimmed opening s m t sound h =
     let front = filter (is_to m) s.stamped in
     record {
+      sound = sound;
       numbered = numbered_after_trim s m h.numbered;
       single = single_after_trim s m h.single;
       exclusive = exclusive_after_trim s m h.exclusive;
-      started = started_after_trim s m t sound h.started;
-      origins = origins_after_trim s m t sound h.origins;
+      started = started_after_trim s m t h.sound h.started;
+      origins = origins_after_trim s m t h.sound h.origins;
       written = record {
         active = h.written.active;
         stamped = each_part (is_after m) (λ x. AreWritten x.history x.claims) s.stamped h.written.stamped;
         past = each_append (λ x. AreWritten x.history x.claims) s.past front h.written.past (each_part (is_to m) (λ x. AreWritten x.history x.claims) s.stamped h.written.stamped);
       };
       base = ap (after_settled front) h.base ∙ sym (after_settled-append s.past front opening);
-      others = each_both (λ r. AllByRecursion (λ x. x.end ≢ r.id) s.past) (IsActive s.base s.stamped s.clock) (λ r. AllByRecursion (λ x. x.end ≢ r.id) (s.past ++ front)) (λ r a q. each_append (λ x. x.end ≢ r.id) s.past front a (each_part (is_to m) (λ x. x.end ≢ r.id) s.stamped q.others)) s.active h.others sound.active;
+      others = each_both (λ r. AllByRecursion (λ x. x.end ≢ r.id) s.past) (IsActive s.base s.stamped s.clock) (λ r. AllByRecursion (λ x. x.end ≢ r.id) (s.past ++ front)) (λ r a q. each_append (λ x. x.end ≢ r.id) s.past front a (each_part (is_to m) (λ x. x.end ≢ r.id) s.stamped q.others)) s.active h.others h.sound.active;
     }
 
 pub standing_opened : (rows : Map) (mark : ℕ) → IsStanding rows (opened rows mark)
 standing_opened rows mark = record {
+  sound = record { legal = tt; rising = tt; clear = tt; placed = tt; preparing = tt; active = tt };
   numbered = record { distinct = tt; apart = tt; before = tt };
   single = record { once = λ u. omega arith; drawn = tt };
   exclusive = λ k n. omega arith;
@@ -248,8 +259,9 @@ standing_opened rows mark = record {
 }
 
 -- ---- words of ended ones, one that is over, and a closed group: nothing of this speaks of them, but that a transaction stands at one place
-pub standing_ended : (opening : Map) (s : State) (ended : List EndedTx) → ((t : ℕ) → how_many (is_ended_as t) ended ≤ how_many (is_ended_as t) s.ended) → AllByRecursion (λ u. u.id ≤ s.clock) ended → IsStanding opening s → IsStanding opening (record s { ended = ended })
-standing_ended opening s ended fewer drawn h = record {
+pub standing_ended : (opening : Map) (s : State) (ended : List EndedTx) → ((t : ℕ) → how_many (is_ended_as t) ended ≤ how_many (is_ended_as t) s.ended) → AllByRecursion (λ u. u.id ≤ s.clock) ended → IsSound (record s { ended = ended }) → IsStanding opening s → IsStanding opening (record s { ended = ended })
+standing_ended opening s ended fewer drawn sound h = record {
+  sound = sound;
   numbered = record { distinct = h.numbered.distinct; apart = h.numbered.apart; before = h.numbered.before };
   single = record { once = λ t. let o = h.single.once t in let l = fewer t in omega (arith, l, o); drawn = drawn };
   exclusive = h.exclusive;
@@ -260,8 +272,9 @@ standing_ended opening s ended fewer drawn h = record {
   others = h.others;
 }
 
-pub standing_closed : (opening : Map) (s : State) (mark : ℕ) → IsStanding opening s → IsStanding opening (after_close s mark)
-standing_closed opening s mark h = record {
+pub standing_closed : (opening : Map) (s : State) (mark : ℕ) → IsSound (after_close s mark) → IsStanding opening s → IsStanding opening (after_close s mark)
+standing_closed opening s mark sound h = record {
+  sound = sound;
   numbered = record { distinct = h.numbered.distinct; apart = h.numbered.apart; before = h.numbered.before };
   single = record { once = h.single.once; drawn = h.single.drawn };
   exclusive = h.exclusive;
