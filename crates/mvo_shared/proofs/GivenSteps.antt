@@ -199,9 +199,9 @@ held_committed opening s all t x f w n h =
     let there : IsShared split all = subst (λ (l : List StampedTx). IsShared (record s { stamped = l }) all) p.2 h.shared in
     let free = subst (AllByRecursion (λ y. y.settled ≡ false → has_end x.depends_on y.end ≡ false)) p.2 q.2 in
     let now : IsShared (after_commit s t x.end) all =
-        subst (λ (l : List StampedTx). IsShared (after_commit (record s { stamped = l }) t x.end) all) (sym p.2)
-        (subst (λ (i : ℕ). IsShared (after_commit split i x.end) all) p.3
-        (shared_settled s.start s.base s.past s.marks s.clock s.active p.0 p.1 x s.ended all p.4 q.1 q.0 free there)) in
+    subst (λ (l : List StampedTx). IsShared (after_commit (record s { stamped = l }) t x.end) all) (sym p.2)
+    (subst (λ (i : ℕ). IsShared (after_commit split i x.end) all) p.3
+    (shared_settled s.start s.base s.past s.marks s.clock s.active p.0 p.1 x s.ended all p.4 q.1 q.0 free there)) in
     record {
       shared = now;
       standing = standing_settled opening s t x f m.0 (λ P here. subst (AllByRecursion (λ y. y.end ≡ x.end → P y)) (sym p.2) (alone_at p.0 p.1 x (subst IsRising p.2 h.shared.sound.rising) P here)) p.4 q.1 q.0 q.2 now.sound h.standing;

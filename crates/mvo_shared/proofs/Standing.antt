@@ -1,5 +1,5 @@
 -- Without any trace, each step keeps what the representation needs of a state.
-use Rattle.std.proofs.Common.{◌≡◌, ◌≢◌, ℕ, ◌<◌, ◌≤◌, Bool, true, false, cond, not, List, [], ◌∷◌, ◌++◌, Option, None, Some, map, refl, sym, ap, ◌∙◌, arith}
+use Rattle.std.proofs.Common.{◌≡◌, ◌≢◌, ℕ, ◌<◌, ◌≤◌, Bool, true, false, cond, not, List, [], ◌∷◌, ◌++◌, Option, None, Some, map, refl, sym, ap, ◌∙◌, subst, arith}
 use Rattle.std.specs.Prelude.{◌==◌, is_some}
 use Rattle.std.specs.List.{AllByRecursion, filter}
 use Rattle.std.proofs.lemmas.Bool.{false≢true}
@@ -11,12 +11,13 @@ use Rattle.mvo_types.specs.Write.{Effect}
 use Rattle.mvo_model.specs.History.{History, later, net_write}
 use Rattle.mvo_model.proofs.Serials.{net_write-append}
 use Rattle.mvo_model.specs.Trace.{Step}
-use Rattle.mvo_theory.specs.State.{is_active_as, is_preparing_as, State, ActiveTx, StampedTx, Claim, opened, after_settled, active_of, preparing_of, EndedTx, is_ended_as}
+use Rattle.mvo_theory.specs.State.{ended_of, is_active_as, is_preparing_as, State, ActiveTx, StampedTx, Claim, opened, after_settled, active_of, preparing_of, EndedTx, is_ended_as}
 use Rattle.mvo_theory.specs.Claims.{has_claim, ended_key, origin, claims_with}
 use Rattle.mvo_theory.specs.Changes.{new_active, after_begin, after_operation, with_answer, after_prepare, to_stamped, after_commit, with_settled, after_abort_of_active, after_abort_of_preparing, active_with_flag, with_flag, not_at, is_to, after_trim, after_close}
-use Rattle.mvo_theory.specs.Sound.{how_many, IsActive, IsSound, IsPast, AreDistinct}
+use Rattle.mvo_theory.specs.Sound.{IsLegal, how_many, IsActive, IsSound, IsPast, AreDistinct}
 use Rattle.mvo_theory.specs.Origins.{settled_origin, AreWritten}
 use Rattle.mvo_theory.specs.Calls.{IsKept}
+use Rattle.mvo_theory.specs.Phases.{phase_by, phase_in}
 use Rattle.mvo_theory.proofs.Each.{each_weaker, each_both, each_append, each_front, each_back, each_map, each_filter}
 use Rattle.mvo_theory.proofs.Finds.{count_map}
 use Rattle.mvo_theory.proofs.Stamped.{each_part}
@@ -26,16 +27,26 @@ use Rattle.mvo_theory.proofs.Numbered.{numbered_map, numbered_after_begin, numbe
 use Rattle.mvo_theory.proofs.Single.{single_after_begin, single_after_operation, single_after_prepare, single_after_commit, single_after_abort_of_active, single_after_abort_of_preparing}
 use Rattle.mvo_theory.proofs.Claims.{exclusive_map, exclusive_after_begin, IsFirst, exclusive_after_operation, exclusive_after_prepare, exclusive_after_commit, exclusive_after_abort_of_active, exclusive_after_abort_of_preparing}
 use Rattle.mvo_theory.proofs.Started.{started_map, started_after_begin, started_after_operation, started_after_prepare, started_after_commit, started_after_abort_of_active, started_after_abort_of_preparing}
-use Rattle.mvo_theory.proofs.Trim.{is_after, IsTrim, started_after_trim, after_settled-append}
-use Rattle.mvo_theory.proofs.Trimmed.{numbered_after_trim, single_after_trim, exclusive_after_trim}
+use Rattle.mvo_theory.proofs.Trim.{parted, legal_front, is_after, IsTrim, started_after_trim, after_settled-append}
+use Rattle.mvo_theory.proofs.Trimmed.{preparing_after_trim, numbered_after_trim, single_after_trim, exclusive_after_trim}
 use Rattle.mvo_theory.proofs.Who.{active_holds}
 use Rattle.mvo_theory.proofs.Kept.{written_claims}
 use Rattle.mvo_theory.proofs.OriginSteps.{Of, OfPreparing, OfSettled, IsBehind, moved, origins_alike, origins_after_begin, origins_after_operation, origins_after_prepare, origins_after_abort_of_active, origins_after_trim}
 use Rattle.mvo_theory.proofs.OriginEnds.{origins_after_commit, origins_after_abort_of_preparing}
 use Rattle.mvo_shared.specs.Shared.{with_dependencies, after_registering, with_valid, after_valid}
-use Rattle.mvo_shared.specs.Standing.{IsStanding}
+use Rattle.mvo_shared.specs.Standing.{AreComplete, HaveCompleteClaims, IsStanding}
+use Rattle.mvo_theory.specs.Claimed.{HasClaims, AreClaimed}
+use Rattle.mvo_theory.proofs.Tales.{legal_append}
+use Rattle.mvo_shared.proofs.Complete.{complete_answer}
 
 -- ---- what each core has kept so far has it
+complete_claims : (steps : List Step) (s : State) → AreClaimed steps s → HaveCompleteClaims s
+complete_claims steps s h = record {
+  active = each_weaker (λ r. HasClaims s.marks.opening steps r.id r.history r.claims) (λ r. AreComplete r.history r.claims) (λ r q. q.complete) s.active h.active;
+  stamped = each_weaker (λ x. HasClaims s.marks.opening steps x.id x.history x.claims) (λ x. AreComplete x.history x.claims) (λ x q. q.complete) s.stamped h.stamped;
+  past = each_weaker (λ x. HasClaims s.marks.opening steps x.id x.history x.claims) (λ x. AreComplete x.history x.claims) (λ x q. q.complete) s.past h.past;
+}
+
 pub standing_of : (opening : Map) (steps : List Step) (s : State) → IsKept opening steps s → IsStanding opening s
 standing_of opening steps s h = record {
   sound = h.sound;
@@ -45,7 +56,9 @@ standing_of opening steps s h = record {
   started = h.started;
   origins = h.origins;
   written = written_claims steps s h.claimed;
+  complete = complete_claims steps s h.claimed;
   base = h.after_trace.base;
+  legal = h.after_trace.legal;
   others = h.has_ends.others;
 }
 
@@ -59,7 +72,9 @@ standing_begun opening s t lt sound h = record {
   started = started_after_begin s t lt h.started;
   origins = origins_after_begin s t h.origins;
   written = record { active = each_append (λ r. AreWritten r.history r.claims) s.active (new_active t ∷ []) h.written.active (tt, tt); stamped = h.written.stamped; past = h.written.past };
+  complete = record { active = each_append (λ r. AreComplete r.history r.claims) s.active (new_active t ∷ []) h.complete.active (λ k f. absurd (false≢true f), tt); stamped = h.complete.stamped; past = h.complete.past };
   base = h.base;
+  legal = h.legal;
   others = each_append (λ r. AllByRecursion (λ x. x.end ≢ r.id) s.past) s.active (new_active t ∷ []) h.others
       (each_weaker (IsPast s.start) (λ x. x.end ≢ t) (λ x p e. absurd (let u = p.until in let d = h.started.drawn in omega arith)) s.past h.started.past, tt);
 }
@@ -84,7 +99,9 @@ standing_registered opening s t op sound h =
       started = record { past = h.started.past; rising = h.started.rising; later = h.started.later; drawn = h.started.drawn; opened = h.started.opened; after = h.started.after; begun = each_map f (λ r. s.start ≤ r.id) (λ r. s.start ≤ r.id) (λ r q. q) s.active h.started.begun };
       origins = record { active = each_map f (Of s) (Of s) (λ r q. q) s.active h.origins.active; preparing = h.origins.preparing; settled = h.origins.settled; behind = h.origins.behind };
       written = record { active = each_map f (λ r. AreWritten r.history r.claims) (λ r. AreWritten r.history r.claims) (λ r q. q) s.active h.written.active; stamped = h.written.stamped; past = h.written.past };
+      complete = record { active = each_map f (λ r. AreComplete r.history r.claims) (λ r. AreComplete r.history r.claims) (λ r q. q) s.active h.complete.active; stamped = h.complete.stamped; past = h.complete.past };
       base = h.base;
+      legal = h.legal;
       others = each_map f (λ r. AllByRecursion (λ x. x.end ≢ r.id) s.past) (λ r. AllByRecursion (λ x. x.end ≢ r.id) s.past) (λ r q. q) s.active h.others;
     }
 
@@ -116,6 +133,10 @@ write_one : (s : State) (op : Op) (a : AnswerData) (r : ActiveTx) (b : Bool) →
 write_one s op a r true h = claim_written s op a r h
 write_one s op a r false h = h
 
+complete_one : (s : State) (op : Op) (a : AnswerData) (r : ActiveTx) (b : Bool) → AreComplete r.history r.claims → AreComplete (cond b (r.history ++ (op, a) ∷ []) r.history) (cond b (claims_with s r (ended_key op a)) r.claims)
+complete_one s op a r true h = complete_answer s op a r h
+complete_one s op a r false h = h
+
 pub standing_written : (opening : Map) (s : State) (t : ℕ) (op : Op) (a : AnswerData) → IsFirst s t op a → IsSound (after_operation s t op a) → IsStanding opening s → IsStanding opening (after_operation s t op a)
 standing_written opening s t op a first sound h = record {
   sound = sound;
@@ -125,7 +146,9 @@ standing_written opening s t op a first sound h = record {
   started = started_after_operation s t op a h.started;
   origins = origins_after_operation s t op a h.origins;
   written = record { active = each_map (with_answer s t op a) (λ r. AreWritten r.history r.claims) (λ r. AreWritten r.history r.claims) (λ r. write_one s op a r (r.id == t)) s.active h.written.active; stamped = h.written.stamped; past = h.written.past };
+  complete = record { active = each_map (with_answer s t op a) (λ r. AreComplete r.history r.claims) (λ r. AreComplete r.history r.claims) (λ r. complete_one s op a r (r.id == t)) s.active h.complete.active; stamped = h.complete.stamped; past = h.complete.past };
   base = h.base;
+  legal = h.legal;
   others = each_map (with_answer s t op a) (λ r. AllByRecursion (λ x. x.end ≢ r.id) s.past) (λ r. AllByRecursion (λ x. x.end ≢ r.id) s.past) (λ r q. q) s.active h.others;
 }
 
@@ -143,7 +166,13 @@ standing_prepared opening s r e lt f sound h = record {
     stamped = each_append (λ x. AreWritten x.history x.claims) s.stamped (to_stamped e r ∷ []) h.written.stamped ((active_holds (λ q. AreWritten q.history q.claims) r.id s.active r f h.written.active).0, tt);
     past = h.written.past;
   };
+  complete = record {
+    active = each_filter (λ q. not (q.id == r.id)) (λ q. AreComplete q.history q.claims) (λ q. AreComplete q.history q.claims) (λ q _ w. w) s.active h.complete.active;
+    stamped = each_append (λ x. AreComplete x.history x.claims) s.stamped (to_stamped e r ∷ []) h.complete.stamped ((active_holds (λ q. AreComplete q.history q.claims) r.id s.active r f h.complete.active).0, tt);
+    past = h.complete.past;
+  };
   base = h.base;
+  legal = h.legal;
   others = each_filter (λ q. not (q.id == r.id)) (λ q. AllByRecursion (λ x. x.end ≢ q.id) s.past) (λ q. AllByRecursion (λ x. x.end ≢ q.id) s.past) (λ q _ w. w) s.active h.others;
 }
 
@@ -166,7 +195,9 @@ standing_valid opening s e sound h =
         behind = each_map f (IsBehind s.past) (IsBehind s.past) (λ x q. q) s.stamped h.origins.behind;
       };
       written = record { active = h.written.active; stamped = each_map f (λ x. AreWritten x.history x.claims) (λ x. AreWritten x.history x.claims) (λ x q. q) s.stamped h.written.stamped; past = h.written.past };
+      complete = record { active = h.complete.active; stamped = each_map f (λ x. AreComplete x.history x.claims) (λ x. AreComplete x.history x.claims) (λ x q. q) s.stamped h.complete.stamped; past = h.complete.past };
       base = h.base;
+      legal = h.legal;
       others = h.others;
     }
   where
@@ -190,7 +221,9 @@ standing_settled opening s t x f m alone o v n free sound h = record {
   started = started_after_commit s t x.end h.started;
   origins = origins_after_commit [] s t x m alone o v n free h.sound h.started h.written h.origins;
   written = record { active = h.written.active; stamped = each_map (with_settled x.end) (λ y. AreWritten y.history y.claims) (λ y. AreWritten y.history y.claims) (λ y q. q) s.stamped h.written.stamped; past = h.written.past };
+  complete = record { active = h.complete.active; stamped = each_map (with_settled x.end) (λ y. AreComplete y.history y.claims) (λ y. AreComplete y.history y.claims) (λ y q. q) s.stamped h.complete.stamped; past = h.complete.past };
   base = h.base;
+  legal = h.legal;
   others = h.others;
 }
 
@@ -204,7 +237,9 @@ standing_aborted_active opening s t r f sound h = record {
   started = started_after_abort_of_active s t h.started;
   origins = origins_after_abort_of_active s t h.origins;
   written = record { active = each_filter (λ q. not (q.id == t)) (λ q. AreWritten q.history q.claims) (λ q. AreWritten q.history q.claims) (λ q _ w. w) s.active h.written.active; stamped = h.written.stamped; past = h.written.past };
+  complete = record { active = each_filter (λ q. not (q.id == t)) (λ q. AreComplete q.history q.claims) (λ q. AreComplete q.history q.claims) (λ q _ w. w) s.active h.complete.active; stamped = h.complete.stamped; past = h.complete.past };
   base = h.base;
+  legal = h.legal;
   others = each_filter (λ q. not (q.id == t)) (λ q. AllByRecursion (λ x. x.end ≢ q.id) s.past) (λ q. AllByRecursion (λ x. x.end ≢ q.id) s.past) (λ q _ w. w) s.active h.others;
 }
 
@@ -221,7 +256,13 @@ standing_aborted opening s t x f alone sound h = record {
     stamped = each_map (with_flag t x.end) (λ y. AreWritten y.history y.claims) (λ y. AreWritten y.history y.claims) (λ y w. w) (filter (not_at x.end) s.stamped) (each_part (not_at x.end) (λ y. AreWritten y.history y.claims) s.stamped h.written.stamped);
     past = h.written.past;
   };
+  complete = record {
+    active = each_map (active_with_flag t x.end) (λ q. AreComplete q.history q.claims) (λ q. AreComplete q.history q.claims) (λ q w. w) s.active h.complete.active;
+    stamped = each_map (with_flag t x.end) (λ y. AreComplete y.history y.claims) (λ y. AreComplete y.history y.claims) (λ y w. w) (filter (not_at x.end) s.stamped) (each_part (not_at x.end) (λ y. AreComplete y.history y.claims) s.stamped h.complete.stamped);
+    past = h.complete.past;
+  };
   base = h.base;
+  legal = h.legal;
   others = each_map (active_with_flag t x.end) (λ q. AllByRecursion (λ y. y.end ≢ q.id) s.past) (λ q. AllByRecursion (λ y. y.end ≢ q.id) s.past) (λ q w. w) s.active h.others;
 }
 
@@ -241,9 +282,19 @@ standing_trimmed opening s m t sound h =
         stamped = each_part (is_after m) (λ x. AreWritten x.history x.claims) s.stamped h.written.stamped;
         past = each_append (λ x. AreWritten x.history x.claims) s.past front h.written.past (each_part (is_to m) (λ x. AreWritten x.history x.claims) s.stamped h.written.stamped);
       };
+      complete = record {
+        active = h.complete.active;
+        stamped = each_part (is_after m) (λ x. AreComplete x.history x.claims) s.stamped h.complete.stamped;
+        past = each_append (λ x. AreComplete x.history x.claims) s.past front h.complete.past (each_part (is_to m) (λ x. AreComplete x.history x.claims) s.stamped h.complete.stamped);
+      };
       base = ap (after_settled front) h.base ∙ sym (after_settled-append s.past front opening);
+      legal = legal_append opening s.past front h.legal (subst (λ (n : Map). IsLegal n front) h.base (legal_front s.base front (filter (is_after m) s.stamped) (subst (IsLegal s.base) (sym (parted m s.stamped h.sound.rising)) h.sound.legal)));
       others = each_both (λ r. AllByRecursion (λ x. x.end ≢ r.id) s.past) (IsActive s.base s.stamped s.clock) (λ r. AllByRecursion (λ x. x.end ≢ r.id) (s.past ++ front)) (λ r a q. each_append (λ x. x.end ≢ r.id) s.past front a (each_part (is_to m) (λ x. x.end ≢ r.id) s.stamped q.others)) s.active h.others h.sound.active;
     }
+
+-- and each transaction stands where it stood
+pub phases_trimmed : (s : State) (m : ℕ) → IsTrim m s → (u : ℕ) → phase_in (after_trim s m) u ≡ phase_in s u
+phases_trimmed s m t u = ap (λ (w : Option StampedTx). phase_by (active_of u s.active) w (ended_of u s.ended)) (preparing_after_trim s m u t)
 
 pub standing_opened : (rows : Map) (mark : ℕ) → IsStanding rows (opened rows mark)
 standing_opened rows mark = record {
@@ -254,7 +305,9 @@ standing_opened rows mark = record {
   started = record { past = tt; rising = tt; later = tt; drawn = omega arith; opened = omega arith; after = tt; begun = tt };
   origins = record { active = tt; preparing = tt; settled = tt; behind = tt };
   written = record { active = tt; stamped = tt; past = tt };
+  complete = record { active = tt; stamped = tt; past = tt };
   base = refl;
+  legal = tt;
   others = tt;
 }
 
@@ -268,7 +321,9 @@ standing_ended opening s ended fewer drawn sound h = record {
   started = record { past = h.started.past; rising = h.started.rising; later = h.started.later; drawn = h.started.drawn; opened = h.started.opened; after = h.started.after; begun = h.started.begun };
   origins = record { active = h.origins.active; preparing = h.origins.preparing; settled = h.origins.settled; behind = h.origins.behind };
   written = record { active = h.written.active; stamped = h.written.stamped; past = h.written.past };
+  complete = record { active = h.complete.active; stamped = h.complete.stamped; past = h.complete.past };
   base = h.base;
+  legal = h.legal;
   others = h.others;
 }
 
@@ -281,6 +336,8 @@ standing_closed opening s mark sound h = record {
   started = record { past = h.started.past; rising = h.started.rising; later = h.started.later; drawn = h.started.drawn; opened = h.started.opened; after = h.started.after; begun = h.started.begun };
   origins = record { active = h.origins.active; preparing = h.origins.preparing; settled = h.origins.settled; behind = h.origins.behind };
   written = record { active = h.written.active; stamped = h.written.stamped; past = h.written.past };
+  complete = record { active = h.complete.active; stamped = h.complete.stamped; past = h.complete.past };
   base = h.base;
+  legal = h.legal;
   others = h.others;
 }
