@@ -16,7 +16,7 @@ use Rattle.mvo_theory.specs.Entries.{entry_of}
 use Rattle.mvo_types.specs.declared.entry.Entry.TheVariants.{Key}
 use Rattle.mvo_theory.specs.State.{State, StampedTx, ActiveTx, active_of}
 use Rattle.mvo_theory.specs.Dependencies.{last_writer, depend_on, dependencies}
-use Rattle.mvo_theory.specs.Calls.{IsKept}
+use Rattle.mvo_shared.specs.Standing.{IsStanding}
 use Rattle.mvo_theory.proofs.Who.{active_holds}
 use Rattle.mvo_word.specs.declared.held.Held.{Held}
 use Rattle.mvo_chain.specs.declared.version.Version.{Version}
@@ -153,8 +153,8 @@ none_writer : (k : RowKey) (w : Option StampedTx) (r : Option (ℕ × NetEffect)
 none_writer k None r e = refl
 none_writer k (Some x) r e = absurd (some_change (change_by k x) e)
 
-pub depends_is : (opening : Map) (steps : List Step) (s : State) (states : States) (slots : Slots) (lists : Lists) (op : Op) (r : ActiveTx) (k : RowKey) → IsKept opening steps s → AreVersionsOf s (phases_of states) (all_versions slots) → HasNumbers slots lists → active_of r.id s.active ≡ Some r → entry_of op ≡ Key k → dependencies s op r ≡ with_open r.depends_on (end_awaited states (shown_to states r.id r.id (versions_at slots lists k)).depends_on)
-depends_is opening steps s states slots lists op r k kept h ns f en = by (list_any (is_own r.id) (versions_at slots lists k)) refl
+pub depends_is : (opening : Map) (s : State) (states : States) (slots : Slots) (lists : Lists) (op : Op) (r : ActiveTx) (k : RowKey) → IsStanding opening s → AreVersionsOf s (phases_of states) (all_versions slots) → HasNumbers slots lists → active_of r.id s.active ≡ Some r → entry_of op ≡ Key k → dependencies s op r ≡ with_open r.depends_on (end_awaited states (shown_to states r.id r.id (versions_at slots lists k)).depends_on)
+depends_is opening s states slots lists op r k kept h ns f en = by (list_any (is_own r.id) (versions_at slots lists k)) refl
   where
     wrote : list_any (is_own r.id) (versions_at slots lists k) ≡ is_change (as_net_effect (net_write k r.history))
     wrote =
@@ -182,7 +182,7 @@ depends_is opening steps s states slots lists op r k kept h ns f en = by (list_a
         let known = each_numbered (λ v. IsKnown s (phases_of states) v.begin × IsKnown s (phases_of states) v.end) slots (map number (numbers_of lists k)) h.known in
         let there : list_any (changes_at states m) (versions_at slots lists k) ≡ true = last_holds (λ i. list_any (changes_at states i) (versions_at slots lists k)) r.id m (sym (greatest_change states r.id (versions_at slots lists k)) ∙ e) in
         let w = word_at s states (all_versions slots) h m (versions_at slots lists k) known there in
-        read_depends opening steps s (phases_of states) (all_versions slots) op r k w.word (m, net_effect (has_stamp (ends_of (phases_of states)) m) k (unnumbered (versions_at slots lists k))) kept h f en n w.known
+        read_depends opening s (phases_of states) (all_versions slots) op r k w.word (m, net_effect (has_stamp (ends_of (phases_of states)) m) k (unnumbered (versions_at slots lists k))) kept h f en n w.known
         (below_keyed states slots lists k r.id ns ∙ last_of_versions states r.id k (versions_at slots lists k) (of_key slots lists k ns) ∙ ap (option_map (λ i. (i, net_effect (has_stamp (ends_of (phases_of states)) i) k (unnumbered (versions_at slots lists k))))) e)
         w.stamp
         ∙ ap (with_open r.depends_on) (open_word s (phases_of states) (all_versions slots) h w.word w.known m w.stamp

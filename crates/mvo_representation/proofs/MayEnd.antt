@@ -14,7 +14,7 @@ use Rattle.mvo_model.specs.History.{net_write}
 use Rattle.mvo_model.specs.Trace.{Step}
 use Rattle.mvo_theory.specs.State.{State, ActiveTx, active_of, history_of_active}
 use Rattle.mvo_theory.specs.Causes.{conflict}
-use Rattle.mvo_theory.specs.Calls.{IsKept}
+use Rattle.mvo_shared.specs.Standing.{IsStanding}
 use Rattle.mvo_theory.proofs.Cases.{found_is}
 use Rattle.mvo_theory.proofs.Who.{active_holds}
 use Rattle.mvo_word.specs.declared.held.Held.{Held}
@@ -137,17 +137,17 @@ not_named s states xs ys v t r h f n = go (names t v.end) refl
     go true e = absurd (end_has_effect (names t) xs v ys e nothing)
     go false e = e
 
-pub cause_is : (opening : Map) (steps : List Step) (s : State) (states : States) (slots : Slots) (number : VersionNo) (v : Version) (t : ℕ) (r : ActiveTx) (stamp : ℕ) → IsKept opening steps s → AreVersionsOf s (phases_of states) (all_versions slots) → active_of t s.active ≡ Some r → version_at slots number ≡ Some v → net_write v.row.key (history_of_active t s.active) ≡ None → IsShownAt (ends_of (phases_of states)) t v.row.key (all_versions slots) v stamp → conflict s t v.row.key ≡ rule.cause_of states t v.end
-cause_is opening steps s states slots number v t r stamp kept h f at n x =
+pub cause_is : (opening : Map) (s : State) (states : States) (slots : Slots) (number : VersionNo) (v : Version) (t : ℕ) (r : ActiveTx) (stamp : ℕ) → IsStanding opening s → AreVersionsOf s (phases_of states) (all_versions slots) → active_of t s.active ≡ Some r → version_at slots number ≡ Some v → net_write v.row.key (history_of_active t s.active) ≡ None → IsShownAt (ends_of (phases_of states)) t v.row.key (all_versions slots) v stamp → conflict s t v.row.key ≡ rule.cause_of states t v.end
+cause_is opening s states slots number v t r stamp kept h f at n x =
     let m = slot_emptied slots number.0 v at in
     let n' : net_write v.row.key r.history ≡ None = ap (net_write v.row.key) (sym (found_is t s.active r f).1) ∙ n in
     let h' = subst (AreVersionsOf s (phases_of states)) (sym m.with') h in
-    conflict_right opening steps s (phases_of states) m.before v m.after t r stamp kept h' f n' (subst (λ vs. IsShownAt (ends_of (phases_of states)) t v.row.key vs v stamp) (sym m.with') x)
+    conflict_right opening s (phases_of states) m.before v m.after t r stamp kept h' f n' (subst (λ vs. IsShownAt (ends_of (phases_of states)) t v.row.key vs v stamp) (sym m.with') x)
     ∙ sym (cause_same states t v.end (not_named s states m.before m.after v t r h' f n'))
 
 -- where it tells none, the version may be ended
-pub may_end : (opening : Map) (steps : List Step) (s : State) (states : States) (slots : Slots) (t : ℕ) (r : ActiveTx) (k : RowKey) (number : VersionNo) → IsKept opening steps s → AreVersionsOf s (phases_of states) (all_versions slots) → active_of t s.active ≡ Some r → (w : IsShown s states slots t k number) → rule.cause_of states t w.version.end ≡ None → MayEnd s (phases_of states) t (all_versions slots) w.version
-may_end opening steps s states slots t r k number kept h f w none = go w.as'
+pub may_end : (opening : Map) (s : State) (states : States) (slots : Slots) (t : ℕ) (r : ActiveTx) (k : RowKey) (number : VersionNo) → IsStanding opening s → AreVersionsOf s (phases_of states) (all_versions slots) → active_of t s.active ≡ Some r → (w : IsShown s states slots t k number) → rule.cause_of states t w.version.end ≡ None → MayEnd s (phases_of states) t (all_versions slots) w.version
+may_end opening s states slots t r k number kept h f w none = go w.as'
   where
     go : IsShownAs s states t (all_versions slots) w.version → MayEnd s (phases_of states) t (all_versions slots) w.version
     go (AsOwn o) = Own o

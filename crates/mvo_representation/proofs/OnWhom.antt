@@ -139,7 +139,7 @@ none_written : (w : Option Effect) → is_some w ≡ false → w ≡ None
 none_written None e = refl
 none_written (Some x) e = absurd (true≢false e)
 
-module _ (opening : Map) (steps : List Step) (s : State) (states : States) (slots : Slots) (lists : Lists) (places : Places) (w : VersionsStandFor opening steps s states slots lists places) (r : ActiveTx) (f : active_of r.id s.active ≡ Some r) where
+module _ (opening : Map) (s : State) (states : States) (slots : Slots) (lists : Lists) (places : Places) (w : VersionsStandFor opening s states slots lists places) (r : ActiveTx) (f : active_of r.id s.active ≡ Some r) where
   -- one that the rules name at a key, as the state has it
   record IsNamed (id : TxId) : Type 0 where
     pub it : StampedTx
@@ -164,7 +164,7 @@ module _ (opening : Map) (steps : List Step) (s : State) (states : States) (slot
   named_by k id e = is_named id (subst (IsOwner states) e (shown_names states r.id r.id (versions_at slots lists k)))
 
   by_rule : (op : Op) (k : RowKey) → entry_of op ≡ Key k → dependencies s op r ≡ with_open r.depends_on (end_awaited states (named_at states slots lists r.id k))
-  by_rule op k en = depends_is opening steps s states slots lists op r k w.kept w.versions w.numbers f en
+  by_rule op k en = depends_is opening s states slots lists op r k w.kept w.versions w.numbers f en
 
   -- ---- an operation on one key
   key_by_id : (op : Op) (k : RowKey) → entry_of op ≡ Key k → AreDependencies s op r (named_ids (named_at states slots lists r.id k))
@@ -267,14 +267,14 @@ module _ (opening : Map) (steps : List Step) (s : State) (states : States) (slot
     }
 
 -- ---- the same, of the transaction t
-pub key_named : (opening : Map) (steps : List Step) (s : State) (states : States) (slots : Slots) (lists : Lists) (places : Places) (t : ℕ) (op : Op) (r : ActiveTx) (k : RowKey) → VersionsStandFor opening steps s states slots lists places → active_of t s.active ≡ Some r → entry_of op ≡ Key k → AreDependencies s op r (named_ids (named_at states slots lists t k))
-key_named opening steps s states slots lists places t op r k w f en =
+pub key_named : (opening : Map) (s : State) (states : States) (slots : Slots) (lists : Lists) (places : Places) (t : ℕ) (op : Op) (r : ActiveTx) (k : RowKey) → VersionsStandFor opening s states slots lists places → active_of t s.active ≡ Some r → entry_of op ≡ Key k → AreDependencies s op r (named_ids (named_at states slots lists t k))
+key_named opening s states slots lists places t op r k w f en =
     let is : r.id ≡ t = id_of t s.active r f in
     subst (λ (u : ℕ). AreDependencies s op r (named_ids (named_at states slots lists u k))) is
-    (key_by_id opening steps s states slots lists places w r (subst (λ (u : ℕ). active_of u s.active ≡ Some r) (sym is) f) op k en)
+    (key_by_id opening s states slots lists places w r (subst (λ (u : ℕ). active_of u s.active ≡ Some r) (sym is) f) op k en)
 
-pub scan_named : (opening : Map) (steps : List Step) (s : State) (states : States) (slots : Slots) (lists : Lists) (places : Places) (t : ℕ) (r : ActiveTx) (table lo hi : ℕ) (ids : List TxId) → VersionsStandFor opening steps s states slots lists places → active_of t s.active ≡ Some r → AreNamedByScan s states slots lists t table lo hi ids → AreDependencies s (Scan table lo hi) r ids
-scan_named opening steps s states slots lists places t r table lo hi ids w f h =
+pub scan_named : (opening : Map) (s : State) (states : States) (slots : Slots) (lists : Lists) (places : Places) (t : ℕ) (r : ActiveTx) (table lo hi : ℕ) (ids : List TxId) → VersionsStandFor opening s states slots lists places → active_of t s.active ≡ Some r → AreNamedByScan s states slots lists t table lo hi ids → AreDependencies s (Scan table lo hi) r ids
+scan_named opening s states slots lists places t r table lo hi ids w f h =
     let is : r.id ≡ t = id_of t s.active r f in
-    scan_by_id opening steps s states slots lists places w r (subst (λ (u : ℕ). active_of u s.active ≡ Some r) (sym is) f) table lo hi ids
+    scan_by_id opening s states slots lists places w r (subst (λ (u : ℕ). active_of u s.active ≡ Some r) (sym is) f) table lo hi ids
     (subst (λ (u : ℕ). AreNamedByScan s states slots lists u table lo hi ids) (sym is) h)

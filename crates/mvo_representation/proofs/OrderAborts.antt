@@ -119,7 +119,7 @@ put_written : (t : ℕ) (v : Version) → is_put_by t v ≡ true → is_written_
 put_written t v e = ap (λ (b : Bool). b || names t v.end) e
 
 pub abort_brings_order : AbortBringsOrder
-abort_brings_order opening steps s states states' slots lists places t ns h may d aborted written order key =
+abort_brings_order opening s states states' slots lists places t ns h may d aborted written order key =
     let now : phases_of states' t ≡ Aborted = ap phase_as aborted in
     subst (λ ls. StandInOrder s.start (phases_of states') (versions_at slots ls key)) (sym (fronts_keyed (is_put_by t) slots lists ns))
     (order_from s.start (phases_of states') slots (numbers_of (with_keyed lists (keyed (is_put_by t) slots ns)) key)
@@ -160,7 +160,7 @@ known_unnamed s table t absent Infinity k = refl
 known_unnamed s table t absent (By u) k = elim (cases_Bool (u.0 == t)) [ inl e ↦ absurd (k (ap table (eqb-true u.0 t e) ∙ absent)) | inr n ↦ n ]
 
 pub begin_keeps_order : BeginKeepsOrder
-begin_keeps_order opening steps s states states' slots lists places t h was d now order =
+begin_keeps_order opening s states states' slots lists places t h was d now order =
     alike_stay_in_order s.start states states' slots slots lists (λ m w e.
     let k = live slots (λ x. IsKnown s (phases_of states) x.begin × IsKnown s (phases_of states) x.end) h.versions.known m.0 w e in
     (w, e, unseen states states' t d (ap (λ o. end_in (phase_as o)) now ∙ sym (ap (λ o. end_in (phase_as o)) was)) w (λ act. (known_unnamed s (phases_of states) t (ap phase_as was) w.begin k.0, known_unnamed s (phases_of states) t (ap phase_as was) w.end k.1)))) order
@@ -189,5 +189,5 @@ same_stay_in_order start states states' slots slots' lists same there order = al
     word Infinity = refl
 
 pub absent_is_unnamed : AbsentIsUnnamed
-absent_is_unnamed opening steps s states slots lists places t h was = each_weaker (λ x. IsKnown s (phases_of states) x.begin × IsKnown s (phases_of states) x.end) (λ x. (names t x.begin ≡ false) × (names t x.end ≡ false))
+absent_is_unnamed opening s states slots lists places t h was = each_weaker (λ x. IsKnown s (phases_of states) x.begin × IsKnown s (phases_of states) x.end) (λ x. (names t x.begin ≡ false) × (names t x.end ≡ false))
     (λ x k. (known_unnamed s (phases_of states) t (ap phase_as was) x.begin k.0, known_unnamed s (phases_of states) t (ap phase_as was) x.end k.1)) (all_versions slots) h.versions.known

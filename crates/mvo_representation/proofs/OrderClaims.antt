@@ -18,13 +18,13 @@ use Rattle.mvo_theory.specs.Claims.{end_or, has_claim}
 use Rattle.mvo_theory.specs.Sound.{IsStarted, IsPast, how_many}
 use Rattle.mvo_theory.specs.Origins.{settled_ones, settled_origin, settled_rows}
 use Rattle.mvo_theory.specs.StandingClaims.{ClaimsIfStanding}
-use Rattle.mvo_theory.specs.Calls.{IsKept}
+use Rattle.mvo_shared.specs.Standing.{IsStanding}
 use Rattle.mvo_theory.proofs.Apart.{IsIn}
 use Rattle.mvo_theory.proofs.Depends.{below_last}
 use Rattle.mvo_theory.proofs.Each.{each_weaker, each_both, each_back}
 use Rattle.mvo_theory.proofs.LastWriter.{last_is, counted}
 use Rattle.mvo_theory.proofs.Stamped.{each_part}
-use Rattle.mvo_theory.proofs.StandingClaims.{settled_claim}
+use Rattle.mvo_shared.proofs.StandingClaims.{claims_standing}
 use Rattle.mvo_theory.proofs.Trim.{seen_front}
 use Rattle.mvo_representation.specs.Versions.{origin_at_start}
 use Rattle.mvo_representation.proofs.LastChanges.{write_by, last_writes, history_below_last}
@@ -64,18 +64,18 @@ pub record IsBase (s : State) (k : RowKey) (a : ℕ) : Type 0 where
 abbrev StandsSo : Map → State → RowKey → ℕ → ℕ → Type 0
 StandsSo opening s k a b = (settled_origin s b k ≡ a) × (is_some (fin.get (settled_rows opening s b) k) ≡ true)
 
-stands_at_start : (opening : Map) (steps : List Step) (s : State) (k : RowKey) (a b : ℕ) → IsKept opening steps s → s.start < b → last_writer k b (settled_ones s.stamped) ≡ None → (origin_at_start s k ≡ a) × (is_some (fin.get s.base k) ≡ true) → StandsSo opening s k a b
-stands_at_start opening steps s k a b h lt e p = (
+stands_at_start : (opening : Map) (s : State) (k : RowKey) (a b : ℕ) → IsStanding opening s → s.start < b → last_writer k b (settled_ones s.stamped) ≡ None → (origin_at_start s k ≡ a) × (is_some (fin.get s.base k) ≡ true) → StandsSo opening s k a b
+stands_at_start opening s k a b h lt e p = (
   ap (end_or s.marks.opening) last ∙ p.0,
   ap is_some (row_by_last opening k b (settled_ones (timeline s)) ∙ ap (λ w. content_after_last (write_by k w) (fin.get opening k)) last ∙ sym (row_by_last opening k (suc s.start) s.past)
-      ∙ ap (λ m. fin.get m k) (seen_front (suc s.start) s.past opening (past_settled s h.started) (each_weaker (IsPast s.start) (λ x. x.end < suc s.start) (λ x q. let le = q.until in omega (arith, le)) s.past h.started.past) ∙ sym h.after_trace.base)) ∙ p.1,
+      ∙ ap (λ m. fin.get m k) (seen_front (suc s.start) s.past opening (past_settled s h.started) (each_weaker (IsPast s.start) (λ x. x.end < suc s.start) (λ x q. let le = q.until in omega (arith, le)) s.past h.started.past) ∙ sym h.base)) ∙ p.1,
 )
   where
     last : last_writer k b (settled_ones (timeline s)) ≡ last_writer k (suc s.start) s.past
     last = last_settled s k b h.started lt ∙ ap (or_later (last_writer k (suc s.start) s.past)) e
 
-stands_by : (opening : Map) (steps : List Step) (s : State) (k : RowKey) (a b : ℕ) (q : StampedTx) → IsKept opening steps s → s.start < b → last_writer k b (settled_ones s.stamped) ≡ Some q → q.end ≡ a → (h : ContentData) × (net_write k q.history ≡ Some (Put h)) → StandsSo opening s k a b
-stands_by opening steps s k a b q h lt e at w = (
+stands_by : (opening : Map) (s : State) (k : RowKey) (a b : ℕ) (q : StampedTx) → IsStanding opening s → s.start < b → last_writer k b (settled_ones s.stamped) ≡ Some q → q.end ≡ a → (h : ContentData) × (net_write k q.history ≡ Some (Put h)) → StandsSo opening s k a b
+stands_by opening s k a b q h lt e at w = (
   ap (end_or s.marks.opening) last ∙ at,
   ap is_some (row_by_last opening k b (settled_ones (timeline s)) ∙ ap (λ v. content_after_last (write_by k v) (fin.get opening k)) last ∙ ap (λ (v : Option Effect). content_after_last v (fin.get opening k)) w.1),
 )
@@ -98,10 +98,10 @@ two_pass p (x ∷ xs) le = (
 
 -- ---- the next one that settled claims the version
 -- where nobody with an end below the limit claims it, nobody that settled there wrote the key later
-module _ (opening : Map) (steps : List Step) (s : State) (k : RowKey) (a : ℕ) (h : IsKept opening steps s) (base : IsBase s k a) (limit : ℕ) (unclaimed : (z : StampedTx) → IsIn z s.stamped → z.end < limit → has_claim z.claims k a ≡ true → ⊥) where
+module _ (opening : Map) (s : State) (k : RowKey) (a : ℕ) (h : IsStanding opening s) (base : IsBase s k a) (limit : ℕ) (unclaimed : (z : StampedTx) → IsIn z s.stamped → z.end < limit → has_claim z.claims k a ≡ true → ⊥) where
   not_next : (z : StampedTx) → IsIn z s.stamped → z.settled ≡ true → is_some (net_write k z.history) ≡ true → z.end < limit → StandsSo opening s k a z.end → ⊥
   not_next z m o w lt st =
-      let claim : has_claim z.claims k (settled_origin s z.end k) ≡ true = m (ClaimsIfStanding opening s k) (each_back (ClaimsIfStanding opening s k) s.past s.stamped (settled_claim opening steps s k h)) o w st.1 in
+      let claim : has_claim z.claims k (settled_origin s z.end k) ≡ true = m (ClaimsIfStanding opening s k) (each_back (ClaimsIfStanding opening s k) s.past s.stamped (claims_standing opening s k h)) o w st.1 in
       unclaimed z m lt (sym (ap (λ (n : ℕ). has_claim z.claims k n) st.0) ∙ claim)
 
   in_stamped : (q : StampedTx) → IsIn q (settled_ones s.stamped) → IsIn q s.stamped
@@ -123,9 +123,9 @@ module _ (opening : Map) (steps : List Step) (s : State) (k : RowKey) (a : ℕ) 
       started = m (λ x. s.start < x.end) h.started.later
 
       go : (v : Option StampedTx) → last_writer k z.end (settled_ones s.stamped) ≡ v → ((q : StampedTx) → IsIn q s.stamped → q.settled ≡ true → is_some (net_write k q.history) ≡ true → a < q.end → q.end < limit → q.end < n → ⊥) → ⊥
-      go None e again = not_next z m o w below (stands_at_start opening steps s k a z.end h started e (base.none z.end above e))
+      go None e again = not_next z m o w below (stands_at_start opening s k a z.end h started e (base.none z.end above e))
       go (Some q) e again = elim (cases_order a q.end) [
-        | inl same ↦ not_next z m o w below (stands_by opening steps s k a z.end q h started e (sym same) (base.put z.end q e (sym same)))
+        | inl same ↦ not_next z m o w below (stands_by opening s k a z.end q h started e (sym same) (base.put z.end q e (sym same)))
         | inr r ↦ elim r [
           | inl lt ↦ let under = below_last k z.end (settled_ones s.stamped) q e in
               let i = last_is k z.end (settled_ones s.stamped) q e in
@@ -138,8 +138,8 @@ module _ (opening : Map) (steps : List Step) (s : State) (k : RowKey) (a : ℕ) 
   none_wrote z m o w above below = descend (suc z.end) z m o w above below (omega arith)
 
 -- where one claims it, none that settled before that one wrote the key later
-pub none_later : (opening : Map) (steps : List Step) (s : State) (k : RowKey) (a : ℕ) → IsKept opening steps s → IsBase s k a → (y : StampedTx) → IsIn y s.stamped → has_claim y.claims k a ≡ true → (z : StampedTx) → IsIn z s.stamped → z.settled ≡ true → is_some (net_write k z.history) ≡ true → a < z.end → z.end < y.end → ⊥
-none_later opening steps s k a h base y my claims = none_wrote opening steps s k a h base y.end (λ z m lt claim.
+pub none_later : (opening : Map) (s : State) (k : RowKey) (a : ℕ) → IsStanding opening s → IsBase s k a → (y : StampedTx) → IsIn y s.stamped → has_claim y.claims k a ≡ true → (z : StampedTx) → IsIn z s.stamped → z.settled ≡ true → is_some (net_write k z.history) ≡ true → a < z.end → z.end < y.end → ⊥
+none_later opening s k a h base y my claims = none_wrote opening s k a h base y.end (λ z m lt claim.
     let le = h.exclusive k a in
     m (λ x. has_claim x.claims k a ≡ true → has_claim y.claims k a ≡ true → x.end ≢ y.end → ⊥)
     (my (λ x. AllByRecursion (λ v. has_claim v.claims k a ≡ true → has_claim x.claims k a ≡ true → v.end ≢ x.end → ⊥) s.stamped) (two_pass (λ x. has_claim x.claims k a) s.stamped (omega (arith, le))))

@@ -198,7 +198,7 @@ forward_written ends t v e = go (names t v.begin) (names t v.end) (is_none (stam
     go false false c f = f
 
 pub draw_keeps_order : DrawKeepsOrder
-draw_keeps_order opening steps s states states' slots lists places t end' ns h act d prepared drawn written order key =
+draw_keeps_order opening s states states' slots lists places t end' ns h act d prepared drawn written order key =
     let was : phases_of states t ≡ Active = ap phase_as act in
     let now : phases_of states' t ≡ Preparing end'.0 = ap phase_as prepared in
     let test : Version → Bool = comes_forward (ends_of (phases_of states)) t in

@@ -12,7 +12,7 @@ use Rattle.mvo_model.specs.Trace.{Step, Phase}
 use Rattle.mvo_model.specs.Trace.Phase.{Absent, Active, Preparing, Committed, Aborted}
 use Rattle.mvo_theory.specs.State.{State, StampedTx}
 use Rattle.mvo_theory.specs.Claims.{has_claim}
-use Rattle.mvo_theory.specs.Calls.{IsKept}
+use Rattle.mvo_shared.specs.Standing.{IsStanding}
 use Rattle.mvo_theory.proofs.Apart.{IsIn}
 use Rattle.mvo_theory.proofs.Each.{each_weaker, each_back}
 use Rattle.mvo_theory.proofs.Trim.{IsTrim}
@@ -45,7 +45,7 @@ use Rattle.mvo_representation.proofs.OrderClaims.{IsBase, none_later}
 use Rattle.mvo_representation.proofs.OrderBases.{writer_at, StandsAtStart, stands_at_start, base_at_start, base_of_settled}
 
 -- ---- a removal of a version that stands behind a settled put
-module _ (opening : Map) (steps : List Step) (s : State) (table : Phases) (vs : List Version) (h : IsKept opening steps s) (versions' : AreVersionsOf s table vs) (k : RowKey) (w v : Version) (wb : List Version) (wa : List Version) (w_in : wb ++ w ∷ wa ≡ vs) (vb : List Version) (va : List Version) (v_in : vb ++ v ∷ va ≡ vs) (kw : w.row.key ≡ k) (kv : v.row.key ≡ k)
+module _ (opening : Map) (s : State) (table : Phases) (vs : List Version) (h : IsStanding opening s) (versions' : AreVersionsOf s table vs) (k : RowKey) (w v : Version) (wb : List Version) (wa : List Version) (w_in : wb ++ w ∷ wa ≡ vs) (vb : List Version) (va : List Version) (v_in : vb ++ v ∷ va ≡ vs) (kw : w.row.key ≡ k) (kv : v.row.key ≡ k)
     (r : ℕ) (put : stamp_in (ends_of table) w.begin ≡ Some r) (settled : IsKnownStamp s r) (order : MayPrecede s.start table w v) where
   -- w's put and v's words say something of the key
   put_said : net_effect (has_stamp (ends_of table) r) k vs ≡ Untouched → ⊥
@@ -89,7 +89,7 @@ module _ (opening : Map) (steps : List Step) (s : State) (table : Phases) (vs : 
           let o = settled_one z mz ez in
           let lt : a < z.end = omega (arith, first, ez) in
           writer_at s table vs k x versions' late (removal_said x removed) (λ y my ey wy.
-          none_later opening steps s k a h (base z mz o wz lt) y my (claimed y my ey) z mz o wz lt (omega (arith, above, ez, ey))))
+          none_later opening s k a h (base z mz o wz lt) y my (claimed y my ey) z mz o wz lt (omega (arith, above, ez, ey))))
     ]
 
   pub removal_falls : (x : ℕ) → stamp_in (ends_of table) v.end ≡ Some x → x ≤ r
@@ -199,7 +199,7 @@ behind_by states Q [] h = tt
 behind_by states Q (e ∷ es) h = ((λ r is. each_weaker (λ v. (r : Stamp) → seen_of states e.1.begin ≡ Settled r → Q r.0 v.1) (λ v. Q r.0 v.1) (λ v f. f r is) es h.0), behind_by states Q es h.1)
 
 pub order_falls : OrderFalls
-order_falls opening steps s states slots lists places h order key =
+order_falls opening s states slots lists places h order key =
     to_falling states (versions slots (numbers_of lists key)) (behind_by states (λ r v. IsUnder r (seen_of states v.begin) × IsUnder r (seen_of states v.end)) (versions slots (numbers_of lists key))
     (pairs_from slots (IsSettledBehindPut states) (numbers_of lists key) (pairs_weaker (OnOne slots (λ x. x.row.key ≡ key)) (On slots (MayPrecede s.start (phases_of states))) (On slots (IsSettledBehindPut states)) pair (numbers_of lists key) (at_key slots lists key h.numbers) (order_to s.start (phases_of states) slots (numbers_of lists key) (order key)))))
   where
@@ -210,8 +210,8 @@ order_falls opening steps s states slots lists places h order key =
         let known = live slots (λ z. IsKnown s (phases_of states) z.begin × IsKnown s (phases_of states) z.end) h.versions.known a w p in
         let put = seen_stamp states w.begin r is in
         let settled = seen_settled s states (all_versions slots) w.begin r h.versions known.0 is in (
-          under s states (all_versions slots) r.0 v.begin h.versions settled (put_falls opening steps s (phases_of states) (all_versions slots) h.kept h.versions key w v x.before x.after x.with' y.before y.after y.with' (ka w p) (kb v q) r.0 put settled (f w v p q)),
-          under s states (all_versions slots) r.0 v.end h.versions settled (removal_falls opening steps s (phases_of states) (all_versions slots) h.kept h.versions key w v x.before x.after x.with' y.before y.after y.with' (ka w p) (kb v q) r.0 put settled (f w v p q)),
+          under s states (all_versions slots) r.0 v.begin h.versions settled (put_falls opening s (phases_of states) (all_versions slots) h.kept h.versions key w v x.before x.after x.with' y.before y.after y.with' (ka w p) (kb v q) r.0 put settled (f w v p q)),
+          under s states (all_versions slots) r.0 v.end h.versions settled (removal_falls opening s (phases_of states) (all_versions slots) h.kept h.versions key w v x.before x.after x.with' y.before y.after y.with' (ka w p) (kb v q) r.0 put settled (f w v p q)),
         )
 
 pub order_has_own_in_front : OrderHasOwnInFront
@@ -240,7 +240,7 @@ settled_or_above s table vs m (By u) h t k r e = go (table u.0) refl e
         inr (omega (arith, lt, at, same))
 
 pub trim_keeps_order : TrimKeepsOrder
-trim_keeps_order opening steps s states slots lists places m h w order key =
+trim_keeps_order opening s states slots lists places m h w order key =
     order_from m (phases_of states) slots (numbers_of lists key) (pairs_weaker (OnOne slots (λ x. x.row.key ≡ key)) (On slots (MayPrecede s.start (phases_of states))) (On slots (MayPrecede m (phases_of states))) pair (numbers_of lists key) (at_key slots lists key h.numbers)
     (order_to s.start (phases_of states) slots (numbers_of lists key) (order key)))
   where
@@ -256,7 +256,7 @@ trim_keeps_order opening steps s states slots lists places m h w order key =
         record {
           puts = old.puts;
           removals = λ r e put removed le. elim (settled_or_above s (phases_of states) (all_versions slots) m w'.begin h.versions trim known.0 r put) [
-            | inl settled ↦ removal_falls opening steps s (phases_of states) (all_versions slots) h.kept h.versions key w' v x.before x.after x.with' y.before y.after y.with' (ka w' p) (kb v q) r put settled old e removed
+            | inl settled ↦ removal_falls opening s (phases_of states) (all_versions slots) h.kept h.versions key w' v x.before x.after x.with' y.before y.after y.with' (ka w' p) (kb v q) r put settled old e removed
             | inr above ↦ omega (arith, le, above)
           ];
           stamped = old.stamped;

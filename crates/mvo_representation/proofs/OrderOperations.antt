@@ -75,7 +75,7 @@ unput (Some (Put h)) b e = absurd (put_there h e)
     put_there h q = cc
 
 pub insert_keeps_order : InsertKeepsOrder
-insert_keeps_order opening steps s states slots slots' lists places r row n h f gone free now order =
+insert_keeps_order opening s states slots slots' lists places r row n h f gone free now order =
     new_in_order s.start states slots slots' lists r.id row n (state_active s states (all_versions slots) r h.versions f) free now
     (ended_where_none (names r.id) row.key slots lists h.numbers
     (ap leaves_row (own_words s (phases_of states) (all_versions slots) r row.key h.versions f)
@@ -110,7 +110,7 @@ nothing_in_front s states slots r w v m h f (Other o) at key p e q lt =
     none_before_shown s.start (phases_of states) r.id v.row.key w v o.stamp x.before x.after key (subst (λ vs. IsShownAt (ends_of (phases_of states)) r.id v.row.key vs v o.stamp) (sym x.with') o.shown) p e q lt
 
 pub delete_keeps_order : DeleteKeepsOrder
-delete_keeps_order opening steps s states slots slots' lists places r v n h f at may now order key =
+delete_keeps_order opening s states slots slots' lists places r v n h f at may now order key =
     order_from s.start table slots' (numbers_of lists key)
     (pairs_weaker (OnOne slots (λ x. x.row.key ≡ key)) (On slots (MayPrecede s.start table)) (On slots' (MayPrecede s.start table)) pair (numbers_of lists key) (at_key slots lists key h.numbers) (order_to s.start table slots (numbers_of lists key) (order key)))
   where
@@ -163,10 +163,10 @@ other_ended s states slots r v x n m h f (Own o) at other here key b = is_false 
     true≢false (sym (two_clash (content_of v.row) (net_effect (names r.id) v.row.key (w.before ++ w.after)) rest) ∙ ap is_clash (sym (stays_put (names r.id) v.row.key w.before v w.after refl o.mine o.kept) ∙ ap (net_effect (names r.id) v.row.key) w.with' ∙ own_words s (phases_of states) (all_versions slots) r v.row.key h f) ∙ not_clash (net_write v.row.key r.history)))
 
 pub update_keeps_order : UpdateKeepsOrder
-update_keeps_order opening steps s states slots between slots' lists places r v row n m h f at key may ended free now order =
+update_keeps_order opening s states slots between slots' lists places r v row n m h f at key may ended free now order =
     new_in_order s.start states between slots' lists r.id row m (state_active s states (all_versions slots) r h.versions f) free now
     (each_weaker (OnOne slots (λ x. x.row.key ≡ row.key)) (OnOne between (λ x. names r.id x.begin ≡ true → names r.id x.end ≡ true)) here (numbers_of lists row.key) (at_key slots lists row.key h.numbers))
-    (delete_keeps_order opening steps s states slots between lists places r v n h f at may ended order)
+    (delete_keeps_order opening s states slots between lists places r v n h f at may ended order)
   where
     by : (i : ℕ) (x y : Version) → OnOne slots (λ z. z.row.key ≡ row.key) i → version_at slots (number i) ≡ Some y → ((i ≢ n) × (x ≡ y)) ⊎ ((i ≡ n) × (x ≡ ended_by r.id v)) → names r.id x.begin ≡ true → names r.id x.end ≡ true
     by i x y k p (inr e) b = ap (λ (z : Version). names r.id z.end) e.1 ∙ own_id r.id

@@ -75,7 +75,7 @@ ended_at n k slots none m v e key b = is_false (n v.end) (λ c.
     false≢true (sym none ∙ ap (λ vs. leaves_row (net_effect n k vs)) (sym w.with') ∙ ap leaves_row (stays_put n k w.before v w.after key b c) ∙ leaves_put (content_of v.row) (net_effect n k (w.before ++ w.after))))
 
 pub insert_is_written : InsertIsWritten
-insert_is_written opening steps s states slots slots' lists places r row n ns h f gone hole now written =
+insert_is_written opening s states slots slots' lists places r row n ns h f gone hole now written =
     put_is_written r.id row slots slots' n ns hole now (ended_at (names r.id) row.key slots
     (ap leaves_row (says s (phases_of states) (all_versions slots) r row.key h.versions f)
     ∙ unput (net_write row.key r.history) (fin.get (seen_by s.base s.stamped r.id) row.key) (sym (get-after_history row.key r.history (seen_by s.base s.stamped r.id)) ∙ ap (λ ts. fin.get (after_history ts (seen_by s.base s.stamped r.id)) row.key) (sym (found_is r.id s.active r f).1) ∙ gone))) written
@@ -86,7 +86,7 @@ abbrev IsSameOrEnded : ℕ → ℕ → Version → ℕ → Version → Version �
 IsSameOrEnded t n v m x y = ((m ≢ n) × (x ≡ y)) ⊎ ((m ≡ n) × (x ≡ ended_by t v))
 
 pub delete_is_written : DeleteIsWritten
-delete_is_written opening steps s states slots slots' lists places r v n ns h f at may now written = record {
+delete_is_written opening s states slots slots' lists places r v n ns h f at may now written = record {
   all = λ m x e w. elim (cases_eq m n) [
     | inl same ↦ among_last m n ns same
     | inr other ↦ among_old m n ns (written.all m x (sym (now.others (number m) other) ∙ e) w)
@@ -128,8 +128,8 @@ delete_is_written opening steps s states slots slots' lists places r v n ns h f 
         other_ended s states slots r v x n a h.versions f may at d (sym (now.others (number a) d) ∙ p) (key ∙ ap (λ (z : Version). z.row.key) same) j
 
 pub update_is_written : UpdateIsWritten
-update_is_written opening steps s states slots between slots' lists places r v row n m ns h f at key may ended hole now written =
-    put_is_written r.id row between slots' m (ns ++ n ∷ []) hole now own (delete_is_written opening steps s states slots between lists places r v n ns h f at may ended written)
+update_is_written opening s states slots between slots' lists places r v row n m ns h f at key may ended hole now written =
+    put_is_written r.id row between slots' m (ns ++ n ∷ []) hole now own (delete_is_written opening s states slots between lists places r v n ns h f at may ended written)
   where
     by : (i : ℕ) (x y : Version) → version_at slots (number i) ≡ Some y → x.row.key ≡ row.key → IsSameOrEnded r.id n v i x y → names r.id x.begin ≡ true → names r.id x.end ≡ true
     by i x y p k (inr e) b = ap (λ (z : Version). names r.id z.end) e.1 ∙ own_id r.id

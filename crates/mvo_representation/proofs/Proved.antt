@@ -12,28 +12,28 @@ pub opens_so : OpensSo
 opens_so rows mark = versions_opened rows mark
 
 pub each_call_keeps : EachCallKeeps
-each_call_keeps opening steps s c r old new k m h a = versions_after_call opening steps s c r old new k m h a
+each_call_keeps opening s c r old new k m h a = versions_after_call opening s c r old new k m h a
 
 pub shows_snapshot : ShowsSnapshot
-shows_snapshot opening steps s states slots lists places r k w f = shown_is s states slots lists r.id r k w.kept.sound w.kept.started w.versions w.numbers f
+shows_snapshot opening s states slots lists places r k w f = shown_is s states slots lists r.id r k w.kept.sound w.kept.started w.versions w.numbers f
 
 pub depends_so : DependsSo
-depends_so opening steps s states slots lists places op r k w f e = depends_is opening steps s states slots lists op r k w.kept w.versions w.numbers f e
+depends_so opening s states slots lists places op r k w f e = depends_is opening s states slots lists op r k w.kept w.versions w.numbers f e
 
 pub shown_is_there : ShownIsThere
-shown_is_there opening steps s states slots lists places r k number w f e = shown_as s states slots lists r.id r k number w.versions w.numbers f e
+shown_is_there opening s states slots lists places r k number w f e = shown_as s states slots lists r.id r k number w.versions w.numbers f e
 
 pub free_may_be_ended : FreeMayBeEnded
-free_may_be_ended opening steps s states slots lists places r k number w f shown none = may_end opening steps s states slots r.id r k number w.kept w.versions f shown none
+free_may_be_ended opening s states slots lists places r k number w f shown none = may_end opening s states slots r.id r k number w.kept w.versions f shown none
 
 pub tells_cause : TellsCause
-tells_cause opening steps s states slots lists places r number v stamp w f at n x = cause_is opening steps s states slots number v r.id r stamp w.kept w.versions f at n x
+tells_cause opening s states slots lists places r number v stamp w f at n x = cause_is opening s states slots number v r.id r stamp w.kept w.versions f at n x
 
 pub names_change : NamesChange
-names_change opening steps s states slots lists places begin end' entry w le lt = check_is s states slots lists places begin end' entry w.kept.sound w.kept.started w.versions w.numbers w.order le lt
+names_change opening s states slots lists places begin end' entry w le lt = check_is s states slots lists places begin end' entry w.kept.sound w.kept.started w.versions w.numbers w.order le lt
 
 pub rows_are_placed : RowsArePlaced
-rows_are_placed opening steps s states slots lists places r k h w f e = row_placed s states slots lists places r k h w.kept.sound w.kept.started w.versions w.numbers w.order f e
+rows_are_placed opening s states slots lists places r k h w f e = row_placed s states slots lists places r k h w.kept.sound w.kept.started w.versions w.numbers w.order f e
 
 pub meets_what_counts : MeetsWhatCounts
-meets_what_counts opening steps s states slots lists places r table lo hi q w f = met_is s states slots r table lo hi q w.kept.sound w.kept.started w.versions f
+meets_what_counts opening s states slots lists places r table lo hi q w f = met_is s states slots r table lo hi q w.kept.sound w.kept.started w.versions f

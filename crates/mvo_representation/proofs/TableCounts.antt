@@ -20,7 +20,7 @@ use Rattle.mvo_theory.specs.Dependencies.{has_end}
 use Rattle.mvo_theory.specs.Marks.{open_begins}
 use Rattle.mvo_theory.specs.Phases.{phase_by, ended_as}
 use Rattle.mvo_theory.specs.Sound.{IsSingle, how_many}
-use Rattle.mvo_theory.specs.Calls.{IsKept}
+use Rattle.mvo_shared.specs.Standing.{IsStanding}
 use Rattle.mvo_theory.proofs.Cases.{begin_cases}
 use Rattle.mvo_txn.specs.declared.state.TxState.{TxState}
 use Rattle.mvo_txn.specs.declared.state.TxState.TheVariants as state
@@ -210,11 +210,11 @@ begins_counted s =
     omega (arith, a, b, c, d, e)
 
 module _ {P : Type 0} where
-  pub unfinished_is : (opening : Map) (steps : List Step) (s : State) (table : Txns P) → IsKept opening steps s → IsTableOf s table → len table.seats ≡ unfinished s
-  unfinished_is opening steps s table k h = counted (begins s) table.seats (once_each s k.single) (seats_are s table h) ∙ begins_counted s
+  pub unfinished_is : (opening : Map) (s : State) (table : Txns P) → IsStanding opening s → IsTableOf s table → len table.seats ≡ unfinished s
+  unfinished_is opening s table k h = counted (begins s) table.seats (once_each s k.single) (seats_are s table h) ∙ begins_counted s
 
-  pub why_not_begun_is : (opening : Map) (steps : List Step) (s : State) (table : Txns P) → IsKept opening steps s → IsTableOf s table → why_not_begun table ≡ why_not_begin s
-  why_not_begun_is opening steps s table k h =
-      ap (λ (n : ℕ). cond (nat_le MAX_UNFINISHED n) (Some TableFull) (spent_clock table.clock)) (unfinished_is opening steps s table k h)
+  pub why_not_begun_is : (opening : Map) (s : State) (table : Txns P) → IsStanding opening s → IsTableOf s table → why_not_begun table ≡ why_not_begin s
+  why_not_begun_is opening s table k h =
+      ap (λ (n : ℕ). cond (nat_le MAX_UNFINISHED n) (Some TableFull) (spent_clock table.clock)) (unfinished_is opening s table k h)
       ∙ ap (λ (n : ℕ). cond (nat_le MAX_UNFINISHED (unfinished s)) (Some TableFull) (spent_clock n)) h.clock
       ∙ sym (begin_cases s)

@@ -9,7 +9,7 @@ use Rattle.mvo_theory.specs.State.{State, ActiveTx, StampedTx, EndedTx, preparin
 use Rattle.mvo_theory.specs.Dependencies.{has_end}
 use Rattle.mvo_theory.specs.Marks.{least_open, below_open, low_water, open_begins, least, oldest_begin}
 use Rattle.mvo_theory.specs.Sound.{IsRising, IsSound, IsSingle, IsActive, IsPlaced}
-use Rattle.mvo_theory.specs.Calls.{IsKept}
+use Rattle.mvo_shared.specs.Standing.{IsStanding}
 use Rattle.mvo_theory.proofs.Each.{each_append, each_map, each_weaker}
 use Rattle.mvo_theory.proofs.Traced.{has_it}
 use Rattle.mvo_txn.specs.Txns.{Txns, state_of, HasOpenEnd, IsOldestBegin, IsLowWater}
@@ -114,7 +114,7 @@ open_none (x ∷ xs) q = go x.settled refl q (λ p. open_none xs p)
     go true o p again = (o, again p)
     go false o p again = absurd (some_end x.end p)
 
-module _ {P : Type 0} (opening : Map) (steps : List Step) (s : State) (table : Txns P) (k : IsKept opening steps s) (h : IsTableOf s table) where
+module _ {P : Type 0} (opening : Map) (s : State) (table : Txns P) (k : IsStanding opening s) (h : IsTableOf s table) where
   -- ---- the oldest begin
   pub oldest_is : (n : ℕ) → IsOldestBegin table n → n ≡ oldest_begin s
   oldest_is n (inl a) = go (least_in s.clock (begins s))
@@ -167,8 +167,8 @@ module _ {P : Type 0} (opening : Map) (steps : List Step) (s : State) (table : T
   pub low_is : (n : ℕ) → IsLowWater table n → n ≡ low_water s
   low_is n a = low_at n a (least_open s.stamped) refl
 
-pub oldest_begin_is : {P : Type 0} (opening : Map) (steps : List Step) (s : State) (table : Txns P) (n : ℕ) → IsKept opening steps s → IsTableOf s table → IsOldestBegin table n → n ≡ oldest_begin s
-oldest_begin_is opening steps s table n k h a = oldest_is opening steps s table k h n a
+pub oldest_begin_is : {P : Type 0} (opening : Map) (s : State) (table : Txns P) (n : ℕ) → IsStanding opening s → IsTableOf s table → IsOldestBegin table n → n ≡ oldest_begin s
+oldest_begin_is opening s table n k h a = oldest_is opening s table k h n a
 
-pub low_water_is : {P : Type 0} (opening : Map) (steps : List Step) (s : State) (table : Txns P) (n : ℕ) → IsKept opening steps s → IsTableOf s table → IsLowWater table n → n ≡ low_water s
-low_water_is opening steps s table n k h a = low_is opening steps s table k h n a
+pub low_water_is : {P : Type 0} (opening : Map) (s : State) (table : Txns P) (n : ℕ) → IsStanding opening s → IsTableOf s table → IsLowWater table n → n ≡ low_water s
+low_water_is opening s table n k h a = low_is opening s table k h n a

@@ -17,7 +17,7 @@ use Rattle.mvo_theory.specs.Words.{words_without}
 use Rattle.mvo_theory.specs.Dependencies.{has_end, dependencies}
 use Rattle.mvo_theory.specs.Phases.{phase_in}
 use Rattle.mvo_theory.specs.Sound.{IsActive}
-use Rattle.mvo_theory.specs.Calls.{IsKept}
+use Rattle.mvo_shared.specs.Standing.{IsStanding}
 use Rattle.mvo_theory.proofs.Each.{each_both, each_map, each_weaker, each_always}
 use Rattle.mvo_theory.proofs.Finds.{find_none}
 use Rattle.mvo_theory.proofs.Phases.{leads_after_operation}
@@ -58,7 +58,7 @@ or_passed true false c = refl
 or_passed false true c = refl
 or_passed false false c = refl
 
-module _ {P : Type 0} (opening : Map) (steps : List Step) (s : State) (old : Txns (Node P)) (r : ActiveTx) (k : IsKept opening steps s) (h : HasDependencies s old) (f : active_of r.id s.active ≡ Some r) where
+module _ {P : Type 0} (opening : Map) (s : State) (old : Txns (Node P)) (r : ActiveTx) (k : IsStanding opening s) (h : HasDependencies s old) (f : active_of r.id s.active ≡ Some r) where
   abbrev mine : TxId
   mine = tx_id r.id
 
@@ -192,8 +192,8 @@ module _ {P : Type 0} (opening : Map) (steps : List Step) (s : State) (old : Txn
         graph = w.graph;
       }
 
-pub table_answered : {P : Type 0} (opening : Map) (steps : List Step) (s : State) (old : Txns (Node P)) (t : TxId) (op : Op) (a : AnswerData) (r : ActiveTx) (ids : List TxId) → IsKept opening steps s → HasDependencies s old → active_of t.0 s.active ≡ Some r → AreDependencies s op r ids → HasDependencies (after_answer s t.0 op a) (after_register_all old t ids)
-table_answered opening steps s old t op a r ids k h f d =
+pub table_answered : {P : Type 0} (opening : Map) (s : State) (old : Txns (Node P)) (t : TxId) (op : Op) (a : AnswerData) (r : ActiveTx) (ids : List TxId) → IsStanding opening s → HasDependencies s old → active_of t.0 s.active ≡ Some r → AreDependencies s op r ids → HasDependencies (after_answer s t.0 op a) (after_register_all old t ids)
+table_answered opening s old t op a r ids k h f d =
     let is : r.id ≡ t.0 = id_of t.0 s.active r f in
     subst (λ (u : ℕ). HasDependencies (after_answer s u op a) (after_register_all old (tx_id u) ids)) is
-    (answered opening steps s old r k h (subst (λ (u : ℕ). active_of u s.active ≡ Some r) (sym is) f) op a ids d)
+    (answered opening s old r k h (subst (λ (u : ℕ). active_of u s.active ≡ Some r) (sym is) f) op a ids d)

@@ -16,7 +16,7 @@ use Rattle.mvo_theory.specs.Changes.{after_begin, after_prepare, after_check, af
 use Rattle.mvo_theory.specs.Phases.{phase_by, phase_in}
 use Rattle.mvo_theory.specs.Steps.{after_precommit_of, after_precommit, after_validate_of, after_validate, after_commit_of, after_abort_of}
 use Rattle.mvo_theory.specs.Words.{is_done, words_left}
-use Rattle.mvo_theory.specs.Calls.{IsKept}
+use Rattle.mvo_shared.specs.Standing.{IsStanding}
 use Rattle.mvo_theory.proofs.Cases.{ended_in}
 use Rattle.mvo_theory.proofs.Each.{each_always}
 use Rattle.mvo_theory.proofs.Finds.{find_none}
@@ -65,8 +65,8 @@ module _ {P : Type 0} where
   }
 
   -- ---- a begin
-  pub table_begun : (opening : Map) (steps : List Step) (s : State) (old : Txns (Node P)) (node : Node P) → IsKept opening steps s → HasDependencies s old → node.dependencies ≡ no_dependencies → HasDependencies (after_begin s (s.clock + 1)) (txns.table_after_begin old node)
-  table_begun opening steps s old node k h none = record {
+  pub table_begun : (opening : Map) (s : State) (old : Txns (Node P)) (node : Node P) → IsStanding opening s → HasDependencies s old → node.dependencies ≡ no_dependencies → HasDependencies (after_begin s (s.clock + 1)) (txns.table_after_begin old node)
+  table_begun opening s old node k h none = record {
     stands = table_leads s (after_begin s (s.clock + 1)) (Begins (s.clock + 1)) old (txns.table_after_begin old node) (Some Active) h.stands (leads_after_begin s (s.clock + 1) (omega arith) k.sound k.single) clock
         (ap (state_of (txns.table_after_begin old node)) (sym clock) ∙ begun_state old node) refl
         (λ u ne. begun_others old node u (λ e. ne (e ∙ clock)));
@@ -93,8 +93,8 @@ module _ {P : Type 0} where
   }
 
   -- ---- a precommit
-  pub table_prepared : (opening : Map) (steps : List Step) (s : State) (old : Txns (Node P)) (t : ℕ) → IsKept opening steps s → HasDependencies s old → state_of old t ≡ Some Active → HasDependencies (after_precommit s t) (txns.table_after_prepare old t)
-  table_prepared opening steps s old t k h was = subst (λ o. HasDependencies (after_precommit_of s o) (txns.table_after_prepare old t)) (sym f) (record {
+  pub table_prepared : (opening : Map) (s : State) (old : Txns (Node P)) (t : ℕ) → IsStanding opening s → HasDependencies s old → state_of old t ≡ Some Active → HasDependencies (after_precommit s t) (txns.table_after_prepare old t)
+  table_prepared opening s old t k h was = subst (λ o. HasDependencies (after_precommit_of s o) (txns.table_after_prepare old t)) (sym f) (record {
     stands = table_leads s (after_prepare s r (s.clock + 1)) (Prepares t (s.clock + 1)) old (txns.table_after_prepare old t) (Some (Preparing (record { 0 = old.clock + 1 }))) h.stands
         (leads_after_prepare s t r (s.clock + 1) f is k.single) clock
         (state_now old.seats t (Preparing (record { 0 = old.clock + 1 })) Active t refl was)
@@ -166,9 +166,9 @@ module _ {P : Type 0} where
       drawn_at (Some x) = drawn_by x _ x.valid
 
   -- ---- a commit
-  committed : (opening : Map) (steps : List Step) (s : State) (old new : Txns (Node P)) (t : TxId) (end : Stamp) → IsKept opening steps s → HasDependencies s old → state_of old t.0 ≡ Some (Preparing end)
+  committed : (opening : Map) (s : State) (old new : Txns (Node P)) (t : TxId) (end : Stamp) → IsStanding opening s → HasDependencies s old → state_of old t.0 ≡ Some (Preparing end)
       → IsReported deps.after_dependency_commit (txns.table_after_change old t.0 (Committed end)) new t → KeepsGraphAtCommit (txns.table_after_change old t.0 (Committed end)) new t → HasDependencies (after_commit_of s t.0 (preparing_of t.0 s.stamped)) new
-  committed opening steps s old new t end k h was told keeps = subst (λ o. HasDependencies (after_commit_of s t.0 o) new) (sym f) (record {
+  committed opening s old new t end k h was told keeps = subst (λ o. HasDependencies (after_commit_of s t.0 o) new) (sym f) (record {
     stands = table_leads s (after_commit s t.0 x.end) (Commits t.0 x.end) old new (Some (Committed end)) h.stands (leads_after_commit s t.0 x f k.sound k.single)
         (reported_clock deps.after_dependency_commit now new t told ∙ h.stands.clock)
         (reported_state deps.after_dependency_commit now new t told t.0 ∙ state_now old.seats t.0 (Committed end) (Preparing end) t.0 refl was)
@@ -198,18 +198,18 @@ module _ {P : Type 0} where
       nodes_are : nodes_of old ≡ nodes_of now
       nodes_are = restated_nodes old old.clock t.0 (Committed end)
 
-  pub table_committed : (opening : Map) (steps : List Step) (s : State) (old untold new : Txns (Node P)) (t : TxId) (end : Stamp) → IsKept opening steps s → HasDependencies s old → state_of old t.0 ≡ Some (Preparing end)
+  pub table_committed : (opening : Map) (s : State) (old untold new : Txns (Node P)) (t : TxId) (end : Stamp) → IsStanding opening s → HasDependencies s old → state_of old t.0 ≡ Some (Preparing end)
       → untold ≡ txns.table_after_change old t.0 (Committed end) → IsReported deps.after_dependency_commit untold new t → KeepsGraphAtCommit untold new t → HasDependencies (after_commit_of s t.0 (preparing_of t.0 s.stamped)) new
-  table_committed opening steps s old untold new t end k h was e told keeps =
-      committed opening steps s old new t end k h was (subst (λ table. IsReported deps.after_dependency_commit table new t) e told) (subst (λ table. KeepsGraphAtCommit table new t) e keeps)
+  table_committed opening s old untold new t end k h was e told keeps =
+      committed opening s old new t end k h was (subst (λ table. IsReported deps.after_dependency_commit table new t) e told) (subst (λ table. KeepsGraphAtCommit table new t) e keeps)
 
   -- ---- an abort
   abbrev fallen : Txns (Node P) → ℕ → Txns (Node P)
   fallen old t = txns.table_after_change old t Aborted
 
-  undone : (opening : Map) (steps : List Step) (s : State) (old new : Txns (Node P)) (t : TxId) → IsKept opening steps s → HasDependencies s old → state_of old t.0 ≡ Some Active
+  undone : (opening : Map) (s : State) (old new : Txns (Node P)) (t : TxId) → IsStanding opening s → HasDependencies s old → state_of old t.0 ≡ Some Active
       → IsReported (deps.after_dependency_abort t) (fallen old t.0) new t → KeepsGraphAtAbort (fallen old t.0) new t → HasDependencies (after_abort_of s t.0 (preparing_of t.0 s.stamped)) new
-  undone opening steps s old new t k h was told keeps = subst (λ o. HasDependencies (after_abort_of s t.0 o) new) (sym nobody) (record {
+  undone opening s old new t k h was told keeps = subst (λ o. HasDependencies (after_abort_of s t.0 o) new) (sym nobody) (record {
     stands = table_leads s (after_abort_of_active s t.0) (Aborts t.0) old new (Some Aborted) h.stands leads
         (reported_clock (deps.after_dependency_abort t) (fallen old t.0) new t told ∙ h.stands.clock)
         (reported_state (deps.after_dependency_abort t) (fallen old t.0) new t told t.0 ∙ state_now old.seats t.0 Aborted Active t.0 refl was)
@@ -246,9 +246,9 @@ module _ {P : Type 0} where
       alike : AreAlike (after_abort_of_active s t.0) (nodes_of (fallen old t.0)) (nodes_of new)
       alike = left_alike (after_abort_of_active s t.0) (fallen old t.0) new t.0 (ap is_open_phase leads.own) (λ u ne. undone_at (fallen old t.0) new t.0 none told u ne)
 
-  failed : (opening : Map) (steps : List Step) (s : State) (old new : Txns (Node P)) (t : TxId) (end : Stamp) → IsKept opening steps s → HasDependencies s old → state_of old t.0 ≡ Some (Preparing end)
+  failed : (opening : Map) (s : State) (old new : Txns (Node P)) (t : TxId) (end : Stamp) → IsStanding opening s → HasDependencies s old → state_of old t.0 ≡ Some (Preparing end)
       → IsReported (deps.after_dependency_abort t) (fallen old t.0) new t → KeepsGraphAtAbort (fallen old t.0) new t → HasDependencies (after_abort_of s t.0 (preparing_of t.0 s.stamped)) new
-  failed opening steps s old new t end k h was told keeps = subst (λ o. HasDependencies (after_abort_of s t.0 o) new) (sym f) (record {
+  failed opening s old new t end k h was told keeps = subst (λ o. HasDependencies (after_abort_of s t.0 o) new) (sym f) (record {
     stands = table_leads s (after_abort_of_preparing s t.0 x.end) (Aborts t.0) old new (Some Aborted) h.stands (leads_after_abort_of_preparing s t.0 x f k.sound k.single)
         (reported_clock (deps.after_dependency_abort t) (fallen old t.0) new t told ∙ h.stands.clock)
         (reported_state (deps.after_dependency_abort t) (fallen old t.0) new t told t.0 ∙ state_now old.seats t.0 Aborted (Preparing end) t.0 refl was)
@@ -275,21 +275,21 @@ module _ {P : Type 0} where
       seats : AreSeated s (fallen old t.0)
       seats = λ u o. there_restated old.seats t.0 Aborted u ∙ seated s old u (h.stands.phases u) o
 
-  aborted : (opening : Map) (steps : List Step) (s : State) (old new : Txns (Node P)) (t : TxId) → IsKept opening steps s → HasDependencies s old → IsUnended (state_of old t.0)
+  aborted : (opening : Map) (s : State) (old new : Txns (Node P)) (t : TxId) → IsStanding opening s → HasDependencies s old → IsUnended (state_of old t.0)
       → IsReported (deps.after_dependency_abort t) (txns.table_after_change old t.0 Aborted) new t → KeepsGraphAtAbort (txns.table_after_change old t.0 Aborted) new t → HasDependencies (after_abort_of s t.0 (preparing_of t.0 s.stamped)) new
-  aborted opening steps s old new t k h unended told keeps = go (state_of old t.0) refl unended
+  aborted opening s old new t k h unended told keeps = go (state_of old t.0) refl unended
     where
       go : (o : Option TxState) → state_of old t.0 ≡ o → IsUnended o → HasDependencies (after_abort_of s t.0 (preparing_of t.0 s.stamped)) new
       go None e u = absurd u
-      go (Some Active) e u = undone opening steps s old new t k h e told keeps
-      go (Some (Preparing end)) e u = failed opening steps s old new t end k h e told keeps
+      go (Some Active) e u = undone opening s old new t k h e told keeps
+      go (Some (Preparing end)) e u = failed opening s old new t end k h e told keeps
       go (Some (Committed end)) e u = absurd u
       go (Some Aborted) e u = absurd u
 
-  pub table_aborted : (opening : Map) (steps : List Step) (s : State) (old untold new : Txns (Node P)) (t : TxId) → IsKept opening steps s → HasDependencies s old → IsUnended (state_of old t.0)
+  pub table_aborted : (opening : Map) (s : State) (old untold new : Txns (Node P)) (t : TxId) → IsStanding opening s → HasDependencies s old → IsUnended (state_of old t.0)
       → untold ≡ txns.table_after_change old t.0 Aborted → IsReported (deps.after_dependency_abort t) untold new t → KeepsGraphAtAbort untold new t → HasDependencies (after_abort_of s t.0 (preparing_of t.0 s.stamped)) new
-  table_aborted opening steps s old untold new t k h unended e told keeps =
-      aborted opening steps s old new t k h unended (subst (λ table. IsReported (deps.after_dependency_abort t) table new t) e told) (subst (λ table. KeepsGraphAtAbort table new t) e keeps)
+  table_aborted opening s old untold new t k h unended e told keeps =
+      aborted opening s old new t k h unended (subst (λ table. IsReported (deps.after_dependency_abort t) table new t) e told) (subst (λ table. KeepsGraphAtAbort table new t) e keeps)
 
   -- ---- finishing
   pub table_worded : (s : State) (old : Txns (Node P)) (f : EndedTx → List Word) → HasDependencies s old → HasDependencies (with_words f s) old
@@ -304,8 +304,8 @@ module _ {P : Type 0} where
   pub table_word : (s : State) (old : Txns (Node P)) (t : ℕ) → HasDependencies s old → is_done s t ≡ false → HasDependencies (after_finish s t) old
   table_word s old t h e = subst (λ b. HasDependencies (cond b (after_termination s t) (with_words (words_left t) s)) old) (sym e) (table_worded s old (words_left t) h)
 
-  pub table_left : (opening : Map) (steps : List Step) (s : State) (old : Txns (Node P)) (t : ℕ) → IsKept opening steps s → HasDependencies s old → IsEnded (state_of old t) → is_done s t ≡ true → HasDependencies (after_finish s t) (txns.after_terminate old t)
-  table_left opening steps s old t k h ended e = subst (λ b. HasDependencies (cond b (after_termination s t) (with_words (words_left t) s)) (txns.after_terminate old t)) (sym e) (record {
+  pub table_left : (opening : Map) (s : State) (old : Txns (Node P)) (t : ℕ) → IsStanding opening s → HasDependencies s old → IsEnded (state_of old t) → is_done s t ≡ true → HasDependencies (after_finish s t) (txns.after_terminate old t)
+  table_left opening s old t k h ended e = subst (λ b. HasDependencies (cond b (after_termination s t) (with_words (words_left t) s)) (txns.after_terminate old t)) (sym e) (record {
     stands = table_leads s (after_termination s t) (Terminates t) old (txns.after_terminate old t) None h.stands leads h.stands.clock (left_state old t) refl (left_others old t);
     nodes = nodes_elsewhere s s.marks (after_termination s t).ended (nodes_of old) (nodes_of (txns.after_terminate old t)) alike.active alike.preparing h.nodes;
     drawn = drawn_elsewhere s s.marks (after_termination s t).ended (nodes_of old) (nodes_of (txns.after_terminate old t)) alike.active alike.preparing h.drawn;
@@ -323,8 +323,8 @@ module _ {P : Type 0} where
       alike = left_alike (after_termination s t) old (txns.after_terminate old t) t (ap is_open_phase leads.own) (left_nodes old t)
 
   -- ---- trimming the tale, and closing a group
-  pub table_trimmed : (opening : Map) (steps : List Step) (s : State) (old : Txns (Node P)) (m : ℕ) → IsKept opening steps s → HasDependencies s old → why_not_trim s m ≡ None → HasDependencies (after_trim s m) old
-  table_trimmed opening steps s old m k h w =
+  pub table_trimmed : (opening : Map) (s : State) (old : Txns (Node P)) (m : ℕ) → IsStanding opening s → HasDependencies s old → why_not_trim s m ≡ None → HasDependencies (after_trim s m) old
+  table_trimmed opening s old m k h w =
       let trim = may_trim s m w k.sound in
       record {
         stands = table_alike s (after_trim s m) old old h.stands refl refl (λ u. refl) (λ u. ap (λ o. phase_by (active_of u s.active) o (ended_of u s.ended)) (preparing_after_trim s m u trim));

@@ -11,7 +11,7 @@ use Rattle.mvo_model.specs.Trace.Phase.{Preparing as PreparingPhase}
 use Rattle.mvo_theory.specs.State.{State, StampedTx, active_of, preparing_of}
 use Rattle.mvo_theory.specs.Causes.{flag_of_active, flag_of_preparing, waiting_for, awaited_by, awaited}
 use Rattle.mvo_theory.specs.Dependencies.{has_end}
-use Rattle.mvo_theory.specs.Calls.{IsKept}
+use Rattle.mvo_shared.specs.Standing.{IsStanding}
 use Rattle.mvo_theory.proofs.Causes.{waiting_none, waiting_is, waiting_least}
 use Rattle.mvo_theory.proofs.Each.{each_both}
 use Rattle.mvo_theory.proofs.Traced.{ends_differ}
@@ -72,7 +72,7 @@ module _ {P : Type 0} where
       ap (λ (u : ℕ). (nodes_of table u).flag) (sym w.1) ∙ (w.0 w.2).flag ∙ sym (ap flag_of_preparing found.1)
 
   -- ---- whom a Preparing one waits for
-  module _ (opening : Map) (steps : List Step) (s : State) (table : Txns (Node P)) (t : TxId) (k : IsKept opening steps s) (h : HasDependencies s table) (prep : IsPreparingState (state_of table t.0)) (x : StampedTx) (f : preparing_of t.0 s.stamped ≡ Some x) where
+  module _ (opening : Map) (s : State) (table : Txns (Node P)) (t : TxId) (k : IsStanding opening s) (h : HasDependencies s table) (prep : IsPreparingState (state_of table t.0)) (x : StampedTx) (f : preparing_of t.0 s.stamped ≡ Some x) where
     -- each Preparing one stands so in the table, and is among those that it depends on just where it is so in the state
     record IsOn (y : StampedTx) : Type 0 where
       pub open_end_is : open_end (state_of table y.id) ≡ Some y.end
@@ -176,12 +176,12 @@ module _ {P : Type 0} where
         ∙ some_within (waiting_for x.depends_on s.stamped)
         ∙ waits_by_counter table t (option_map (λ y. tx_id y.id) (waiting_for x.depends_on s.stamped)) h.aborted (least_in (waiting_for x.depends_on s.stamped) refl) h.graph
 
-  pub awaited_is : (opening : Map) (steps : List Step) (s : State) (table : Txns (Node P)) (t : TxId) (whom : Option TxId) → IsKept opening steps s → HasDependencies s table → IsPreparingState (state_of table t.0) → MatchOption whom (HasNoneOpen table (data_of table t).on) (IsLeastOpen table (data_of table t).on) → option_map (λ id. id.0) whom ≡ option_map (λ y. y.id) (awaited s t.0)
-  awaited_is opening steps s table t whom k h prep m =
+  pub awaited_is : (opening : Map) (s : State) (table : Txns (Node P)) (t : TxId) (whom : Option TxId) → IsStanding opening s → HasDependencies s table → IsPreparingState (state_of table t.0) → MatchOption whom (HasNoneOpen table (data_of table t).on) (IsLeastOpen table (data_of table t).on) → option_map (λ id. id.0) whom ≡ option_map (λ y. y.id) (awaited s t.0)
+  awaited_is opening s table t whom k h prep m =
       let found = preparing_found_in s table t.0 h prep in
-      awaited_found opening steps s table t k h prep found.0 found.1 whom m
+      awaited_found opening s table t k h prep found.0 found.1 whom m
 
-  pub counted_is : (opening : Map) (steps : List Step) (s : State) (table : Txns (Node P)) (t : TxId) → IsKept opening steps s → HasDependencies s table → IsPreparingState (state_of table t.0) → is_some (awaited s t.0) ≡ nat_lt 0 (data_of table t).unsettled
-  counted_is opening steps s table t k h prep =
+  pub counted_is : (opening : Map) (s : State) (table : Txns (Node P)) (t : TxId) → IsStanding opening s → HasDependencies s table → IsPreparingState (state_of table t.0) → is_some (awaited s t.0) ≡ nat_lt 0 (data_of table t).unsettled
+  counted_is opening s table t k h prep =
       let found = preparing_found_in s table t.0 h prep in
-      counted_found opening steps s table t k h prep found.0 found.1
+      counted_found opening s table t k h prep found.0 found.1

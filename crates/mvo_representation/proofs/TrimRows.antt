@@ -16,7 +16,7 @@ use Rattle.mvo_theory.specs.State.{State, StampedTx}
 use Rattle.mvo_theory.specs.Changes.{after_trim}
 use Rattle.mvo_theory.specs.Claims.{has_claim}
 use Rattle.mvo_theory.specs.Causes.{why_not_trim}
-use Rattle.mvo_theory.specs.Calls.{IsKept}
+use Rattle.mvo_shared.specs.Standing.{IsStanding}
 use Rattle.mvo_theory.proofs.Apart.{IsIn}
 use Rattle.mvo_theory.proofs.Each.{each_both, each_back}
 use Rattle.mvo_theory.proofs.Footprints.{key_same}
@@ -132,7 +132,7 @@ none_stands ends m k (y ∷ ys) h = go (eq_by_cmp key_cmp k y.row.key) refl (is_
     go false e b f r = r
 
 -- ---- what stands up to the new start
-module _ (opening : Map) (steps : List Step) (s : State) (table : Phases) (vs : List Version) (m : ℕ) (h : IsKept opening steps s) (versions : AreVersionsOf s table vs) (trim : IsTrim m s) (k : RowKey) where
+module _ (opening : Map) (s : State) (table : Phases) (vs : List Version) (m : ℕ) (h : IsStanding opening s) (versions : AreVersionsOf s table vs) (trim : IsTrim m s) (k : RowKey) where
   -- a version that stands has no End up to it
   begun_by : (y : Version) → is_standing (ends_of table) m y ≡ true → (a : ℕ) → stamp_in (ends_of table) y.begin ≡ Some a → a ≤ m
   begun_by y on a e =
@@ -186,7 +186,7 @@ module _ (opening : Map) (steps : List Step) (s : State) (table : Phases) (vs : 
     | inr low ↦ said ((at_start (omega (arith, lt, low))).last c lt low)
     | inl high ↦ writer_at s table vs k c versions high said (λ z mz ez wz.
         let o = is_settled z mz ez z.settled refl in
-        none_wrote opening steps s k a h (base z mz o wz (omega (arith, lt, ez))) (suc m) unclaimed z mz o wz (omega (arith, lt, ez)) (omega (arith, le, ez)))
+        none_wrote opening s k a h (base z mz o wz (omega (arith, lt, ez))) (suc m) unclaimed z mz o wz (omega (arith, lt, ez)) (omega (arith, le, ez)))
   ]
     where
       here : AreVersionsOf s table (xs ++ y ∷ ys)
@@ -277,5 +277,5 @@ module _ (opening : Map) (steps : List Step) (s : State) (table : Phases) (vs : 
   pub rows_held : standing_effect (ends_of table) m k vs ≡ as_net_effect (option_map (λ h. Put h) (fin.get (after_trim s m).base k))
   rows_held = held (fin.get (after_trim s m).base k) refl
 
-pub trim_holds_rows : (opening : Map) (steps : List Step) (s : State) (table : Phases) (vs : List Version) (m : ℕ) → IsKept opening steps s → AreVersionsOf s table vs → why_not_trim s m ≡ None → HoldsRows (ends_of table) m (after_trim s m).base vs
-trim_holds_rows opening steps s table vs m h versions w k = rows_held opening steps s table vs m h versions (may_trim s m w h.sound) k
+pub trim_holds_rows : (opening : Map) (s : State) (table : Phases) (vs : List Version) (m : ℕ) → IsStanding opening s → AreVersionsOf s table vs → why_not_trim s m ≡ None → HoldsRows (ends_of table) m (after_trim s m).base vs
+trim_holds_rows opening s table vs m h versions w k = rows_held opening s table vs m h versions (may_trim s m w h.sound) k

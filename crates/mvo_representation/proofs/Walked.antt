@@ -19,7 +19,7 @@ use Rattle.mvo_types.specs.declared.entry.Entry.TheVariants.{Range}
 use Rattle.mvo_theory.specs.State.{State, ActiveTx, seen_by, active_of}
 use Rattle.mvo_theory.specs.Claims.{origin}
 use Rattle.mvo_theory.specs.Sound.{IsNumbered}
-use Rattle.mvo_theory.specs.Calls.{IsKept}
+use Rattle.mvo_shared.specs.Standing.{IsStanding}
 use Rattle.mvo_word.specs.declared.held.Held.{Held}
 use Rattle.mvo_chain.specs.declared.version.Version.{Version}
 use Rattle.mvo_range.specs.declared.sort_place.SortPlace.{SortPlace}
@@ -92,8 +92,8 @@ pub record ShownThere (ends : Ends) (t : ℕ) (k : RowKey) (h : ContentData) (vs
   pub row : content_of version.row ≡ h
   pub shown : IsShownAt ends t k vs version o
 
-pub shown_found : (opening : Map) (steps : List Step) (s : State) (table : Phases) (vs : List Version) (t : ℕ) (mine : ActiveTx) (k : RowKey) (h : ContentData) → IsKept opening steps s → AreVersionsOf s table vs → active_of t s.active ≡ Some mine → fin.get (seen_by s.base s.stamped t) k ≡ Some h → ShownThere (ends_of table) t k h vs (origin s t k)
-shown_found opening steps s table vs t mine k h kept r f e = go (change_below (ends_of table) t k vs) refl
+pub shown_found : (opening : Map) (s : State) (table : Phases) (vs : List Version) (t : ℕ) (mine : ActiveTx) (k : RowKey) (h : ContentData) → IsStanding opening s → AreVersionsOf s table vs → active_of t s.active ≡ Some mine → fin.get (seen_by s.base s.stamped t) k ≡ Some h → ShownThere (ends_of table) t k h vs (origin s t k)
+shown_found opening s table vs t mine k h kept r f e = go (change_below (ends_of table) t k vs) refl
   where
     stands : standing (change_below (ends_of table) t k vs) ≡ Some (origin s t k, Puts h)
     stands = stands_below s table vs t k kept.sound kept.started r (active_begins s table vs t mine kept.sound r f) (behind_is s table vs t mine r f) ∙ ap (option_map (λ x. (origin s t k, Puts x))) e

@@ -13,7 +13,7 @@ use Rattle.mvo_theory.specs.Words.{words_of, words_now, words_held}
 use Rattle.mvo_theory.specs.Changes.{after_prepare, to_stamped, with_flag, active_with_flag, not_at, after_abort_of_active, after_abort_of_preparing, aborted_tx}
 use Rattle.mvo_theory.specs.Steps.{after_abort_of}
 use Rattle.mvo_theory.specs.Phases.{phase_in}
-use Rattle.mvo_theory.specs.Calls.{IsKept}
+use Rattle.mvo_shared.specs.Standing.{IsStanding}
 use Rattle.mvo_theory.proofs.Each.{each_weaker, each_append, each_map, each_filter}
 use Rattle.mvo_theory.proofs.Phases.{Leads, leads_after_prepare, leads_after_abort_of_active, leads_after_abort_of_preparing, alone_in}
 use Rattle.mvo_theory.proofs.Who.{active_holds, id_of}
@@ -42,7 +42,7 @@ use Rattle.mvo_representation.proofs.WordsSaid.{may_abort, unended}
 use Rattle.mvo_representation.proofs.Decided.{none_end, some_end}
 
 -- ---- a precommit
-module _ (opening : Map) (steps : List Step) (s : State) (slots : Slots) (r : ActiveTx) (k : IsKept opening steps s) (h : AreVersionsOf s (phase_in s) (all_versions slots)) (f : active_of r.id s.active ≡ Some r) where
+module _ (opening : Map) (s : State) (slots : Slots) (r : ActiveTx) (k : IsStanding opening s) (h : AreVersionsOf s (phase_in s) (all_versions slots)) (f : active_of r.id s.active ≡ Some r) where
   abbrev end' : ℕ
   end' = s.clock + 1
 
@@ -133,11 +133,11 @@ module _ (opening : Map) (steps : List Step) (s : State) (slots : Slots) (r : Ac
       away q = cc
 
 pub precommit_keeps_lists : PrecommitKeepsLists
-precommit_keeps_lists opening steps s states slots lists places words r h f l = prepared_lists opening steps s slots r h.kept (here_versions s (phases_of states) (all_versions slots) h.versions) f words l
+precommit_keeps_lists opening s states slots lists places words r h f l = prepared_lists opening s slots r h.kept (here_versions s (phases_of states) (all_versions slots) h.versions) f words l
 
 -- ---- an abort of an Active one
-aborted_active : (opening : Map) (steps : List Step) (s : State) (slots : Slots) (words : WordLists) (t : ℕ) (r : ActiveTx) → IsKept opening steps s → active_of t s.active ≡ Some r → HasWordLists s slots words → HasWordLists (after_abort_of_active s t) slots words
-aborted_active opening steps s slots words t r k f l = record {
+aborted_active : (opening : Map) (s : State) (slots : Slots) (words : WordLists) (t : ℕ) (r : ActiveTx) → IsStanding opening s → active_of t s.active ≡ Some r → HasWordLists s slots words → HasWordLists (after_abort_of_active s t) slots words
+aborted_active opening s slots words t r k f l = record {
   once = l.once;
   active = each_filter (λ q. not (q.id == t)) (IsActiveListed s' slots words) (IsActiveListed s' slots words) (λ q _ o. o) s.active (active_self s s' slots words le path s.active l.active);
   preparing = preparing_self s s' slots words le path s.stamped l.preparing;
@@ -168,7 +168,7 @@ aborted_active opening steps s slots words t r k f l = record {
         (subst (λ (u : ℕ). StandAt s slots u (words_of r.history r.claims) (words u)) w.1 w.0.stand))
 
 -- ---- an abort of a Preparing one
-module _ (opening : Map) (steps : List Step) (s : State) (slots : Slots) (t : ℕ) (x : StampedTx) (k : IsKept opening steps s) (h : AreVersionsOf s (phase_in s) (all_versions slots)) (f : preparing_of t s.stamped ≡ Some x) where
+module _ (opening : Map) (s : State) (slots : Slots) (t : ℕ) (x : StampedTx) (k : IsStanding opening s) (h : AreVersionsOf s (phase_in s) (all_versions slots)) (f : preparing_of t s.stamped ≡ Some x) where
   leads_aborted : Leads (Aborts t) s (after_abort_of_preparing s t x.end)
   leads_aborted = leads_after_abort_of_preparing s t x f k.sound k.single
 
@@ -274,12 +274,12 @@ module _ (opening : Map) (steps : List Step) (s : State) (slots : Slots) (t : �
       mine =
           let w = found_holds (IsPreparingListed s slots words) t s.stamped x f l.preparing in
           stand_weaker s (after_abort_of_preparing s t x.end) slots slots t (at_aborted t) (words_now s t) (words t)
-          (subst (λ ws. StandAt s slots t ws (words t)) (sym (words_preparing opening steps s t x k f))
+          (subst (λ ws. StandAt s slots t ws (words t)) (sym (words_preparing opening s t x k f))
           (subst (λ (u : ℕ). StandAt s slots u (words_of x.history x.claims) (words u)) w.1 (w.0 w.2).stand))
 
 pub abort_keeps_lists : AbortKeepsLists
-abort_keeps_lists opening steps s states slots lists places words t h m l = go (preparing_of t s.stamped) refl
+abort_keeps_lists opening s states slots lists places words t h m l = go (preparing_of t s.stamped) refl
   where
     go : (o : Option StampedTx) → preparing_of t s.stamped ≡ o → HasWordLists (after_abort_of s t o) slots words
-    go None e = let r = unended s t (may_abort s (phases_of states) t (h.versions.phases t) m) e in aborted_active opening steps s slots words t r.0 h.kept r.1 l
-    go (Some x) e = aborted_lists opening steps s slots t x h.kept (here_versions s (phases_of states) (all_versions slots) h.versions) e words l
+    go None e = let r = unended s t (may_abort s (phases_of states) t (h.versions.phases t) m) e in aborted_active opening s slots words t r.0 h.kept r.1 l
+    go (Some x) e = aborted_lists opening s slots t x h.kept (here_versions s (phases_of states) (all_versions slots) h.versions) e words l

@@ -292,7 +292,7 @@ finished_in : (s : State) (states : States) (vs : List Version) (slots slots' : 
 finished_in s states vs slots slots' t p v h now = subst (λ (x : Ends). HaveNow slots slots' (number_at_word p).0 (finished x t p v)) (same_ends s states vs h) now
 
 pub finish_keeps_lists : FinishKeepsLists
-finish_keeps_lists opening steps s states slots slots' lists places words words' u p ps v h e is at name more now list l =
+finish_keeps_lists opening s states slots slots' lists places words words' u p ps v h e is at name more now list l =
     subst (λ (b : Bool). HasWordLists (cond b (after_termination s u.id) (with_words (words_left u.id) s)) slots' words') (sym more)
     (worded_lists s slots slots' words words' u p ps v h.kept.single e is at name (finished_in s states (all_versions slots) slots slots' u.id p v h.versions now) list l)
 
@@ -361,12 +361,12 @@ module _ (s : State) (slots : Slots) (lists lists' : WordLists) (u : EndedTx) (s
       gone t q (inr d) = list.others t d ∙ absent t (sym (leads_left.others t (λ i. d (sym i))) ∙ q)
 
 pub last_keeps_lists : LastKeepsLists
-last_keeps_lists opening steps s states slots slots' lists places words words' u p ps v h e is at name done now list l =
+last_keeps_lists opening s states slots slots' lists places words words' u p ps v h e is at name done now list l =
     subst (λ (b : Bool). HasWordLists (cond b (after_termination s u.id) (with_words (words_left u.id) s)) slots' words') (sym done)
     (left_lists s slots' words words' u h.kept.single e (last_is_unnamed s states slots slots' words u p ps v e is at name done now l) list l.absent
     (others_finished s slots slots' words u p v h.kept.single e at (sym (names_here slots u.id p v at) ∙ name) (finished_in s states (all_versions slots) slots slots' u.id p v h.versions now) l))
 
 pub leaving_keeps_lists : LeavingKeepsLists
-leaving_keeps_lists opening steps s states slots lists places words words' u h e none list l =
+leaving_keeps_lists opening s states slots lists places words words' u h e none list l =
     subst (λ (b : Bool). HasWordLists (cond b (after_termination s u.id) (with_words (words_left u.id) s)) slots words') (sym (done_is_seen s slots words u e l ∙ ap (λ qs. nat_le (length qs) 1) none))
     (left_lists s slots words words' u h.kept.single e (none_is_unnamed s slots words u.id none l) list l.absent (others_of s slots words u.id l))

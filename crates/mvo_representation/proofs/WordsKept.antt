@@ -13,10 +13,11 @@ use Rattle.mvo_theory.specs.Claims.{claim_with}
 use Rattle.mvo_theory.specs.Changes.{new_active, after_begin, after_operation, taken_over, with_answer, after_check, with_check, after_commit, committed_tx, with_settled, after_trim, is_to, after_close}
 use Rattle.mvo_theory.specs.Steps.{after_validate, after_validate_of}
 use Rattle.mvo_theory.specs.Phases.{phase_in}
-use Rattle.mvo_theory.specs.Calls.{IsKept}
+use Rattle.mvo_shared.specs.Standing.{IsStanding}
 use Rattle.mvo_theory.proofs.Each.{each_weaker, each_append, each_map, each_filter}
 use Rattle.mvo_theory.proofs.Finds.{find_none}
-use Rattle.mvo_theory.proofs.Kept.{kept_trimmed}
+use Rattle.mvo_theory.proofs.Trimmed.{may_trim}
+use Rattle.mvo_shared.proofs.Standing.{phases_trimmed}
 use Rattle.mvo_theory.proofs.Phases.{Leads, leads_after_begin, leads_after_operation, leads_after_check, leads_after_commit}
 use Rattle.mvo_theory.proofs.Single.{active_found, preparing_alone}
 use Rattle.mvo_chain.specs.declared.version.Version.{Version}
@@ -98,7 +99,7 @@ opening_has_lists rows mark states slots h = record {
 }
 
 pub begin_keeps_lists : BeginKeepsLists
-begin_keeps_lists opening steps s states slots lists places words h l = record {
+begin_keeps_lists opening s states slots lists places words h l = record {
   once = l.once;
   active = each_append (IsActiveListed s' slots words) s.active (new_active t ∷ []) (active_self s s' slots words le path s.active l.active) (subst (HasOwnWords s' slots t []) (sym (l.absent t absent)) (record { stand = tt; written = nothing_is_written t slots (absent_unnamed s slots t (here_versions s (phases_of states) (all_versions slots) h.versions) absent) }), tt);
   preparing = preparing_self s s' slots words le path s.stamped l.preparing;
@@ -129,7 +130,7 @@ begin_keeps_lists opening steps s states slots lists places words h l = record {
 
 -- ---- an answer that writes nothing
 pub answer_keeps_lists : AnswerKeepsLists
-answer_keeps_lists opening steps s states slots lists places words r op a h f e l = subst (λ (x : State). HasWordLists x slots words) (sym (ap (λ (c : Option Claim). taken_over c s') (ap (claim_with s r.id (history_of_active r.id s.active)) (no_end op a e)))) (record {
+answer_keeps_lists opening s states slots lists places words r op a h f e l = subst (λ (x : State). HasWordLists x slots words) (sym (ap (λ (c : Option Claim). taken_over c s') (ap (claim_with s r.id (history_of_active r.id s.active)) (no_end op a e)))) (record {
   once = l.once;
   active = each_map (with_answer s r.id op a) (IsActiveListed s slots words) (IsActiveListed s' slots words) (λ q o. subst (λ ws. HasOwnWords s' slots q.id ws (words q.id)) (sym (told_nothing s r.id op a q e (cases_eq q.id r.id))) (own_self s s' slots q.id le path (words_of q.history q.claims) (words q.id) o)) s.active l.active;
   preparing = preparing_self s s' slots words le path s.stamped l.preparing;
@@ -188,13 +189,13 @@ check_keeps_lists s slots words t l = go (preparing_of t s.stamped) (λ u. same 
     go (Some x) q = by x _ x.valid q
 
 -- ---- a commit
-pub words_preparing : (opening : Map) (steps : List Step) (s : State) (t : ℕ) (x : StampedTx) → IsKept opening steps s → preparing_of t s.stamped ≡ Some x → words_now s t ≡ words_of x.history x.claims
-words_preparing opening steps s t x k f =
+pub words_preparing : (opening : Map) (s : State) (t : ℕ) (x : StampedTx) → IsStanding opening s → preparing_of t s.stamped ≡ Some x → words_now s t ≡ words_of x.history x.claims
+words_preparing opening s t x k f =
     ap (λ (w : Option ActiveTx). words_held w (preparing_of t s.stamped)) (active_found t s.active ∙ find_none (is_active_as t) s.active (let l = preparing_alone s t x f k.single in omega arith))
     ∙ ap (words_held None) f
 
 pub commit_keeps_lists : CommitKeepsLists
-commit_keeps_lists opening steps s states slots lists places words t x h f l = record {
+commit_keeps_lists opening s states slots lists places words t x h f l = record {
   once = l.once;
   active = active_self s s' slots words le path s.active l.active;
   preparing = each_map (with_settled x.end) (IsPreparingListed s slots words) (IsPreparingListed s' slots words) (λ y o n. own_self s s' slots y.id le path (words_of y.history y.claims) (words y.id) (o (or_parts y.settled (y.end == x.end) n).0)) s.stamped l.preparing;
@@ -221,12 +222,12 @@ commit_keeps_lists opening steps s states slots lists places words t x h f l = r
     mine =
         let w = found_holds (IsPreparingListed s slots words) t s.stamped x f l.preparing in
         stand_self s s' slots t le path (words_now s t) (words t)
-        (subst (λ ws. StandAt s slots t ws (words t)) (sym (words_preparing opening steps s t x h.kept f))
+        (subst (λ ws. StandAt s slots t ws (words t)) (sym (words_preparing opening s t x h.kept f))
         (subst (λ (u : ℕ). StandAt s slots u (words_of x.history x.claims) (words u)) w.1 (w.0 w.2).stand))
 
 -- ---- the tale is trimmed, and a group is closed
 pub trim_keeps_lists : TrimKeepsLists
-trim_keeps_lists opening steps s states slots lists places words m h w l = record {
+trim_keeps_lists opening s states slots lists places words m h w l = record {
   once = l.once;
   active = active_self s s' slots words le path s.active l.active;
   preparing = each_filter (λ x. not (is_to m x)) (IsPreparingListed s' slots words) (IsPreparingListed s' slots words) (λ x _ o. o) s.stamped (preparing_self s s' slots words le path s.stamped l.preparing);
@@ -238,7 +239,7 @@ trim_keeps_lists opening steps s states slots lists places words m h w l = recor
     s' = after_trim s m
 
     same : (u : ℕ) → phase_in s' u ≡ phase_in s u
-    same u = sym (sym (h.kept.after_trace.phases u) ∙ (kept_trimmed opening steps s m w h.kept).after_trace.phases u)
+    same = phases_trimmed s m (may_trim s m w h.kept.sound)
 
     path : ends_in s' ≡ ends_in s
     path = λ i u. end_in (same u i)

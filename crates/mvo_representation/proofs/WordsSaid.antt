@@ -111,7 +111,7 @@ may_abort s table t same (inr p) = inr (p.0, sym same ∙ p.1)
 
 -- ---- as one draws its end or is aborted
 pub lists_are_written : ListsAreWritten
-lists_are_written opening steps s states slots lists places words t h m l = go (may_abort s (phases_of states) t (h.versions.phases t) m)
+lists_are_written opening s states slots lists places words t h m l = go (may_abort s (phases_of states) t (h.versions.phases t) m)
   where
     go : MayAbort (phase_in s) t → AreWrittenBy t slots (map (λ p. (number_at_word p).0) (words t))
     go (inl a) =
@@ -152,7 +152,7 @@ pub preparing_beside : (s : State) (slots : Slots) (lists lists' : WordLists) (t
 preparing_beside s slots lists lists' t ps now n h = each_both (λ x. x.settled ≡ false → x.id ≢ t) (IsPreparingListed s slots lists) (IsPreparingListed s slots lists') (λ x d o q. subst (HasOwnWords s slots x.id (words_of x.history x.claims)) (sym (now.others x.id (d q))) (o q)) s.stamped n h
 
 pub passing_keeps_lists : PassingKeepsLists
-passing_keeps_lists opening steps s states slots lists places words words' u p ps h e is silent now l = record {
+passing_keeps_lists opening s states slots lists places words words' u p ps h e is silent now l = record {
   once = λ t q n. once t q n (cases_eq t u.id);
   active = active_beside s slots words words' u.id ps now (ended_not_active s u.id u h.kept.single e) l.active;
   preparing = preparing_beside s slots words words' u.id ps now (ended_not_preparing s u.id u h.kept.single e) l.preparing;

@@ -57,7 +57,7 @@ not_active_ended s u t h e a i =
     w.0 (w.1 ∙ i)
 
 pub finished_is_alike : FinishedIsAlike
-finished_is_alike opening steps s states slots lists places u p v h e at name = record {
+finished_is_alike opening s states slots lists places u p v h e at name = record {
   begin = begin_alike (ends_of (phases_of states)) u.id p v mine;
   end = end_alike (ends_of (phases_of states)) u.id p v mine;
   active = λ t a. let d = not_active_ended s u t h.kept.single e (sym (h.versions.phases t) ∙ a) in Same a (begin_names (ends_of (phases_of states)) u.id t p v mine d) (end_names (ends_of (phases_of states)) u.id t p v mine d);
@@ -110,8 +110,8 @@ one_changed slots slots' n v w at now = subst (IsOneChanged v w (all_versions sl
     same m (inl i) = ap (λ (j : ℕ). slice_index_or (slice_set slots n (Some w)) j None) i ∙ get_or-set_same slots n (Some w) None (in_range slots n v at) ∙ sym (ap (λ (j : ℕ). slice_index_or slots' j None) i ∙ now.here)
     same m (inr d) = get_or-set_other slots n m (Some w) None d ∙ sym (now.others (number m) d)
 
-finished_versions : (opening : Map) (steps : List Step) (s : State) (states : States) (slots slots' : Slots) (lists : Lists) (places : Places) (u : EndedTx) (p : WordPlace) (v : Version) → VersionsStandFor opening steps s states slots lists places → ended_of u.id s.ended ≡ Some u → version_at slots (number_at_word p) ≡ Some v → names_at slots u.id p ≡ true → HaveNow slots slots' (number_at_word p).0 (finished (ends_of (phases_of states)) u.id p v) → AreVersionsOf s (phases_of states) (all_versions slots')
-finished_versions opening steps s states slots slots' lists places u p v h e at name now =
+finished_versions : (opening : Map) (s : State) (states : States) (slots slots' : Slots) (lists : Lists) (places : Places) (u : EndedTx) (p : WordPlace) (v : Version) → VersionsStandFor opening s states slots lists places → ended_of u.id s.ended ≡ Some u → version_at slots (number_at_word p) ≡ Some v → names_at slots u.id p ≡ true → HaveNow slots slots' (number_at_word p).0 (finished (ends_of (phases_of states)) u.id p v) → AreVersionsOf s (phases_of states) (all_versions slots')
+finished_versions opening s states slots slots' lists places u p v h e at name now =
     subst (AreVersionsOf s table) c.is (kept_word s table c.before v w c.after (subst (AreVersionsOf s table) (sym c.was) h.versions) (sym (row_stays (ends_of table) u.id p v))
     (record { stamp = sym (begin_alike (ends_of table) u.id p v mine); active = each_weaker (λ r. r.id ≢ u.id) (λ r. names r.id v.begin ≡ names r.id w.begin) (λ r d. sym (begin_names (ends_of table) u.id r.id p v mine d)) s.active apart })
     (record { stamp = sym (end_alike (ends_of table) u.id p v mine); active = each_weaker (λ r. r.id ≢ u.id) (λ r. names r.id v.end ≡ names r.id w.end) (λ r d. sym (end_names (ends_of table) u.id r.id p v mine d)) s.active apart })
@@ -168,9 +168,9 @@ places_alike v w old new places c row h = record {
 }
 
 pub finished_stands : FinishedStands
-finished_stands opening steps s states slots slots' lists places u p v h e at name now = record {
+finished_stands opening s states slots slots' lists places u p v h e at name now = record {
   kept = h.kept;
-  versions = finished_versions opening steps s states slots slots' lists places u p v h e at name now;
+  versions = finished_versions opening s states slots slots' lists places u p v h e at name now;
   numbers = numbers_alike slots slots' lists (number_at_word p).0 v (finished (ends_of (phases_of states)) u.id p v) at now (row_stays (ends_of (phases_of states)) u.id p v) h.numbers;
   order = places_alike v (finished (ends_of (phases_of states)) u.id p v) (all_versions slots) (all_versions slots') places (one_changed slots slots' (number_at_word p).0 v (finished (ends_of (phases_of states)) u.id p v) at now) (row_stays (ends_of (phases_of states)) u.id p v) h.order;
 }

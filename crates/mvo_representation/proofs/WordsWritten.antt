@@ -23,8 +23,8 @@ use Rattle.mvo_theory.specs.State.Word.{Own, Ended}
 use Rattle.mvo_theory.specs.Words.{end_on, end_word, words_by, words_of, words_without}
 use Rattle.mvo_theory.specs.Claims.{origin, ended_key, claims_with, claim_with, new_claim}
 use Rattle.mvo_theory.specs.Changes.{after_operation, after_answer, with_answer, taken_over}
-use Rattle.mvo_theory.specs.Claimed.{HasClaims}
-use Rattle.mvo_theory.specs.Calls.{IsKept}
+use Rattle.mvo_theory.specs.Origins.{AreWritten}
+use Rattle.mvo_shared.specs.Standing.{IsStanding}
 use Rattle.mvo_theory.specs.Phases.{phase_in, phase_by, ended_as}
 use Rattle.mvo_theory.specs.Sound.{how_many}
 use Rattle.mvo_theory.proofs.Cases.{found_is}
@@ -129,10 +129,10 @@ free_committed s t e (By y) p c = go (y.0 == t) refl
     go true q = absurd (none_cause (cause.Stamped (record { 0 = e })) (sym (ap (cause_of_phase y.0) (ap (phase_in s) (eqb-true y.0 t q) ∙ p)) ∙ c))
     go false q = q
 
-free_preparing : (opening : Map) (steps : List Step) (s : State) (slots : Slots) (w : Held) → IsKept opening steps s → IsKnown s (phase_in s) w → cause_at_end (phase_in s) w ≡ None → AllByRecursion (λ x. x.settled ≡ false → names x.id w ≡ false) s.stamped
-free_preparing opening steps s slots (At n) k i c = each_always (λ x. x.settled ≡ false → names x.id (At n) ≡ false) (λ x _. refl) s.stamped
-free_preparing opening steps s slots Infinity k i c = each_always (λ x. x.settled ≡ false → names x.id Infinity ≡ false) (λ x _. refl) s.stamped
-free_preparing opening steps s slots (By y) k i c = go (phase_in s y.0) refl c
+free_preparing : (opening : Map) (s : State) (slots : Slots) (w : Held) → IsStanding opening s → IsKnown s (phase_in s) w → cause_at_end (phase_in s) w ≡ None → AllByRecursion (λ x. x.settled ≡ false → names x.id w ≡ false) s.stamped
+free_preparing opening s slots (At n) k i c = each_always (λ x. x.settled ≡ false → names x.id (At n) ≡ false) (λ x _. refl) s.stamped
+free_preparing opening s slots Infinity k i c = each_always (λ x. x.settled ≡ false → names x.id Infinity ≡ false) (λ x _. refl) s.stamped
+free_preparing opening s slots (By y) k i c = go (phase_in s y.0) refl c
   where
     go : (p : Phase) → phase_in s y.0 ≡ p → cause_of_phase y.0 p ≡ None → AllByRecursion (λ x. x.settled ≡ false → names x.id (By y) ≡ false) s.stamped
     go Absent q g = absurd (i q)
@@ -146,7 +146,7 @@ numbers_push [] q = refl
 numbers_push (p ∷ ps) q = ap (λ ns. (number_at_word p).0 ∷ ns) (numbers_push ps q)
 
 -- ---- one that writes
-module _ (opening : Map) (steps : List Step) (s : State) (states : States) (slots : Slots) (lists : Lists) (places : Places) (words : WordLists) (r : ActiveTx) (h : VersionsStandFor opening steps s states slots lists places) (f : active_of r.id s.active ≡ Some r) (l : HasWordLists s slots words) where
+module _ (opening : Map) (s : State) (states : States) (slots : Slots) (lists : Lists) (places : Places) (words : WordLists) (r : ActiveTx) (h : VersionsStandFor opening s states slots lists places) (f : active_of r.id s.active ≡ Some r) (l : HasWordLists s slots words) where
   same_table : phases_of states ≡ phase_in s
   same_table = λ i t. h.versions.phases t i
 
@@ -326,7 +326,7 @@ module _ (opening : Map) (steps : List Step) (s : State) (states : States) (slot
       more_claims = ap (claims_with s r) key ∙ ap (λ (y : Option Effect). cond (is_some y) r.claims (r.claims ++ (record { key = v.row.key; origin = origin s r.id v.row.key }) ∷ [])) unwritten
 
       unclaimed : AllByRecursion (λ d. eq_by_cmp key_cmp v.row.key d.key ≡ false) r.claims
-      unclaimed = each_weaker (λ d. is_some (net_write d.key r.history) ≡ true) (λ d. eq_by_cmp key_cmp v.row.key d.key ≡ false) (λ d w. go d w (eq_by_cmp key_cmp v.row.key d.key) refl) r.claims (active_holds (λ q. HasClaims s.marks.opening steps q.id q.history q.claims) r.id s.active r f h.kept.claimed.active).0.written
+      unclaimed = each_weaker (λ d. is_some (net_write d.key r.history) ≡ true) (λ d. eq_by_cmp key_cmp v.row.key d.key ≡ false) (λ d w. go d w (eq_by_cmp key_cmp v.row.key d.key) refl) r.claims (active_holds (λ q. AreWritten q.history q.claims) r.id s.active r f h.kept.written.active).0
         where
           go : (d : Claim) → is_some (net_write d.key r.history) ≡ true → (b : Bool) → eq_by_cmp key_cmp v.row.key d.key ≡ b → eq_by_cmp key_cmp v.row.key d.key ≡ false
           go d w true e = absurd (false≢true (sym (ap is_some (ap (λ (k : RowKey). net_write k r.history) (key_same v.row.key d.key e) ∙ unwritten)) ∙ w))
@@ -350,7 +350,7 @@ module _ (opening : Map) (steps : List Step) (s : State) (states : States) (slot
       around_other between words' now list =
           end_around s s' slots between words words' r.id v n (omega arith) (path_taken c op a) at now list kept (words_of r.history r.claims) (Ended c) s.ended s'.ended
           free.unnamed
-          (free_preparing opening steps s slots v.end h.kept known.1 o.free)
+          (free_preparing opening s slots v.end h.kept known.1 o.free)
           (each_map {X = EndedTx} {Y = EndedTx} (λ u. record u { words = words_without c u.outcome u.words }) (λ u. u.id ≢ r.id) (λ u. u.id ≢ r.id) (λ u d. d) s.ended start.apart_ended)
           (each_map {X = EndedTx} {Y = EndedTx} (λ u. record u { words = words_without c u.outcome u.words }) (λ u. (u.id ≢ r.id) × (ended_of u.id s.ended ≡ Some u) × IsEndedListed s slots words u) (IsEndedListed s' between words') (λ u x. ended_one u x.0 x.1 x.2) s.ended
           (each_both (λ u. u.id ≢ r.id) (λ u. (ended_of u.id s.ended ≡ Some u) × IsEndedListed s slots words u) (λ u. (u.id ≢ r.id) × (ended_of u.id s.ended ≡ Some u) × IsEndedListed s slots words u) (λ u x y. (x, y.0, y.1)) s.ended start.apart_ended
@@ -386,9 +386,9 @@ module _ (opening : Map) (steps : List Step) (s : State) (states : States) (slot
 
 -- ---- the laws
 pub insert_keeps_lists : InsertKeepsLists
-insert_keeps_lists opening steps s states slots slots' lists places words words' r row n h f gone hole now list l =
-    inserted opening steps s states slots lists places words r h f l slots' words' row n hole now list
-    (insert_is_written opening steps s states slots slots' lists places r row n (map (λ p. (number_at_word p).0) (words r.id)) h f gone hole now (written opening steps s states slots lists places words r h f l))
+insert_keeps_lists opening s states slots slots' lists places words words' r row n h f gone hole now list l =
+    inserted opening s states slots lists places words r h f l slots' words' row n hole now list
+    (insert_is_written opening s states slots slots' lists places r row n (map (λ p. (number_at_word p).0) (words r.id)) h f gone hole now (written opening s states slots lists places words r h f l))
 
 -- the lists between the End and the Begin of an update
 abbrev between_lists : WordLists → ℕ → List WordPlace → WordLists
@@ -401,7 +401,7 @@ then_now : (words words' : WordLists) (t : ℕ) (ps : List WordPlace) (q : WordP
 then_now words words' t ps q list = record { others = λ u d. list.others u d ∙ sym ((between_now words t ps).others u d); here = list.here ∙ sym (ap (λ qs. qs ++ q ∷ []) (between_now words t ps).here) }
 
 pub delete_keeps_lists : DeleteKeepsLists
-delete_keeps_lists opening steps s states slots slots' lists places words words' r v n h f at may now list l = go (subst (λ (x : Phases). MayEnd s x r.id (all_versions slots) v) (same_table opening steps s states slots lists places words r h f l) may)
+delete_keeps_lists opening s states slots slots' lists places words words' r v n h f at may now list l = go (subst (λ (x : Phases). MayEnd s x r.id (all_versions slots) v) (same_table opening s states slots lists places words r h f l) may)
   where
     ps : List WordPlace
     ps = words r.id ++ End (number n) ∷ []
@@ -410,24 +410,24 @@ delete_keeps_lists opening steps s states slots slots' lists places words words'
     c = record { key = v.row.key; origin = origin s r.id v.row.key }
 
     w : AreWrittenBy r.id slots' (map (λ p. (number_at_word p).0) (words' r.id))
-    w = subst (AreWrittenBy r.id slots') (sym (ap (map (λ p. (number_at_word p).0)) list.here ∙ numbers_push (words r.id) (End (number n)))) (delete_is_written opening steps s states slots slots' lists places r v n (map (λ p. (number_at_word p).0) (words r.id)) h f at may now (written opening steps s states slots lists places words r h f l))
+    w = subst (AreWrittenBy r.id slots') (sym (ap (map (λ p. (number_at_word p).0)) list.here ∙ numbers_push (words r.id) (End (number n)))) (delete_is_written opening s states slots slots' lists places r v n (map (λ p. (number_at_word p).0) (words r.id)) h f at may now (written opening s states slots lists places words r h f l))
 
     go : MayEnd s (phase_in s) r.id (all_versions slots) v → HasWordLists (after_answer s r.id (Delete v.row.key) Deleted) slots' words'
-    go (IsOwn o) = subst (λ (x : Option Claim). HasWordLists (taken_over x (after_operation s r.id (Delete v.row.key) Deleted)) slots' words') (sym (no_claim opening steps s states slots lists places words r h f l v n at (Delete v.row.key) Deleted refl o))
-        (closed_plain opening steps s states slots lists places words r h f l slots' words' (Delete v.row.key) Deleted (words_of r.history r.claims ++ Own ∷ []) ps list
-        (around_own opening steps s states slots lists places words r h f l v n at (Delete v.row.key) Deleted refl o slots' words' now list)
+    go (IsOwn o) = subst (λ (x : Option Claim). HasWordLists (taken_over x (after_operation s r.id (Delete v.row.key) Deleted)) slots' words') (sym (no_claim opening s states slots lists places words r h f l v n at (Delete v.row.key) Deleted refl o))
+        (closed_plain opening s states slots lists places words r h f l slots' words' (Delete v.row.key) Deleted (words_of r.history r.claims ++ Own ∷ []) ps list
+        (around_own opening s states slots lists places words r h f l v n at (Delete v.row.key) Deleted refl o slots' words' now list)
         (told_own s r.id (Delete v.row.key) Deleted r refl
-        ∙ ap (λ cs. words_of r.history cs ++ words_by r.history (claims_with s r (Some v.row.key)) (Delete v.row.key) Deleted) (same_claims opening steps s states slots lists places words r h f l v n at (Delete v.row.key) Deleted refl o)
-        ∙ ap (λ (x : Word). words_of r.history r.claims ++ x ∷ []) (own_end opening steps s states slots lists places words r h f l v n at (Delete v.row.key) Deleted refl o)) w)
-    go (Other o) = subst (λ (x : Option Claim). HasWordLists (taken_over x (after_operation s r.id (Delete v.row.key) Deleted)) slots' words') (sym (one_claim opening steps s states slots lists places words r h f l v n at (Delete v.row.key) Deleted refl o))
-        (closed_taken opening steps s states slots lists places words r h f l c slots' words' (Delete v.row.key) Deleted (words_of r.history r.claims ++ Ended c ∷ []) ps list
-        (around_other opening steps s states slots lists places words r h f l v n at (Delete v.row.key) Deleted refl o slots' words' now list)
+        ∙ ap (λ cs. words_of r.history cs ++ words_by r.history (claims_with s r (Some v.row.key)) (Delete v.row.key) Deleted) (same_claims opening s states slots lists places words r h f l v n at (Delete v.row.key) Deleted refl o)
+        ∙ ap (λ (x : Word). words_of r.history r.claims ++ x ∷ []) (own_end opening s states slots lists places words r h f l v n at (Delete v.row.key) Deleted refl o)) w)
+    go (Other o) = subst (λ (x : Option Claim). HasWordLists (taken_over x (after_operation s r.id (Delete v.row.key) Deleted)) slots' words') (sym (one_claim opening s states slots lists places words r h f l v n at (Delete v.row.key) Deleted refl o))
+        (closed_taken opening s states slots lists places words r h f l c slots' words' (Delete v.row.key) Deleted (words_of r.history r.claims ++ Ended c ∷ []) ps list
+        (around_other opening s states slots lists places words r h f l v n at (Delete v.row.key) Deleted refl o slots' words' now list)
         (told_own s r.id (Delete v.row.key) Deleted r refl
-        ∙ ap (λ (ws : List Word). ws ++ words_by r.history (claims_with s r (Some v.row.key)) (Delete v.row.key) Deleted) (same_words opening steps s states slots lists places words r h f l v n at (Delete v.row.key) Deleted refl o)
-        ∙ ap (λ (x : Word). words_of r.history r.claims ++ x ∷ []) (claimed_end opening steps s states slots lists places words r h f l v n at (Delete v.row.key) Deleted refl o)) w)
+        ∙ ap (λ (ws : List Word). ws ++ words_by r.history (claims_with s r (Some v.row.key)) (Delete v.row.key) Deleted) (same_words opening s states slots lists places words r h f l v n at (Delete v.row.key) Deleted refl o)
+        ∙ ap (λ (x : Word). words_of r.history r.claims ++ x ∷ []) (claimed_end opening s states slots lists places words r h f l v n at (Delete v.row.key) Deleted refl o)) w)
 
 pub update_keeps_lists : UpdateKeepsLists
-update_keeps_lists opening steps s states slots between slots' lists places words words' r v row n m h f at key may ended hole now list l = go (subst (λ (x : Phases). MayEnd s x r.id (all_versions slots) v) (same_table opening steps s states slots lists places words r h f l) may)
+update_keeps_lists opening s states slots between slots' lists places words words' r v row n m h f at key may ended hole now list l = go (subst (λ (x : Phases). MayEnd s x r.id (all_versions slots) v) (same_table opening s states slots lists places words r h f l) may)
   where
     ps : List WordPlace
     ps = words r.id ++ End (number n) ∷ []
@@ -443,26 +443,26 @@ update_keeps_lists opening steps s states slots between slots' lists places word
 
     w : AreWrittenBy r.id slots' (map (λ p. (number_at_word p).0) (words' r.id))
     w = subst (AreWrittenBy r.id slots') (sym (ap (map (λ p. (number_at_word p).0)) list.here ∙ numbers_push ps (Begin (number m)) ∙ ap (λ ns. ns ++ m ∷ []) (numbers_push (words r.id) (End (number n)))))
-        (update_is_written opening steps s states slots between slots' lists places r v row n m (map (λ p. (number_at_word p).0) (words r.id)) h f at key may ended hole now (written opening steps s states slots lists places words r h f l))
+        (update_is_written opening s states slots between slots' lists places r v row n m (map (λ p. (number_at_word p).0) (words r.id)) h f at key may ended hole now (written opening s states slots lists places words r h f l))
 
     -- the End is that of the version's key
     word : (x : Word) → end_word r.history (claims_with s r (Some row.key)) v.row.key ≡ x → words_by r.history (claims_with s r (Some row.key)) (Update row) Updated ≡ x ∷ Own ∷ []
     word x e = ap (λ (k : RowKey). end_word r.history (claims_with s r (Some row.key)) k ∷ Own ∷ []) key ∙ ap (λ (y : Word). y ∷ Own ∷ []) e
 
     go : MayEnd s (phase_in s) r.id (all_versions slots) v → HasWordLists (after_answer s r.id (Update row) Updated) slots' words'
-    go (IsOwn o) = subst (λ (x : Option Claim). HasWordLists (taken_over x (after_operation s r.id (Update row) Updated)) slots' words') (sym (no_claim opening steps s states slots lists places words r h f l v n at (Update row) Updated key_of o))
-        (closed_plain opening steps s states slots lists places words r h f l slots' words' (Update row) Updated ((words_of r.history r.claims ++ Own ∷ []) ++ Own ∷ []) (ps ++ Begin (number m) ∷ []) list
-        (put_around s (after_operation s r.id (Update row) Updated) between slots' mid words' r.id row m hole now (ap (λ (x : Ends). x r.id) (path_told opening steps s states slots lists places words r h f l (Update row) Updated) ∙ ap end_in (is_active opening steps s states slots lists places words r h f l)) (then_now words words' r.id ps (Begin (number m)) list) (words_of r.history r.claims ++ Own ∷ []) s.ended
-        (around_own opening steps s states slots lists places words r h f l v n at (Update row) Updated key_of o between mid ended (between_now words r.id ps)))
+    go (IsOwn o) = subst (λ (x : Option Claim). HasWordLists (taken_over x (after_operation s r.id (Update row) Updated)) slots' words') (sym (no_claim opening s states slots lists places words r h f l v n at (Update row) Updated key_of o))
+        (closed_plain opening s states slots lists places words r h f l slots' words' (Update row) Updated ((words_of r.history r.claims ++ Own ∷ []) ++ Own ∷ []) (ps ++ Begin (number m) ∷ []) list
+        (put_around s (after_operation s r.id (Update row) Updated) between slots' mid words' r.id row m hole now (ap (λ (x : Ends). x r.id) (path_told opening s states slots lists places words r h f l (Update row) Updated) ∙ ap end_in (is_active opening s states slots lists places words r h f l)) (then_now words words' r.id ps (Begin (number m)) list) (words_of r.history r.claims ++ Own ∷ []) s.ended
+        (around_own opening s states slots lists places words r h f l v n at (Update row) Updated key_of o between mid ended (between_now words r.id ps)))
         (told_own s r.id (Update row) Updated r refl
-        ∙ ap (λ cs. words_of r.history cs ++ words_by r.history (claims_with s r (Some row.key)) (Update row) Updated) (same_claims opening steps s states slots lists places words r h f l v n at (Update row) Updated key_of o)
-        ∙ ap (λ ws. words_of r.history r.claims ++ ws) (word Own (own_end opening steps s states slots lists places words r h f l v n at (Update row) Updated key_of o))
+        ∙ ap (λ cs. words_of r.history cs ++ words_by r.history (claims_with s r (Some row.key)) (Update row) Updated) (same_claims opening s states slots lists places words r h f l v n at (Update row) Updated key_of o)
+        ∙ ap (λ ws. words_of r.history r.claims ++ ws) (word Own (own_end opening s states slots lists places words r h f l v n at (Update row) Updated key_of o))
         ∙ sym (append_assoc (words_of r.history r.claims) (Own ∷ []) (Own ∷ []))) w)
-    go (Other o) = subst (λ (x : Option Claim). HasWordLists (taken_over x (after_operation s r.id (Update row) Updated)) slots' words') (sym (one_claim opening steps s states slots lists places words r h f l v n at (Update row) Updated key_of o))
-        (closed_taken opening steps s states slots lists places words r h f l c slots' words' (Update row) Updated ((words_of r.history r.claims ++ Ended c ∷ []) ++ Own ∷ []) (ps ++ Begin (number m) ∷ []) list
-        (put_around s (taken_over (Some c) (after_operation s r.id (Update row) Updated)) between slots' mid words' r.id row m hole now (ap (λ (x : Ends). x r.id) (path_taken opening steps s states slots lists places words r h f l c (Update row) Updated) ∙ ap end_in (is_active opening steps s states slots lists places words r h f l)) (then_now words words' r.id ps (Begin (number m)) list) (words_of r.history r.claims ++ Ended c ∷ []) (taken_over (Some c) (after_operation s r.id (Update row) Updated)).ended
-        (around_other opening steps s states slots lists places words r h f l v n at (Update row) Updated key_of o between mid ended (between_now words r.id ps)))
+    go (Other o) = subst (λ (x : Option Claim). HasWordLists (taken_over x (after_operation s r.id (Update row) Updated)) slots' words') (sym (one_claim opening s states slots lists places words r h f l v n at (Update row) Updated key_of o))
+        (closed_taken opening s states slots lists places words r h f l c slots' words' (Update row) Updated ((words_of r.history r.claims ++ Ended c ∷ []) ++ Own ∷ []) (ps ++ Begin (number m) ∷ []) list
+        (put_around s (taken_over (Some c) (after_operation s r.id (Update row) Updated)) between slots' mid words' r.id row m hole now (ap (λ (x : Ends). x r.id) (path_taken opening s states slots lists places words r h f l c (Update row) Updated) ∙ ap end_in (is_active opening s states slots lists places words r h f l)) (then_now words words' r.id ps (Begin (number m)) list) (words_of r.history r.claims ++ Ended c ∷ []) (taken_over (Some c) (after_operation s r.id (Update row) Updated)).ended
+        (around_other opening s states slots lists places words r h f l v n at (Update row) Updated key_of o between mid ended (between_now words r.id ps)))
         (told_own s r.id (Update row) Updated r refl
-        ∙ ap (λ (ws : List Word). ws ++ words_by r.history (claims_with s r (Some row.key)) (Update row) Updated) (same_words opening steps s states slots lists places words r h f l v n at (Update row) Updated key_of o)
-        ∙ ap (λ ws. words_of r.history r.claims ++ ws) (word (Ended c) (claimed_end opening steps s states slots lists places words r h f l v n at (Update row) Updated key_of o))
+        ∙ ap (λ (ws : List Word). ws ++ words_by r.history (claims_with s r (Some row.key)) (Update row) Updated) (same_words opening s states slots lists places words r h f l v n at (Update row) Updated key_of o)
+        ∙ ap (λ ws. words_of r.history r.claims ++ ws) (word (Ended c) (claimed_end opening s states slots lists places words r h f l v n at (Update row) Updated key_of o))
         ∙ sym (append_assoc (words_of r.history r.claims) (Ended c ∷ []) (Own ∷ []))) w)

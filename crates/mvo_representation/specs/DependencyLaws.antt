@@ -17,7 +17,7 @@ use Rattle.mvo_theory.specs.Causes.{flag_of_active, flag_of_preparing, awaited, 
 use Rattle.mvo_theory.specs.Changes.{after_begin, after_answer, after_finish, after_trim, after_close}
 use Rattle.mvo_theory.specs.Steps.{after_precommit, after_validate, after_commit_now, after_abort}
 use Rattle.mvo_theory.specs.Words.{is_done}
-use Rattle.mvo_theory.specs.Calls.{IsKept}
+use Rattle.mvo_shared.specs.Standing.{IsStanding}
 use Rattle.mvo_txn.specs.declared.state.TxState.TheVariants.{Active, Preparing, Committed, Aborted}
 use Rattle.mvo_txn.specs.Txns as txns
 use Rattle.mvo_txn.specs.Txns.{Txns, no_txns, state_of, kept_of, IsPreparingState, IsUnended, IsEnded}
@@ -42,8 +42,8 @@ OpenedTable P = (rows : Map) (mark : ℕ)
 
 -- a transaction begins that depends on nobody
 abbrev pub BeginInTable : Type 0 → Type 0
-BeginInTable P = (opening : Map) (steps : List Step) (s : State) (old : Txns (Node P))
-    (node : Node P) → IsKept opening steps s → HasDependencies s old
+BeginInTable P = (opening : Map) (s : State) (old : Txns (Node P))
+    (node : Node P) → IsStanding opening s → HasDependencies s old
     → node.dependencies ≡ no_dependencies
     → HasDependencies (after_begin s (s.clock + 1)) (txns.table_after_begin old node)
 
@@ -56,32 +56,32 @@ WriteInTable P = (s : State) (old : Txns (Node P)) (t : ℕ) (node written : Nod
 
 -- an operation is answered, and those are registered on whom it lets the transaction depend
 abbrev pub AnswerInTable : Type 0 → Type 0
-AnswerInTable P = (opening : Map) (steps : List Step) (s : State) (old : Txns (Node P))
+AnswerInTable P = (opening : Map) (s : State) (old : Txns (Node P))
     (t : TxId) (op : Op) (a : AnswerData) (r : ActiveTx) (ids : List TxId)
-    → IsKept opening steps s → HasDependencies s old → active_of t.0 s.active ≡ Some r
+    → IsStanding opening s → HasDependencies s old → active_of t.0 s.active ≡ Some r
     → AreDependencies s op r ids
     → HasDependencies (after_answer s t.0 op a) (after_register_all old t ids)
 
 -- those are whom the rules name at the key of an operation
 abbrev pub KeyNames : Type 0
-KeyNames = (opening : Map) (steps : List Step) (s : State) (states : States) (slots : Slots)
+KeyNames = (opening : Map) (s : State) (states : States) (slots : Slots)
     (lists : Lists) (places : Places) (t : ℕ) (op : Op) (r : ActiveTx) (k : RowKey)
-    → VersionsStandFor opening steps s states slots lists places → active_of t s.active ≡ Some r
+    → VersionsStandFor opening s states slots lists places → active_of t s.active ≡ Some r
     → entry_of op ≡ Key k → AreDependencies s op r (named_ids (named_at states slots lists t k))
 
 -- and of a scan, whom they name at the keys that it meets
 abbrev pub ScanNames : Type 0
-ScanNames = (opening : Map) (steps : List Step) (s : State) (states : States) (slots : Slots)
+ScanNames = (opening : Map) (s : State) (states : States) (slots : Slots)
     (lists : Lists) (places : Places) (t : ℕ) (r : ActiveTx) (table lo hi : ℕ)
     (ids : List TxId)
-    → VersionsStandFor opening steps s states slots lists places → active_of t s.active ≡ Some r
+    → VersionsStandFor opening s states slots lists places → active_of t s.active ≡ Some r
     → AreNamedByScan s states slots lists t table lo hi ids
     → AreDependencies s (Scan table lo hi) r ids
 
 -- an Active transaction draws its end
 abbrev pub PrecommitInTable : Type 0 → Type 0
-PrecommitInTable P = (opening : Map) (steps : List Step) (s : State) (old : Txns (Node P))
-    (t : ℕ) → IsKept opening steps s → HasDependencies s old → state_of old t ≡ Some Active
+PrecommitInTable P = (opening : Map) (s : State) (old : Txns (Node P))
+    (t : ℕ) → IsStanding opening s → HasDependencies s old → state_of old t ≡ Some Active
     → HasDependencies (after_precommit s t) (txns.table_after_prepare old t)
 
 -- a check changes nothing
@@ -91,9 +91,9 @@ CheckInTable P = (s : State) (old : Txns (Node P)) (t : ℕ)
 
 -- a Preparing transaction is committed in the table, and then reported
 abbrev pub CommitInTable : Type 0 → Type 0
-CommitInTable P = (opening : Map) (steps : List Step) (s : State)
+CommitInTable P = (opening : Map) (s : State)
     (old untold new : Txns (Node P)) (t : TxId) (end : Stamp)
-    → IsKept opening steps s → HasDependencies s old
+    → IsStanding opening s → HasDependencies s old
     → state_of old t.0 ≡ Some (Preparing end)
     → untold ≡ txns.table_after_change old t.0 (Committed end)
     → IsReported deps.after_dependency_commit untold new t → KeepsGraphAtCommit untold new t
@@ -101,9 +101,9 @@ CommitInTable P = (opening : Map) (steps : List Step) (s : State)
 
 -- an Active or a Preparing transaction is aborted in the table, and then reported
 abbrev pub AbortInTable : Type 0 → Type 0
-AbortInTable P = (opening : Map) (steps : List Step) (s : State)
+AbortInTable P = (opening : Map) (s : State)
     (old untold new : Txns (Node P)) (t : TxId)
-    → IsKept opening steps s → HasDependencies s old → IsUnended (state_of old t.0)
+    → IsStanding opening s → HasDependencies s old → IsUnended (state_of old t.0)
     → untold ≡ txns.table_after_change old t.0 Aborted
     → IsReported (deps.after_dependency_abort t) untold new t → KeepsGraphAtAbort untold new t
     → HasDependencies (after_abort s t.0) new
@@ -115,14 +115,14 @@ WordInTable P = (s : State) (old : Txns (Node P)) (t : ℕ)
 
 -- after its last word a Committed or Aborted transaction leaves
 abbrev pub LeaveInTable : Type 0 → Type 0
-LeaveInTable P = (opening : Map) (steps : List Step) (s : State) (old : Txns (Node P)) (t : ℕ)
-    → IsKept opening steps s → HasDependencies s old → IsEnded (state_of old t)
+LeaveInTable P = (opening : Map) (s : State) (old : Txns (Node P)) (t : ℕ)
+    → IsStanding opening s → HasDependencies s old → IsEnded (state_of old t)
     → is_done s t ≡ true → HasDependencies (after_finish s t) (txns.after_terminate old t)
 
 -- a trim of the tale, and a group that is closed, change nothing
 abbrev pub TrimInTable : Type 0 → Type 0
-TrimInTable P = (opening : Map) (steps : List Step) (s : State) (old : Txns (Node P)) (m : ℕ)
-    → IsKept opening steps s → HasDependencies s old → why_not_trim s m ≡ None
+TrimInTable P = (opening : Map) (s : State) (old : Txns (Node P)) (m : ℕ)
+    → IsStanding opening s → HasDependencies s old → why_not_trim s m ≡ None
     → HasDependencies (after_trim s m) old
 
 abbrev pub CloseInTable : Type 0 → Type 0
@@ -145,16 +145,16 @@ TellsFlagOfPreparing P = (s : State) (table : Txns (Node P)) (t : ℕ)
 
 -- who has the least end of the Preparing ones on whom a Preparing one depends is awaited by it
 abbrev pub TellsAwaited : Type 0 → Type 0
-TellsAwaited P = (opening : Map) (steps : List Step) (s : State) (table : Txns (Node P))
+TellsAwaited P = (opening : Map) (s : State) (table : Txns (Node P))
     (t : TxId) (whom : Option TxId)
-    → IsKept opening steps s → HasDependencies s table → IsPreparingState (state_of table t.0)
+    → IsStanding opening s → HasDependencies s table → IsPreparingState (state_of table t.0)
     → MatchOption whom (HasNoneOpen table (data_of table t).on)
     (IsLeastOpen table (data_of table t).on)
     → option_map (λ id. id.0) whom ≡ option_map (λ x. x.id) (awaited s t.0)
 
 -- and it waits for somebody where its counter isn't 0
 abbrev pub CountsAwaited : Type 0 → Type 0
-CountsAwaited P = (opening : Map) (steps : List Step) (s : State) (table : Txns (Node P))
-    (t : TxId) → IsKept opening steps s → HasDependencies s table
+CountsAwaited P = (opening : Map) (s : State) (table : Txns (Node P))
+    (t : TxId) → IsStanding opening s → HasDependencies s table
     → IsPreparingState (state_of table t.0)
     → is_some (awaited s t.0) ≡ nat_lt 0 (data_of table t).unsettled

@@ -13,7 +13,8 @@ use Rattle.mvo_theory.specs.Ranges.{shows, is_row_of}
 use Rattle.mvo_theory.specs.Dependencies.{dependencies, counts_for}
 use Rattle.mvo_theory.specs.Phases.{phase_in}
 use Rattle.mvo_theory.specs.Causes.{change_of, conflict}
-use Rattle.mvo_theory.specs.Calls.{Call, Result, IsKept, MayCome, after_call}
+use Rattle.mvo_theory.specs.Calls.{Call, Result, MayCome, after_call}
+use Rattle.mvo_shared.specs.Standing.{IsStanding}
 use Rattle.mvo_chain.specs.declared.version.Version.{Version}
 use Rattle.mvo_chain.specs.declared.version.VersionNo.{VersionNo}
 use Rattle.mvo_chain.specs.Slots.{Slots, version_at}
@@ -35,9 +36,9 @@ use Rattle.mvo_representation.specs.Steps.{MayEnd, IsAfterCall}
 use Rattle.mvo_representation.specs.Table.{phases_of, content_shown, place_with, end_awaited, IsShown}
 
 -- What a core has stands for a state that its steps lead to.
-pub record VersionsStandFor (opening : Map) (steps : List Step) (s : State) (states : States)
+pub record VersionsStandFor (opening : Map) (s : State) (states : States)
     (slots : Slots) (lists : Lists) (places : Places) : Type 0 where
-  pub kept : IsKept opening steps s
+  pub kept : IsStanding opening s
   pub versions : AreVersionsOf s (phases_of states) (all_versions slots)
   pub numbers : HasNumbers slots lists
   pub order : HasPlaces (all_versions slots) places
@@ -49,51 +50,51 @@ OpensSo = (rows : Map) (mark : ℕ)
 
 -- Each call, whatever it comes to, keeps the versions those of the state.
 abbrev pub EachCallKeeps : Type 0
-EachCallKeeps = (opening : Map) (steps : List Step) (s : State) (c : Call) (r : Result)
-    (old new : List Version) → IsKept opening steps s → MayCome s c r
+EachCallKeeps = (opening : Map) (s : State) (c : Call) (r : Result)
+    (old new : List Version) → IsStanding opening s → MayCome s c r
     → AreVersionsOf s (phase_in s) old → IsAfterCall s (phase_in s) c r old new
     → AreVersionsOf (after_call s c r) (phase_in (after_call s c r)) new
 
 -- What an Active transaction is shown is what its snapshot has.
 abbrev pub ShowsSnapshot : Type 0
-ShowsSnapshot = (opening : Map) (steps : List Step) (s : State) (states : States) (slots : Slots)
+ShowsSnapshot = (opening : Map) (s : State) (states : States) (slots : Slots)
     (lists : Lists) (places : Places) (r : ActiveTx) (k : RowKey)
-    → VersionsStandFor opening steps s states slots lists places → active_of r.id s.active ≡ Some r
+    → VersionsStandFor opening s states slots lists places → active_of r.id s.active ≡ Some r
     → content_shown slots (shown_to states r.id r.id (versions_at slots lists k)).version
     ≡ fin.get (snapshot s r.id) k
 
 -- It depends then on whom the rule names, and on no other.
 abbrev pub DependsSo : Type 0
-DependsSo = (opening : Map) (steps : List Step) (s : State) (states : States) (slots : Slots)
+DependsSo = (opening : Map) (s : State) (states : States) (slots : Slots)
     (lists : Lists) (places : Places) (op : Op) (r : ActiveTx) (k : RowKey)
-    → VersionsStandFor opening steps s states slots lists places → active_of r.id s.active ≡ Some r
+    → VersionsStandFor opening s states slots lists places → active_of r.id s.active ≡ Some r
     → entry_of op ≡ Key k → dependencies s op r
     ≡ with_open r.depends_on
     (end_awaited states (shown_to states r.id r.id (versions_at slots lists k)).depends_on)
 
 -- The version that is shown stands there, and it is the transaction's own newest one or another's.
 abbrev pub ShownIsThere : Type 0
-ShownIsThere = (opening : Map) (steps : List Step) (s : State) (states : States) (slots : Slots)
+ShownIsThere = (opening : Map) (s : State) (states : States) (slots : Slots)
     (lists : Lists) (places : Places) (r : ActiveTx) (k : RowKey) (number : VersionNo)
-    → VersionsStandFor opening steps s states slots lists places → active_of r.id s.active ≡ Some r
+    → VersionsStandFor opening s states slots lists places → active_of r.id s.active ≡ Some r
     → (shown_to states r.id r.id (versions_at slots lists k)).version ≡ Some number
     → IsShown s states slots r.id k number
 
 -- Where its End tells no cause, the transaction may end it.
 abbrev pub FreeMayBeEnded : Type 0
-FreeMayBeEnded = (opening : Map) (steps : List Step) (s : State) (states : States) (slots : Slots)
+FreeMayBeEnded = (opening : Map) (s : State) (states : States) (slots : Slots)
     (lists : Lists) (places : Places) (r : ActiveTx) (k : RowKey) (number : VersionNo)
-    → VersionsStandFor opening steps s states slots lists places → active_of r.id s.active ≡ Some r
+    → VersionsStandFor opening s states slots lists places → active_of r.id s.active ≡ Some r
     → (shown : IsShown s states slots r.id k number)
     → cause_of states r.id shown.version.end ≡ None
     → MayEnd s (phases_of states) r.id (all_versions slots) shown.version
 
 -- The End of another's version that is shown tells the state's cause.
 abbrev pub TellsCause : Type 0
-TellsCause = (opening : Map) (steps : List Step) (s : State) (states : States) (slots : Slots)
+TellsCause = (opening : Map) (s : State) (states : States) (slots : Slots)
     (lists : Lists) (places : Places) (r : ActiveTx) (number : VersionNo) (v : Version)
     (stamp : ℕ)
-    → VersionsStandFor opening steps s states slots lists places → active_of r.id s.active ≡ Some r
+    → VersionsStandFor opening s states slots lists places → active_of r.id s.active ≡ Some r
     → version_at slots number ≡ Some v
     → net_write v.row.key (history_of_active r.id s.active) ≡ None
     → IsShownAt (ends_of (phases_of states)) r.id v.row.key (all_versions slots) v stamp
@@ -101,25 +102,25 @@ TellsCause = (opening : Map) (steps : List Step) (s : State) (states : States) (
 
 -- What the check of an entry names, between a begin and an end, is what the state names.
 abbrev pub NamesChange : Type 0
-NamesChange = (opening : Map) (steps : List Step) (s : State) (states : States) (slots : Slots)
+NamesChange = (opening : Map) (s : State) (states : States) (slots : Slots)
     (lists : Lists) (places : Places) (begin end' : ℕ) (entry : Entry)
-    → VersionsStandFor opening steps s states slots lists places → s.start ≤ begin → begin < end'
+    → VersionsStandFor opening s states slots lists places → s.start ≤ begin → begin < end'
     → stamp_between begin end' (changes_of states (versions_in slots lists places entry))
     ≡ change_of s.stamped begin end' entry
 
 -- Each row of a snapshot has its place in the ordered index.
 abbrev pub RowsArePlaced : Type 0
-RowsArePlaced = (opening : Map) (steps : List Step) (s : State) (states : States) (slots : Slots)
+RowsArePlaced = (opening : Map) (s : State) (states : States) (slots : Slots)
     (lists : Lists) (places : Places) (r : ActiveTx) (k : RowKey) (h : ContentData)
-    → VersionsStandFor opening steps s states slots lists places → active_of r.id s.active ≡ Some r
+    → VersionsStandFor opening s states slots lists places → active_of r.id s.active ≡ Some r
     → fin.get (snapshot s r.id) k ≡ Some h → is_some (fin.get places (place_with k h)) ≡ true
 
 -- A scan meets just the keys that count for it.
 abbrev pub MeetsWhatCounts : Type 0
-MeetsWhatCounts = (opening : Map) (steps : List Step) (s : State) (states : States)
+MeetsWhatCounts = (opening : Map) (s : State) (states : States)
     (slots : Slots) (lists : Lists) (places : Places) (r : ActiveTx) (table lo hi : ℕ)
     (q : RowKey)
-    → VersionsStandFor opening steps s states slots lists places → active_of r.id s.active ≡ Some r
+    → VersionsStandFor opening s states slots lists places → active_of r.id s.active ≡ Some r
     → is_met (ends_of (phases_of states)) s.start r.id
     (is_row_of (shows (Range table lo hi)) q) (all_versions slots)
     ≡ counts_for (Range table lo hi) q r.id s.base s.stamped

@@ -33,8 +33,8 @@ use Rattle.mvo_representation.specs.Order.{AllStandInOrder, with_fronts, comes_f
 -- ---- what follows
 -- Versions that stand in order have falling stamps, as a walk over them asks.
 abbrev pub OrderFalls : Type 0
-OrderFalls = (opening : Map) (steps : List Step) (s : State) (states : States) (slots : Slots)
-    (lists : Lists) (places : Places) → VersionsStandFor opening steps s states slots lists places
+OrderFalls = (opening : Map) (s : State) (states : States) (slots : Slots)
+    (lists : Lists) (places : Places) → VersionsStandFor opening s states slots lists places
     → AllStandInOrder s.start states slots lists → AllHaveFallingStamps states slots lists
 
 -- What an Active transaction wrote stands in front of each put that is settled below its begin.
@@ -63,18 +63,18 @@ ChangedIsNow = (slots : Slots) (number : VersionNo) (v : Version) (change : Vers
 
 -- An insert that is told inserted puts a new version in front.
 abbrev pub InsertKeepsOrder : Type 0
-InsertKeepsOrder = (opening : Map) (steps : List Step) (s : State) (states : States)
+InsertKeepsOrder = (opening : Map) (s : State) (states : States)
     (slots slots' : Slots) (lists : Lists) (places : Places) (r : ActiveTx) (row : RowData) (n : ℕ)
-    → VersionsStandFor opening steps s states slots lists places → active_of r.id s.active ≡ Some r
+    → VersionsStandFor opening s states slots lists places → active_of r.id s.active ≡ Some r
     → fin.get (snapshot s r.id) row.key ≡ None → IsNewNumber lists n
     → HaveNow slots slots' n (fresh r.id row) → AllStandInOrder s.start states slots lists
     → AllStandInOrder s.start states slots' (with_new lists row.key n)
 
 -- A delete ends a version that its transaction may end.
 abbrev pub DeleteKeepsOrder : Type 0
-DeleteKeepsOrder = (opening : Map) (steps : List Step) (s : State) (states : States)
+DeleteKeepsOrder = (opening : Map) (s : State) (states : States)
     (slots slots' : Slots) (lists : Lists) (places : Places) (r : ActiveTx) (v : Version) (n : ℕ)
-    → VersionsStandFor opening steps s states slots lists places → active_of r.id s.active ≡ Some r
+    → VersionsStandFor opening s states slots lists places → active_of r.id s.active ≡ Some r
     → version_at slots (number n) ≡ Some v
     → MayEnd s (phases_of states) r.id (all_versions slots) v
     → HaveNow slots slots' n (ended_by r.id v) → AllStandInOrder s.start states slots lists
@@ -82,10 +82,10 @@ DeleteKeepsOrder = (opening : Map) (steps : List Step) (s : State) (states : Sta
 
 -- An update ends such a version of the row's key, and puts a new one in front.
 abbrev pub UpdateKeepsOrder : Type 0
-UpdateKeepsOrder = (opening : Map) (steps : List Step) (s : State) (states : States)
+UpdateKeepsOrder = (opening : Map) (s : State) (states : States)
     (slots between slots' : Slots) (lists : Lists) (places : Places) (r : ActiveTx) (v : Version)
     (row : RowData) (n m : ℕ)
-    → VersionsStandFor opening steps s states slots lists places → active_of r.id s.active ≡ Some r
+    → VersionsStandFor opening s states slots lists places → active_of r.id s.active ≡ Some r
     → version_at slots (number n) ≡ Some v → row.key ≡ v.row.key
     → MayEnd s (phases_of states) r.id (all_versions slots) v
     → HaveNow slots between n (ended_by r.id v)
@@ -97,9 +97,9 @@ UpdateKeepsOrder = (opening : Map) (steps : List Step) (s : State) (states : Sta
 -- As a transaction draws its end, what it put, and what it ended whose put has no stamp, comes to
 -- the front, in the order of writing.
 abbrev pub DrawKeepsOrder : Type 0
-DrawKeepsOrder = (opening : Map) (steps : List Step) (s : State) (states states' : States)
+DrawKeepsOrder = (opening : Map) (s : State) (states states' : States)
     (slots : Slots) (lists : Lists) (places : Places) (t : ℕ) (end' : Stamp) (ns : List ℕ)
-    → VersionsStandFor opening steps s states slots lists places → states t ≡ Some Active
+    → VersionsStandFor opening s states slots lists places → states t ≡ Some Active
     → DifferAt t states states' → states' t ≡ Some (Preparing end') → end'.0 ≡ s.clock + 1
     → AreWrittenBy t slots ns → AllStandInOrder s.start states slots lists
     → AllStandInOrder s.start states' slots
@@ -118,9 +118,9 @@ UnstampedIsUnseen = (states : States) (w : Held)
 
 -- As an Active or Preparing one is aborted, what it put comes to the front.
 abbrev pub AbortBringsOrder : Type 0
-AbortBringsOrder = (opening : Map) (steps : List Step) (s : State) (states states' : States)
+AbortBringsOrder = (opening : Map) (s : State) (states states' : States)
     (slots : Slots) (lists : Lists) (places : Places) (t : ℕ) (ns : List ℕ)
-    → VersionsStandFor opening steps s states slots lists places → MayAbort (phases_of states) t
+    → VersionsStandFor opening s states slots lists places → MayAbort (phases_of states) t
     → DifferAt t states states' → states' t ≡ Some Aborted → AreWrittenBy t slots ns
     → AllStandInOrder s.start states slots lists
     → AllStandInOrder s.start states' slots (with_fronts (is_put_by t) slots lists ns)
@@ -142,9 +142,9 @@ SameStayInOrder = (start : ℕ) (states states' : States) (slots slots' : Slots)
 
 -- A transaction begins.
 abbrev pub BeginKeepsOrder : Type 0
-BeginKeepsOrder = (opening : Map) (steps : List Step) (s : State) (states states' : States)
+BeginKeepsOrder = (opening : Map) (s : State) (states states' : States)
     (slots : Slots) (lists : Lists) (places : Places) (t : ℕ)
-    → VersionsStandFor opening steps s states slots lists places → states t ≡ None
+    → VersionsStandFor opening s states slots lists places → states t ≡ None
     → DifferAt t states states' → states' t ≡ Some Active
     → AllStandInOrder s.start states slots lists → AllStandInOrder s.start states' slots lists
 
@@ -164,9 +164,9 @@ LeavingKeepsOrder = (start : ℕ) (states states' : States) (slots : Slots) (lis
 
 -- The start of the tale moves on.
 abbrev pub TrimKeepsOrder : Type 0
-TrimKeepsOrder = (opening : Map) (steps : List Step) (s : State) (states : States) (slots : Slots)
+TrimKeepsOrder = (opening : Map) (s : State) (states : States) (slots : Slots)
     (lists : Lists) (places : Places) (m : ℕ)
-    → VersionsStandFor opening steps s states slots lists places → why_not_trim s m ≡ None
+    → VersionsStandFor opening s states slots lists places → why_not_trim s m ≡ None
     → AllStandInOrder s.start states slots lists → AllStandInOrder m states slots lists
 
 -- A version of a key is removed, or the slot of a number that no key has changes.

@@ -42,18 +42,18 @@ OpeningHasLists = (rows : Map) (mark : ℕ) (states : States) (slots : Slots)
 
 -- Who begins has an empty one.
 abbrev pub BeginKeepsLists : Type 0
-BeginKeepsLists = (opening : Map) (steps : List Step) (s : State) (states : States)
+BeginKeepsLists = (opening : Map) (s : State) (states : States)
     (slots : Slots) (lists : Lists) (places : Places) (words : WordLists)
-    → VersionsStandFor opening steps s states slots lists places → HasWordLists s slots words
+    → VersionsStandFor opening s states slots lists places → HasWordLists s slots words
     → HasWordLists (after_begin s (s.clock + 1)) slots words
 
 -- ---- an operation
 -- An insert that is told inserted adds the Begin of its version.
 abbrev pub InsertKeepsLists : Type 0
-InsertKeepsLists = (opening : Map) (steps : List Step) (s : State) (states : States)
+InsertKeepsLists = (opening : Map) (s : State) (states : States)
     (slots slots' : Slots) (lists : Lists) (places : Places) (words words' : WordLists)
     (r : ActiveTx) (row : RowData) (n : ℕ)
-    → VersionsStandFor opening steps s states slots lists places → active_of r.id s.active ≡ Some r
+    → VersionsStandFor opening s states slots lists places → active_of r.id s.active ≡ Some r
     → fin.get (snapshot s r.id) row.key ≡ None → version_at slots (number n) ≡ None
     → HaveNow slots slots' n (fresh r.id row)
     → HaveListNow words words' r.id (words r.id ++ Begin (number n) ∷ [])
@@ -62,10 +62,10 @@ InsertKeepsLists = (opening : Map) (steps : List Step) (s : State) (states : Sta
 
 -- A delete adds the End of the version that it ends.
 abbrev pub DeleteKeepsLists : Type 0
-DeleteKeepsLists = (opening : Map) (steps : List Step) (s : State) (states : States)
+DeleteKeepsLists = (opening : Map) (s : State) (states : States)
     (slots slots' : Slots) (lists : Lists) (places : Places) (words words' : WordLists)
     (r : ActiveTx) (v : Version) (n : ℕ)
-    → VersionsStandFor opening steps s states slots lists places → active_of r.id s.active ≡ Some r
+    → VersionsStandFor opening s states slots lists places → active_of r.id s.active ≡ Some r
     → version_at slots (number n) ≡ Some v
     → MayEnd s (phases_of states) r.id (all_versions slots) v
     → HaveNow slots slots' n (ended_by r.id v)
@@ -75,10 +75,10 @@ DeleteKeepsLists = (opening : Map) (steps : List Step) (s : State) (states : Sta
 
 -- An update adds the End of the version that it ends, and then the Begin of its own.
 abbrev pub UpdateKeepsLists : Type 0
-UpdateKeepsLists = (opening : Map) (steps : List Step) (s : State) (states : States)
+UpdateKeepsLists = (opening : Map) (s : State) (states : States)
     (slots between slots' : Slots) (lists : Lists) (places : Places) (words words' : WordLists)
     (r : ActiveTx) (v : Version) (row : RowData) (n m : ℕ)
-    → VersionsStandFor opening steps s states slots lists places → active_of r.id s.active ≡ Some r
+    → VersionsStandFor opening s states slots lists places → active_of r.id s.active ≡ Some r
     → version_at slots (number n) ≡ Some v → row.key ≡ v.row.key
     → MayEnd s (phases_of states) r.id (all_versions slots) v
     → HaveNow slots between n (ended_by r.id v)
@@ -90,18 +90,18 @@ UpdateKeepsLists = (opening : Map) (steps : List Step) (s : State) (states : Sta
 
 -- An answer that writes nothing leaves the lists.
 abbrev pub AnswerKeepsLists : Type 0
-AnswerKeepsLists = (opening : Map) (steps : List Step) (s : State) (states : States)
+AnswerKeepsLists = (opening : Map) (s : State) (states : States)
     (slots : Slots) (lists : Lists) (places : Places) (words : WordLists) (r : ActiveTx) (op : Op)
     (a : AnswerData)
-    → VersionsStandFor opening steps s states slots lists places → active_of r.id s.active ≡ Some r
+    → VersionsStandFor opening s states slots lists places → active_of r.id s.active ≡ Some r
     → write_of op a ≡ None → HasWordLists s slots words
     → HasWordLists (after_answer s r.id op a) slots words
 
 -- ---- precommit, a check, a commit and an abort
 abbrev pub PrecommitKeepsLists : Type 0
-PrecommitKeepsLists = (opening : Map) (steps : List Step) (s : State) (states : States)
+PrecommitKeepsLists = (opening : Map) (s : State) (states : States)
     (slots : Slots) (lists : Lists) (places : Places) (words : WordLists) (r : ActiveTx)
-    → VersionsStandFor opening steps s states slots lists places → active_of r.id s.active ≡ Some r
+    → VersionsStandFor opening s states slots lists places → active_of r.id s.active ≡ Some r
     → HasWordLists s slots words → HasWordLists (after_prepare s r (s.clock + 1)) slots words
 
 abbrev pub CheckKeepsLists : Type 0
@@ -109,24 +109,24 @@ CheckKeepsLists = (s : State) (slots : Slots) (words : WordLists) (t : ℕ)
     → HasWordLists s slots words → HasWordLists (after_validate s t) slots words
 
 abbrev pub CommitKeepsLists : Type 0
-CommitKeepsLists = (opening : Map) (steps : List Step) (s : State) (states : States)
+CommitKeepsLists = (opening : Map) (s : State) (states : States)
     (slots : Slots) (lists : Lists) (places : Places) (words : WordLists) (t : ℕ) (x : StampedTx)
-    → VersionsStandFor opening steps s states slots lists places → preparing_of t s.stamped ≡ Some x
+    → VersionsStandFor opening s states slots lists places → preparing_of t s.stamped ≡ Some x
     → HasWordLists s slots words → HasWordLists (after_commit s t x.end) slots words
 
 abbrev pub AbortKeepsLists : Type 0
-AbortKeepsLists = (opening : Map) (steps : List Step) (s : State) (states : States)
+AbortKeepsLists = (opening : Map) (s : State) (states : States)
     (slots : Slots) (lists : Lists) (places : Places) (words : WordLists) (t : ℕ)
-    → VersionsStandFor opening steps s states slots lists places → MayAbort (phases_of states) t
+    → VersionsStandFor opening s states slots lists places → MayAbort (phases_of states) t
     → HasWordLists s slots words → HasWordLists (after_abort s t) slots words
 
 -- ---- finishing
 -- A first place that doesn't name its ended transaction is passed over.
 abbrev pub PassingKeepsLists : Type 0
-PassingKeepsLists = (opening : Map) (steps : List Step) (s : State) (states : States)
+PassingKeepsLists = (opening : Map) (s : State) (states : States)
     (slots : Slots) (lists : Lists) (places : Places) (words words' : WordLists) (u : EndedTx)
     (p : WordPlace) (ps : List WordPlace)
-    → VersionsStandFor opening steps s states slots lists places → ended_of u.id s.ended ≡ Some u
+    → VersionsStandFor opening s states slots lists places → ended_of u.id s.ended ≡ Some u
     → words u.id ≡ p ∷ ps → names_at slots u.id p ≡ false → HaveListNow words words' u.id ps
     → HasWordLists s slots words → HasWordLists s slots words'
 
@@ -138,10 +138,10 @@ DoneIsSeen = (s : State) (slots : Slots) (words : WordLists) (u : EndedTx)
 
 -- The first place names it, and others do: its word is finished, and the place goes.
 abbrev pub FinishKeepsLists : Type 0
-FinishKeepsLists = (opening : Map) (steps : List Step) (s : State) (states : States)
+FinishKeepsLists = (opening : Map) (s : State) (states : States)
     (slots slots' : Slots) (lists : Lists) (places : Places) (words words' : WordLists)
     (u : EndedTx) (p : WordPlace) (ps : List WordPlace) (v : Version)
-    → VersionsStandFor opening steps s states slots lists places → ended_of u.id s.ended ≡ Some u
+    → VersionsStandFor opening s states slots lists places → ended_of u.id s.ended ≡ Some u
     → words u.id ≡ p ∷ ps → version_at slots (number_at_word p) ≡ Some v
     → names_at slots u.id p ≡ true → is_done s u.id ≡ false
     → HaveNow slots slots' (number_at_word p).0 (finished (ends_of (phases_of states)) u.id p v)
@@ -159,10 +159,10 @@ LastIsUnnamed = (s : State) (states : States) (slots slots' : Slots) (words : Wo
     → HasWordLists s slots words → IsUnnamed u.id (all_versions slots')
 
 abbrev pub LastKeepsLists : Type 0
-LastKeepsLists = (opening : Map) (steps : List Step) (s : State) (states : States)
+LastKeepsLists = (opening : Map) (s : State) (states : States)
     (slots slots' : Slots) (lists : Lists) (places : Places) (words words' : WordLists)
     (u : EndedTx) (p : WordPlace) (ps : List WordPlace) (v : Version)
-    → VersionsStandFor opening steps s states slots lists places → ended_of u.id s.ended ≡ Some u
+    → VersionsStandFor opening s states slots lists places → ended_of u.id s.ended ≡ Some u
     → words u.id ≡ p ∷ ps → version_at slots (number_at_word p) ≡ Some v
     → names_at slots u.id p ≡ true → is_done s u.id ≡ true
     → HaveNow slots slots' (number_at_word p).0 (finished (ends_of (phases_of states)) u.id p v)
@@ -176,34 +176,34 @@ NoneIsUnnamed = (s : State) (slots : Slots) (words : WordLists) (t : ℕ)
     → IsUnnamed t (all_versions slots)
 
 abbrev pub LeavingKeepsLists : Type 0
-LeavingKeepsLists = (opening : Map) (steps : List Step) (s : State) (states : States)
+LeavingKeepsLists = (opening : Map) (s : State) (states : States)
     (slots : Slots) (lists : Lists) (places : Places) (words words' : WordLists) (u : EndedTx)
-    → VersionsStandFor opening steps s states slots lists places → ended_of u.id s.ended ≡ Some u
+    → VersionsStandFor opening s states slots lists places → ended_of u.id s.ended ≡ Some u
     → places_naming slots u.id (words u.id) ≡ [] → HaveListNow words words' u.id []
     → HasWordLists s slots words → HasWordLists (after_finish s u.id) slots words'
 
 -- Once a word is finished, others see the same, and what the core has stands for the same state.
 abbrev pub FinishedIsAlike : Type 0
-FinishedIsAlike = (opening : Map) (steps : List Step) (s : State) (states : States)
+FinishedIsAlike = (opening : Map) (s : State) (states : States)
     (slots : Slots) (lists : Lists) (places : Places) (u : EndedTx) (p : WordPlace) (v : Version)
-    → VersionsStandFor opening steps s states slots lists places → ended_of u.id s.ended ≡ Some u
+    → VersionsStandFor opening s states slots lists places → ended_of u.id s.ended ≡ Some u
     → version_at slots (number_at_word p) ≡ Some v → names_at slots u.id p ≡ true
     → IsSeenAlike states states v (finished (ends_of (phases_of states)) u.id p v)
 
 abbrev pub FinishedStands : Type 0
-FinishedStands = (opening : Map) (steps : List Step) (s : State) (states : States)
+FinishedStands = (opening : Map) (s : State) (states : States)
     (slots slots' : Slots) (lists : Lists) (places : Places) (u : EndedTx) (p : WordPlace)
     (v : Version)
-    → VersionsStandFor opening steps s states slots lists places → ended_of u.id s.ended ≡ Some u
+    → VersionsStandFor opening s states slots lists places → ended_of u.id s.ended ≡ Some u
     → version_at slots (number_at_word p) ≡ Some v → names_at slots u.id p ≡ true
     → HaveNow slots slots' (number_at_word p).0 (finished (ends_of (phases_of states)) u.id p v)
-    → VersionsStandFor opening steps s states slots' lists places
+    → VersionsStandFor opening s states slots' lists places
 
 -- ---- the tale is trimmed, a group is closed, and a version goes
 abbrev pub TrimKeepsLists : Type 0
-TrimKeepsLists = (opening : Map) (steps : List Step) (s : State) (states : States)
+TrimKeepsLists = (opening : Map) (s : State) (states : States)
     (slots : Slots) (lists : Lists) (places : Places) (words : WordLists) (m : ℕ)
-    → VersionsStandFor opening steps s states slots lists places → why_not_trim s m ≡ None
+    → VersionsStandFor opening s states slots lists places → why_not_trim s m ≡ None
     → HasWordLists s slots words → HasWordLists (after_trim s m) slots words
 
 abbrev pub CloseKeepsLists : Type 0
@@ -228,9 +228,9 @@ RoomKeepsLists = (s : State) (slots slots' : Slots) (words : WordLists)
 -- As an Active or Preparing one draws its end or is aborted, its list has the numbers of the
 -- versions that it wrote.
 abbrev pub ListsAreWritten : Type 0
-ListsAreWritten = (opening : Map) (steps : List Step) (s : State) (states : States)
+ListsAreWritten = (opening : Map) (s : State) (states : States)
     (slots : Slots) (lists : Lists) (places : Places) (words : WordLists) (t : ℕ)
-    → VersionsStandFor opening steps s states slots lists places → MayAbort (phases_of states) t
+    → VersionsStandFor opening s states slots lists places → MayAbort (phases_of states) t
     → HasWordLists s slots words
     → AreWrittenBy t slots (map (λ p. (number_at_word p).0) (words t))
 

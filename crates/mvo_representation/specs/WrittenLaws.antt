@@ -24,27 +24,27 @@ NothingIsWritten =
 
 -- No word names one that isn't in the table.
 abbrev pub AbsentIsUnnamed : Type 0
-AbsentIsUnnamed = (opening : Map) (steps : List Step) (s : State) (states : States)
+AbsentIsUnnamed = (opening : Map) (s : State) (states : States)
     (slots : Slots) (lists : Lists) (places : Places) (t : ℕ)
-    → VersionsStandFor opening steps s states slots lists places → states t ≡ None
+    → VersionsStandFor opening s states slots lists places → states t ≡ None
     → IsUnnamed t (all_versions slots)
 
 -- An insert that is told inserted adds its version.
 abbrev pub InsertIsWritten : Type 0
-InsertIsWritten = (opening : Map) (steps : List Step) (s : State) (states : States)
+InsertIsWritten = (opening : Map) (s : State) (states : States)
     (slots slots' : Slots) (lists : Lists) (places : Places) (r : ActiveTx) (row : RowData) (n : ℕ)
     (ns : List ℕ)
-    → VersionsStandFor opening steps s states slots lists places → active_of r.id s.active ≡ Some r
+    → VersionsStandFor opening s states slots lists places → active_of r.id s.active ≡ Some r
     → fin.get (snapshot s r.id) row.key ≡ None → version_at slots (number n) ≡ None
     → HaveNow slots slots' n (fresh r.id row) → AreWrittenBy r.id slots ns
     → AreWrittenBy r.id slots' (ns ++ n ∷ [])
 
 -- A delete adds the version that it ends.
 abbrev pub DeleteIsWritten : Type 0
-DeleteIsWritten = (opening : Map) (steps : List Step) (s : State) (states : States)
+DeleteIsWritten = (opening : Map) (s : State) (states : States)
     (slots slots' : Slots) (lists : Lists) (places : Places) (r : ActiveTx) (v : Version) (n : ℕ)
     (ns : List ℕ)
-    → VersionsStandFor opening steps s states slots lists places → active_of r.id s.active ≡ Some r
+    → VersionsStandFor opening s states slots lists places → active_of r.id s.active ≡ Some r
     → version_at slots (number n) ≡ Some v
     → MayEnd s (phases_of states) r.id (all_versions slots) v
     → HaveNow slots slots' n (ended_by r.id v) → AreWrittenBy r.id slots ns
@@ -52,10 +52,10 @@ DeleteIsWritten = (opening : Map) (steps : List Step) (s : State) (states : Stat
 
 -- An update adds the version that it ends, and then the one that it puts.
 abbrev pub UpdateIsWritten : Type 0
-UpdateIsWritten = (opening : Map) (steps : List Step) (s : State) (states : States)
+UpdateIsWritten = (opening : Map) (s : State) (states : States)
     (slots between slots' : Slots) (lists : Lists) (places : Places) (r : ActiveTx) (v : Version)
     (row : RowData) (n m : ℕ) (ns : List ℕ)
-    → VersionsStandFor opening steps s states slots lists places → active_of r.id s.active ≡ Some r
+    → VersionsStandFor opening s states slots lists places → active_of r.id s.active ≡ Some r
     → version_at slots (number n) ≡ Some v → row.key ≡ v.row.key
     → MayEnd s (phases_of states) r.id (all_versions slots) v
     → HaveNow slots between n (ended_by r.id v)
