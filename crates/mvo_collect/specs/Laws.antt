@@ -6,13 +6,13 @@ use Rattle.mvo_types.specs.declared.row.RowKey.{RowKey}
 use Rattle.mvo_types.specs.declared.ids.Stamp.{Stamp}
 use Rattle.mvo_types.specs.RowData.{RowData}
 use Rattle.mvo_types.specs.Keys.{Map}
-use Rattle.mvo_model.specs.Trace.{Step}
 use Rattle.mvo_theory.specs.State.{State, ActiveTx, active_of, opened}
 use Rattle.mvo_theory.specs.Ranges.{shows, is_row_of}
 use Rattle.mvo_theory.specs.Sound.{IsLegal}
 use Rattle.mvo_theory.specs.Causes.{why_not_trim}
 use Rattle.mvo_theory.specs.Changes.{after_trim}
-use Rattle.mvo_theory.specs.Calls.{Call, Result, IsKept, MayCome, after_call}
+use Rattle.mvo_theory.specs.Calls.{Call, Result, MayCome, after_call}
+use Rattle.mvo_shared.specs.Standing.{IsStanding}
 use Rattle.mvo_chain.specs.declared.version.Version.{Version}
 use Rattle.mvo_chain.specs.declared.version.VersionNo.{VersionNo}
 use Rattle.mvo_chain.specs.Slots.{Slots, version_at}
@@ -52,9 +52,9 @@ use Rattle.mvo_collect.specs.Collecting.{IsCollected, IsCollection, from_dead, f
 
 -- ---- collecting
 -- what a core keeps of its versions, beside the table and the tale
-pub record VersionsStand (opening : Map) (steps : List Step) (s : State) (states : States)
+pub record VersionsStand (opening : Map) (s : State) (states : States)
     (v : VersionsData) (words : WordLists) (w : WaitingData) : Type 0 where
-  pub versions : VersionsStandFor opening steps s states v.slots v.lists v.places
+  pub versions : VersionsStandFor opening s states v.slots v.lists v.places
   pub over : AreOver s
   pub order : AllStandInOrder s.start states v.slots v.lists
   pub lists : HasWordLists s v.slots words
@@ -62,16 +62,16 @@ pub record VersionsStand (opening : Map) (steps : List Step) (s : State) (states
 
 -- The horizon is the start of the tale.
 abbrev pub HorizonIsStart : Type 0
-HorizonIsStart = (opening : Map) (steps : List Step) (s : State) (states : States)
+HorizonIsStart = (opening : Map) (s : State) (states : States)
     (v : VersionsData) (words : WordLists) (w : WaitingData)
-    → VersionsStand opening steps s states v words w → horizon s ≡ s.start
+    → VersionsStand opening s states v words w → horizon s ≡ s.start
 
 -- A garbage version is taken out: what is left stands for the same state, and one is fewer.
 abbrev pub CollectKeeps : Type 0
-CollectKeeps = (opening : Map) (steps : List Step) (s : State) (states : States)
+CollectKeeps = (opening : Map) (s : State) (states : States)
     (old new : VersionsData) (words : WordLists) (w : WaitingData) (n : VersionNo)
-    → VersionsStand opening steps s states old words w → IsCollected s.start old new n
-    → VersionsStand opening steps s states new words w
+    → VersionsStand opening s states old words w → IsCollected s.start old new n
+    → VersionsStand opening s states new words w
 
 abbrev pub CollectTakesOne : Type 0
 CollectTakesOne = (h : ℕ) (old new : VersionsData) (n : VersionNo) → IsCollected h old new n
@@ -84,27 +84,27 @@ DeadArePassed = (clock : ℕ) (states : States) (slots : Slots) (w : WaitingData
     → AreWaiting clock states slots (record w { dead = from_dead slots w.dead })
 
 abbrev pub DueArePassed : Type 0
-DueArePassed = (opening : Map) (steps : List Step) (s : State) (states : States)
+DueArePassed = (opening : Map) (s : State) (states : States)
     (v : VersionsData) (words : WordLists) (w : WaitingData)
-    → VersionsStand opening steps s states v words w
-    → VersionsStand opening steps s states v words
+    → VersionsStand opening s states v words w
+    → VersionsStand opening s states v words
     (record w { ended = from_due s.start v.slots w.ended })
 
 -- Where nothing is left behind them, there is no garbage.
 abbrev pub NothingIsLeft : Type 0
-NothingIsLeft = (opening : Map) (steps : List Step) (s : State) (states : States)
+NothingIsLeft = (opening : Map) (s : State) (states : States)
     (v : VersionsData) (words : WordLists) (w : WaitingData)
-    → VersionsStand opening steps s states v words w
+    → VersionsStand opening s states v words w
     → from_dead v.slots w.dead ≡ []
     → due_number s.start (from_due s.start v.slots w.ended) ≡ None
     → garbage_count (horizon s) v.slots ≡ 0
 
 -- What a call that collects leaves stands for the same state.
 abbrev pub CollectionStands : Type 0
-CollectionStands = (opening : Map) (steps : List Step) (s : State) (states : States)
+CollectionStands = (opening : Map) (s : State) (states : States)
     (old new : VersionsData) (words : WordLists) (w w' : WaitingData) (c : Collection)
-    → VersionsStand opening steps s states old words w → IsCollection s.start old w c new w'
-    → VersionsStand opening steps s states new words w'
+    → VersionsStand opening s states old words w → IsCollection s.start old w c new w'
+    → VersionsStand opening s states new words w'
 
 -- One garbage version is fewer, or there is none.
 abbrev pub IsCountedSo : ℕ → Slots → Slots → Collection → Type 0
@@ -112,9 +112,9 @@ IsCountedSo h old new Collected = garbage_count h new + 1 ≡ garbage_count h ol
 IsCountedSo h old new Nothing = (garbage_count h old ≡ 0) × (new ≡ old)
 
 abbrev pub CollectionCounts : Type 0
-CollectionCounts = (opening : Map) (steps : List Step) (s : State) (states : States)
+CollectionCounts = (opening : Map) (s : State) (states : States)
     (old new : VersionsData) (words : WordLists) (w w' : WaitingData) (c : Collection)
-    → VersionsStand opening steps s states old words w → IsCollection s.start old w c new w'
+    → VersionsStand opening s states old words w → IsCollection s.start old w c new w'
     → IsCountedSo (horizon s) old.slots new.slots c
 
 -- ---- the other calls
@@ -134,10 +134,10 @@ abbrev pub IsAmongBuried : ℕ → List VersionNo → Type 0
 IsAmongBuried n ns = is_buried n ns ≡ true
 
 abbrev pub DrawKeepsWaiting : Type 0
-DrawKeepsWaiting = (opening : Map) (steps : List Step) (s : State) (states states' : States)
+DrawKeepsWaiting = (opening : Map) (s : State) (states states' : States)
     (v : VersionsData) (words : WordLists) (w : WaitingData) (t : ℕ) (end' : Stamp)
     (ns : List VersionNo)
-    → VersionsStand opening steps s states v words w → states t ≡ Some Active
+    → VersionsStand opening s states v words w → states t ≡ Some Active
     → DifferAt t states states' → states' t ≡ Some (Preparing end') → end'.0 ≡ s.clock + 1
     → ((n : ℕ) (x : Version) → version_at v.slots (number n) ≡ Some x → names t x.end ≡ true
     → IsAmongBuried n ns)
@@ -201,10 +201,10 @@ pub record IsFreeBegin (s : State) (states : States) (slots : Slots) (b : ℕ) :
 -- A begin above the horizon, or at it where no change has that stamp, is shown the same: the put
 -- that stands below it, with its stamp, is the same.
 abbrev pub CollectShowsSame : Type 0
-CollectShowsSame = (opening : Map) (steps : List Step) (s : State) (states : States)
+CollectShowsSame = (opening : Map) (s : State) (states : States)
     (old new : VersionsData) (words : WordLists) (w : WaitingData) (n : VersionNo)
     (b : ℕ) (k : RowKey)
-    → VersionsStand opening steps s states old words w → IsCollected s.start old new n
+    → VersionsStand opening s states old words w → IsCollected s.start old new n
     → IsFreeBegin s states old.slots b
     → standing (change_below (ends_of (phases_of states)) b k (all_versions new.slots))
     ≡ standing (change_below (ends_of (phases_of states)) b k (all_versions old.slots))
@@ -235,10 +235,10 @@ pub record AnswersSame (s : State) (states : States) (old new : VersionsData) (r
       (is_row_of (shows (Range table lo hi)) q) (all_versions old.slots)
 
 abbrev pub CollectAnswersSame : Type 0
-CollectAnswersSame = (opening : Map) (steps : List Step) (s : State) (states : States)
+CollectAnswersSame = (opening : Map) (s : State) (states : States)
     (old new : VersionsData) (words : WordLists) (w w' : WaitingData) (c : Collection)
     (r : ActiveTx)
-    → VersionsStand opening steps s states old words w → IsCollection s.start old w c new w'
+    → VersionsStand opening s states old words w → IsCollection s.start old w c new w'
     → active_of r.id s.active ≡ Some r → AnswersSame s states old new r
 
 -- ---- the tale
@@ -251,16 +251,16 @@ pub record HasTaleAbove (s : State) (states : States) (slots : Slots) : Type 0 w
   pub legal : IsLegal s.base s.stamped
 
 abbrev pub TaleIsLegal : Type 0
-TaleIsLegal = (opening : Map) (steps : List Step) (s : State) (states : States)
+TaleIsLegal = (opening : Map) (s : State) (states : States)
     (v : VersionsData) (words : WordLists) (w : WaitingData)
-    → VersionsStand opening steps s states v words w → HasTaleAbove s states v.slots
+    → VersionsStand opening s states v words w → HasTaleAbove s states v.slots
 
 -- A trim keeps what stands.
 abbrev pub TrimStands : Type 0
-TrimStands = (opening : Map) (steps : List Step) (s : State) (states : States)
+TrimStands = (opening : Map) (s : State) (states : States)
     (v : VersionsData) (words : WordLists) (w : WaitingData) (m : ℕ)
-    → VersionsStand opening steps s states v words w → why_not_trim s m ≡ None
-    → VersionsStand opening steps (after_trim s m) states v words w
+    → VersionsStand opening s states v words w → why_not_trim s m ≡ None
+    → VersionsStand opening (after_trim s m) states v words w
 
 -- ---- what the calls need
 -- Nothing waits when a core opens: its versions begin at the mark, and nobody has ended them.
@@ -291,8 +291,8 @@ OpenIsOwed = (clock : ℕ) (states : States) (slots : Slots) (w : WaitingData) (
 -- Each call, whatever it comes to, keeps what a state keeps of those that are Committed or Aborted
 -- and unfinished; and so it is where a core opens.
 abbrev pub EachCallKeepsOver : Type 0
-EachCallKeepsOver = (opening : Map) (steps : List Step) (s : State) (table : Phases)
-    (vs : List Version) (c : Call) (r : Result) → IsKept opening steps s → MayCome s c r
+EachCallKeepsOver = (opening : Map) (s : State) (table : Phases)
+    (vs : List Version) (c : Call) (r : Result) → IsStanding opening s → MayCome s c r
     → AreVersionsOf s table vs → AreOver s → AreOver (after_call s c r)
 
 abbrev pub OpensOver : Type 0

@@ -10,7 +10,6 @@ use Rattle.mvo_types.specs.RowData.{RowData, ContentData, content_of}
 use Rattle.mvo_types.specs.Keys.{Map}
 use Rattle.mvo_types.specs.AnswerData.AnswerData.{Inserted, Exists, Updated, Deleted, Absent as NotThere}
 use Rattle.mvo_model.specs.History.{net_write, after_history}
-use Rattle.mvo_model.specs.Trace.{Step}
 use Rattle.mvo_model.proofs.Serials.{get-after_history}
 use Rattle.mvo_theory.specs.State.{history_of_active, State, StampedTx, ActiveTx, snapshot, seen_by, active_of, preparing_of}
 use Rattle.mvo_theory.specs.Changes.{after_begin, after_operation, after_answer, after_check}

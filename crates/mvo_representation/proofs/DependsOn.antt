@@ -11,7 +11,6 @@ use Rattle.mvo_types.specs.Keys.{Map}
 use Rattle.mvo_types.specs.Write.{Effect}
 use Rattle.mvo_types.specs.Write.Effect.{Put, Delete as Gone}
 use Rattle.mvo_model.specs.History.{net_write}
-use Rattle.mvo_model.specs.Trace.{Step}
 use Rattle.mvo_theory.specs.Entries.{entry_of}
 use Rattle.mvo_types.specs.declared.entry.Entry.TheVariants.{Key}
 use Rattle.mvo_theory.specs.State.{State, StampedTx, ActiveTx, active_of}

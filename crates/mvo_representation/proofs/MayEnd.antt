@@ -11,7 +11,6 @@ use Rattle.mvo_types.proofs.Maps.{exact_keys}
 use Rattle.mvo_types.specs.Write.{Effect}
 use Rattle.mvo_types.specs.Write.Effect.{Put, Delete as Gone}
 use Rattle.mvo_model.specs.History.{net_write}
-use Rattle.mvo_model.specs.Trace.{Step}
 use Rattle.mvo_theory.specs.State.{State, ActiveTx, active_of, history_of_active}
 use Rattle.mvo_theory.specs.Causes.{conflict}
 use Rattle.mvo_shared.specs.Standing.{IsStanding}

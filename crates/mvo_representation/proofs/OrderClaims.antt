@@ -10,7 +10,6 @@ use Rattle.mvo_types.specs.Keys.{Map}
 use Rattle.mvo_types.specs.Write.{Effect, content_after_last}
 use Rattle.mvo_types.specs.Write.Effect.{Put}
 use Rattle.mvo_model.specs.History.{net_write}
-use Rattle.mvo_model.specs.Trace.{Step}
 use Rattle.mvo_model.proofs.Serials.{get-after_history}
 use Rattle.mvo_theory.specs.State.{State, StampedTx, timeline, seen_by, history_below}
 use Rattle.mvo_theory.specs.Dependencies.{or_later, last_writer}

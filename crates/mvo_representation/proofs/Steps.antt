@@ -11,7 +11,6 @@ use Rattle.mvo_types.specs.declared.refusal.Refusal.TheVariants.{OutOfMemory}
 use Rattle.mvo_types.specs.Keys.{Map}
 use Rattle.mvo_types.specs.AnswerData.AnswerData.{Inserted, Exists, Updated, Deleted, Absent as NotThere}
 use Rattle.mvo_model.specs.History.{net_write}
-use Rattle.mvo_model.specs.Trace.{Step}
 use Rattle.mvo_theory.specs.State.{State, ActiveTx, StampedTx, snapshot, active_of}
 use Rattle.mvo_theory.specs.Changes.{after_answer, after_finish, after_termination, after_trim, after_close, with_words}
 use Rattle.mvo_theory.specs.Words.{is_done, words_left}

@@ -9,7 +9,6 @@ use Rattle.mvo_types.specs.declared.ids.TxId.{TxId}
 use Rattle.mvo_types.specs.declared.op.Op.{Op}
 use Rattle.mvo_types.specs.AnswerData.{AnswerData}
 use Rattle.mvo_types.specs.Keys.{Map}
-use Rattle.mvo_model.specs.Trace.{Step}
 use Rattle.mvo_theory.specs.State.{State, ActiveTx, StampedTx, Claim, active_of, preparing_of, is_active_as, is_preparing_as}
 use Rattle.mvo_theory.specs.Changes.{with_answer, after_operation, taken_over, after_answer, with_words}
 use Rattle.mvo_theory.specs.Claims.{new_claim}

@@ -7,7 +7,6 @@ use Rattle.std.proofs.lemmas.Bool.{cases_eq}
 use Rattle.mvo_types.specs.declared.ids.TxId.{TxId}
 use Rattle.mvo_types.specs.declared.ids.Stamp.{Stamp}
 use Rattle.mvo_types.specs.Keys.{Map}
-use Rattle.mvo_model.specs.Trace.{Step}
 use Rattle.mvo_model.specs.Trace.Step.{Begins, Prepares, Commits, Aborts, Terminates}
 use Rattle.mvo_model.specs.Trace.Phase.{Preparing as PreparingPhase, Committed as CommittedPhase}
 use Rattle.mvo_theory.specs.State.{State, ActiveTx, StampedTx, EndedTx, Marks, Word, opened, active_of, preparing_of, ended_of, is_preparing_as}

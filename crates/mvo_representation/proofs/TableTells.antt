@@ -6,7 +6,6 @@ use Rattle.std.specs.Option.{option_map, is_some}
 use Rattle.std.proofs.lemmas.Bool.{true≢false}
 use Rattle.mvo_types.specs.declared.ids.TxId.{TxId}
 use Rattle.mvo_types.specs.Keys.{Map}
-use Rattle.mvo_model.specs.Trace.{Step}
 use Rattle.mvo_model.specs.Trace.Phase.{Preparing as PreparingPhase}
 use Rattle.mvo_theory.specs.State.{State, StampedTx, active_of, preparing_of}
 use Rattle.mvo_theory.specs.Causes.{flag_of_active, flag_of_preparing, waiting_for, awaited_by, awaited}

@@ -11,7 +11,6 @@ use Rattle.mvo_types.specs.RowData.{ContentData, content_of}
 use Rattle.mvo_types.specs.Keys.{Map, key_cmp}
 use Rattle.mvo_types.specs.Write.Effect.{Put}
 use Rattle.mvo_model.specs.History.{net_write}
-use Rattle.mvo_model.specs.Trace.{Step}
 use Rattle.mvo_theory.specs.State.{State, StampedTx}
 use Rattle.mvo_theory.specs.Changes.{after_trim}
 use Rattle.mvo_theory.specs.Claims.{has_claim}

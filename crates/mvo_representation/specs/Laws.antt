@@ -6,7 +6,6 @@ use Rattle.mvo_types.specs.declared.op.Op.{Op}
 use Rattle.mvo_types.specs.RowData.{ContentData}
 use Rattle.mvo_types.specs.Keys.{Map}
 use Rattle.mvo_model.specs.History.{net_write}
-use Rattle.mvo_model.specs.Trace.{Step}
 use Rattle.mvo_theory.specs.Entries.{entry_of}
 use Rattle.mvo_theory.specs.State.{State, ActiveTx, opened, active_of, history_of_active, snapshot}
 use Rattle.mvo_theory.specs.Ranges.{shows, is_row_of}
@@ -35,7 +34,7 @@ use Rattle.mvo_representation.specs.Indexes.{all_versions, HasNumbers, HasPlaces
 use Rattle.mvo_representation.specs.Steps.{MayEnd, IsAfterCall}
 use Rattle.mvo_representation.specs.Table.{phases_of, content_shown, place_with, end_awaited, IsShown}
 
--- What a core has stands for a state that its steps lead to.
+-- What a core has stands for a state, whatever steps led there.
 pub record VersionsStandFor (opening : Map) (s : State) (states : States)
     (slots : Slots) (lists : Lists) (places : Places) : Type 0 where
   pub kept : IsStanding opening s

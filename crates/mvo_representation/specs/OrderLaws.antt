@@ -6,7 +6,6 @@ use Rattle.mvo_types.specs.declared.row.RowKey.{RowKey}
 use Rattle.mvo_types.specs.declared.ids.Stamp.{Stamp}
 use Rattle.mvo_types.specs.RowData.{RowData}
 use Rattle.mvo_types.specs.Keys.{Map}
-use Rattle.mvo_model.specs.Trace.{Step}
 use Rattle.mvo_model.specs.Trace.Phase.{Active as IsActive}
 use Rattle.mvo_theory.specs.State.{State, ActiveTx, opened, active_of, snapshot}
 use Rattle.mvo_theory.specs.Causes.{why_not_trim}
