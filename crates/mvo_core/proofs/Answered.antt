@@ -23,6 +23,7 @@ use Rattle.mvo_theory.specs.Calls.Result.{Accepted}
 use Rattle.mvo_theory.proofs.Each.{each_both, each_map}
 use Rattle.mvo_theory.proofs.Runs.{kept_after_call}
 use Rattle.mvo_theory.proofs.Who.{active_holds, id_of}
+use Rattle.mvo_shared.proofs.Standing.{standing_of}
 use Rattle.mvo_txn.specs.Txns.{Txns, state_of}
 use Rattle.mvo_deps.specs.declared.node.Node.{Node}
 use Rattle.mvo_deps.specs.Nodes.{after_register_all}
@@ -150,7 +151,7 @@ module _ (rs : Readers) (opening : Map) (steps : List Step) (s : State) (c : Cor
   may_come = (w.may, tt)
 
   deps : HasDependencies after table
-  deps = w.told.dependencies after (answer_in_table opening steps s c.table t op a r ids h.versions.kept h.dependencies w.found w.on)
+  deps = w.told.dependencies after (answer_in_table opening s c.table t op a r ids h.versions.kept h.dependencies w.found w.on)
 
   phases : phases_of (state_of c.table) ≡ phase_in s
   phases = λ i u. h.dependencies.stands.phases u i
@@ -166,10 +167,11 @@ module _ (rs : Readers) (opening : Map) (steps : List Step) (s : State) (c : Cor
 
   stands_answered : StandsAmong rs opening (steps ++ Answers t.0 op a ∷ []) after (record c { versions = v; table = table })
   stands_answered = record {
+    kept = kept_after_call opening steps s (Do t.0 op) Accepted may_come h.kept;
     versions = record {
-      kept = kept_after_call opening steps s (Do t.0 op) Accepted may_come h.versions.kept;
+      kept = standing_of opening (steps ++ Answers t.0 op a ∷ []) after (kept_after_call opening steps s (Do t.0 op) Accepted may_come h.kept);
       versions = subst (λ p. AreVersionsOf after p (all_versions v.slots)) (sym phases_then)
-          (call_keeps opening steps s (Do t.0 op) Accepted (all_versions c.versions.slots) (all_versions v.slots) h.versions.kept may_come
+          (call_keeps opening s (Do t.0 op) Accepted (all_versions c.versions.slots) (all_versions v.slots) h.versions.kept may_come
           (subst (λ p. AreVersionsOf s p (all_versions c.versions.slots)) phases h.versions.versions) w.versions);
       numbers = w.indexed.numbers;
       order = w.indexed.order;
@@ -185,7 +187,7 @@ module _ (rs : Readers) (opening : Map) (steps : List Step) (s : State) (c : Cor
     marks = beside.2 ∙ h.marks;
     grouped = h.grouped;
     start = beside.0 ∙ h.start;
-    over = each_call_keeps_over opening steps s (phases_of (state_of c.table)) (all_versions c.versions.slots) (Do t.0 op) Accepted h.versions.kept may_come h.versions.versions h.over;
+    over = each_call_keeps_over opening s (phases_of (state_of c.table)) (all_versions c.versions.slots) (Do t.0 op) Accepted h.versions.kept may_come h.versions.versions h.over;
   }
 
   pub answer_leads : LeadsAmong rs opening steps s (Do t.0 op) Accepted (record c { versions = v; table = table })
@@ -234,7 +236,7 @@ module _ (rs : Readers) (opening : Map) (steps : List Step) (s : State) (c : Cor
   words : HasWordLists (after_answer s t.0 op b) c.versions.slots (words_in table)
   words = subst (HasWordLists (after_answer s t.0 op b) c.versions.slots) (sym lists)
       (subst (λ (n : ℕ). HasWordLists (after_answer s n op b) c.versions.slots (words_in c.table)) id
-      (answer_keeps_lists opening steps s (state_of c.table) c.versions.slots c.versions.lists c.versions.places (words_in c.table) r op b h.versions
+      (answer_keeps_lists opening s (state_of c.table) c.versions.slots c.versions.lists c.versions.places (words_in c.table) r op b h.versions
       (ap (λ (n : ℕ). active_of n s.active) id ∙ w.found) w.unwritten h.words))
 
   answered : IsAnswered s c t r op ids c.versions table

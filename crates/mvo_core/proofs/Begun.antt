@@ -21,6 +21,7 @@ use Rattle.mvo_theory.specs.Calls.Result.{Accepted, Refused}
 use Rattle.mvo_theory.proofs.Each.{each_append}
 use Rattle.mvo_theory.proofs.Chain.{chained_after_call}
 use Rattle.mvo_theory.proofs.Runs.{kept_after_call}
+use Rattle.mvo_shared.proofs.Standing.{standing_of}
 use Rattle.mvo_txn.specs.declared.table_seat.TableSeat.{TableSeat}
 use Rattle.mvo_txn.specs.declared.state.TxState.TheVariants.{Active}
 use Rattle.mvo_txn.specs.Txns.{Txns, state_of, table_after_begin, why_not_begun, IsTableRefusal}
@@ -52,7 +53,7 @@ refusal_as (Some w) r h = h
 
 module _ (rs : Readers) (opening : Map) (steps : List Step) (s : State) (c : CoreData) (h : StandsAmong rs opening steps s c) where
   why_begun : why_not_begun c.table ≡ why_not_begin s
-  why_begun = why_not_begun_told opening steps s c.table h.versions.kept h.dependencies.stands
+  why_begun = why_not_begun_told opening s c.table h.versions.kept h.dependencies.stands
 
   -- refused, it leaves all as it was
   pub begin_refused : (r : Refusal) → IsTableRefusal (why_not_begun c.table) r → LeadsAmong rs opening steps s Begin (Refused r) c
@@ -107,7 +108,7 @@ module _ (rs : Readers) (opening : Map) (steps : List Step) (s : State) (c : Cor
     clock = ap (λ (n : ℕ). n + 1) h.dependencies.stands.clock
 
     deps : HasDependencies (changes.after_begin s (s.clock + 1)) (table_after_begin c.table node)
-    deps = begin_in_table opening steps s c.table node h.versions.kept h.dependencies none
+    deps = begin_in_table opening s c.table node h.versions.kept h.dependencies none
 
     new_one : IsKeptActive (table_after_begin c.table node) (new_active (s.clock + 1))
     new_one = record { own = node.own; kept = ap (own_of (table_after_begin c.table node)) (sym clock) ∙ own_begun; history = told }
@@ -127,27 +128,28 @@ module _ (rs : Readers) (opening : Map) (steps : List Step) (s : State) (c : Cor
     pub stands_begun : MayCome s Begin Accepted
         → StandsAmong rs opening (steps ++ steps_of s Begin Accepted) (changes.after_begin s (s.clock + 1)) (record c { table = table_after_begin c.table node })
     stands_begun may = record {
+      kept = kept_after_call opening steps s Begin Accepted may h.kept;
       versions = record {
-        kept = kept_after_call opening steps s Begin Accepted may h.versions.kept;
+        kept = standing_of opening (steps ++ steps_of s Begin Accepted) (changes.after_begin s (s.clock + 1)) (kept_after_call opening steps s Begin Accepted may h.kept);
         versions = subst (λ p. AreVersionsOf (changes.after_begin s (s.clock + 1)) p (all_versions c.versions.slots)) (sym phases_then)
-            (call_keeps opening steps s Begin Accepted (all_versions c.versions.slots) (all_versions c.versions.slots) h.versions.kept may
+            (call_keeps opening s Begin Accepted (all_versions c.versions.slots) (all_versions c.versions.slots) h.versions.kept may
             (subst (λ p. AreVersionsOf s p (all_versions c.versions.slots)) phases h.versions.versions) refl);
         numbers = h.versions.numbers;
         order = h.versions.order;
       };
       dependencies = deps;
-      order = begin_in_order opening steps s (state_of c.table) (state_of (table_after_begin c.table node)) c.versions.slots c.versions.lists c.versions.places (c.table.clock + 1)
+      order = begin_in_order opening s (state_of c.table) (state_of (table_after_begin c.table node)) c.versions.slots c.versions.lists c.versions.places (c.table.clock + 1)
           h.versions (ap (option_map (λ x. x.state)) fresh) (begun_others c.table node) (begun_state c.table node) h.order;
       works = works;
       words = subst (HasWordLists (changes.after_begin s (s.clock + 1)) c.versions.slots) (sym words_begun)
-          (begin_in_lists opening steps s (state_of c.table) c.versions.slots c.versions.lists c.versions.places (words_in c.table) h.versions h.words);
+          (begin_in_lists opening s (state_of c.table) c.versions.slots c.versions.lists c.versions.places (words_in c.table) h.versions h.words);
       tale = h.tale;
       places = places_later rs s.start s.clock c.tale h.places (s.clock + 1) (omega arith);
       stages = stages_same rs.unfinished c.table (table_after_begin c.table node) c.tale same_readers h.stages;
       marks = h.marks;
       grouped = h.grouped;
       start = h.start;
-      over = each_call_keeps_over opening steps s (phases_of (state_of c.table)) (all_versions c.versions.slots) Begin Accepted h.versions.kept may h.versions.versions h.over;
+      over = each_call_keeps_over opening s (phases_of (state_of c.table)) (all_versions c.versions.slots) Begin Accepted h.versions.kept may h.versions.versions h.over;
     }
 
     pub begin_leads : (r : Result TxId Refusal) (table : Txns (Node KeptTransaction)) → OnOk r (table ≡ table_after_begin c.table node) → OnOk r (why_not_begun c.table ≡ None)
@@ -173,5 +175,5 @@ stands_on {old} i call r c l = record {
   steps = i.steps ++ steps_of i.state call r;
   state = theory.after_call i.state call r;
   stands = l.stands;
-  closed = still_closed i.opening i.steps i.state call r l.may i.stands.versions.kept i.closed;
+  closed = still_closed i.opening i.steps i.state call r l.may i.stands.kept i.closed;
 }

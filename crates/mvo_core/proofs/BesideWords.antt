@@ -10,12 +10,13 @@ use Rattle.mvo_theory.specs.Words.{is_done, words_left}
 use Rattle.mvo_theory.specs.Changes as changes
 use Rattle.mvo_theory.specs.Changes.{with_words, after_termination}
 use Rattle.mvo_theory.specs.Sound.{IsSingle}
-use Rattle.mvo_theory.specs.Calls.{MayCome, steps_of}
+use Rattle.mvo_theory.specs.Calls.{IsKept, MayCome, steps_of}
 use Rattle.mvo_theory.specs.Calls.Call.{Finish}
 use Rattle.mvo_theory.specs.Calls.Result.{Accepted}
 use Rattle.std.proofs.lemmas.Bool.{false≢true}
 use Rattle.mvo_theory.proofs.Each.{each_both}
 use Rattle.mvo_theory.proofs.Runs.{kept_after_call}
+use Rattle.mvo_shared.proofs.Standing.{standing_of}
 use Rattle.mvo_txn.specs.declared.state.TxState.{TxState}
 use Rattle.mvo_txn.specs.declared.state.TxState.TheVariants.{Active, Preparing, Committed, Aborted}
 use Rattle.mvo_txn.specs.Txns.{Txns, state_of, kept_of, table_after_write, after_terminate, IsEnded}
@@ -59,7 +60,8 @@ use Rattle.mvo_core.proofs.FinishLaws.{word_in_table, leave_in_table, finished_s
 
 -- ---- what a core stands for beside the lists
 pub record StandsBeside (rs : Readers) (opening : Map) (steps : List Step) (s : State) (c : CoreData) : Type 0 where
-  pub versions : representation.VersionsStandFor opening steps s (state_of c.table) c.versions.slots c.versions.lists c.versions.places
+  pub kept : IsKept opening steps s
+  pub versions : representation.VersionsStandFor opening s (state_of c.table) c.versions.slots c.versions.lists c.versions.places
   pub dependencies : HasDependencies s c.table
   pub order : AllStandInOrder s.start (state_of c.table) c.versions.slots c.versions.lists
   pub works : HasWorks s c.table c.tale
@@ -73,6 +75,7 @@ pub record StandsBeside (rs : Readers) (opening : Map) (steps : List Step) (s : 
 
 pub beside : (rs : Readers) (opening : Map) (steps : List Step) (s : State) (c : CoreData) → StandsAmong rs opening steps s c → StandsBeside rs opening steps s c
 beside rs opening steps s c h = record {
+  kept = h.kept;
   versions = h.versions;
   dependencies = h.dependencies;
   order = h.order;
@@ -88,6 +91,7 @@ beside rs opening steps s c h = record {
 
 pub with_lists : (rs : Readers) (opening : Map) (steps : List Step) (s : State) (c : CoreData) → StandsBeside rs opening steps s c → HasWordLists s c.versions.slots (words_in c.table) → StandsAmong rs opening steps s c
 with_lists rs opening steps s c h l = record {
+  kept = h.kept;
   versions = h.versions;
   dependencies = h.dependencies;
   order = h.order;
@@ -177,7 +181,8 @@ module _ (rs : Readers) (opening : Map) (steps : List Step) (s : State) (c : Cor
   -- what is kept of the ended one changes
   pub beside_written : (table : Txns (Node KeptTransaction)) (change : KeptTransaction → KeptTransaction → Type 0) → ((x y : KeptTransaction) → change x y → reader_in (Some y) ≡ reader_in (Some x)) → IsWritten c.table table u.id change → StandsBeside rs opening steps s (record c { table = table })
   beside_written table change same w = record {
-    versions = subst (λ states. representation.VersionsStandFor opening steps s states c.versions.slots c.versions.lists c.versions.places) (same_states c.table table u.id change w) h.versions;
+    kept = h.kept;
+    versions = subst (λ states. representation.VersionsStandFor opening s states c.versions.slots c.versions.lists c.versions.places) (same_states c.table table u.id change w) h.versions;
     dependencies = deps_written c.table table u.id change w s h.dependencies;
     order = subst (λ states. AllStandInOrder s.start states c.versions.slots c.versions.lists) (same_states c.table table u.id change w) h.order;
     works = works_of_others s c.table table c.tale u.id u h.versions.kept.single e (own_others c.table table u.id change w) h.works;
@@ -215,7 +220,8 @@ module _ (rs : Readers) (opening : Map) (steps : List Step) (s : State) (c : Cor
       let now = finished_now new w p v at is r in
       let same : record { slots = new.slots; lists = c.versions.lists; places = c.versions.places } ≡ new = λ i. record { slots = new.slots; lists = sym r.lists i; places = sym r.places i } in
       subst (λ x. StandsBeside rs opening steps s (record c { versions = x })) same (record {
-        versions = finished_stands_for opening steps s (state_of c.table) c.versions.slots new.slots c.versions.lists c.versions.places u p v h.versions e at name now;
+        kept = h.kept;
+        versions = finished_stands_for opening s (state_of c.table) c.versions.slots new.slots c.versions.lists c.versions.places u p v h.versions e at name now;
         dependencies = h.dependencies;
         order = finish_in_order s.start (state_of c.table) c.versions.slots new.slots c.versions.lists u.id (number_at_word p).0 v (finished (ends_of (phases_of (state_of c.table))) u.id p v)
             (still (state_of c.table u.id) ended) at now (begin_finished p v name at) (end_finished p v name at) h.order;
@@ -235,22 +241,23 @@ module _ (rs : Readers) (opening : Map) (steps : List Step) (s : State) (c : Cor
 
   versions_after : (may : MayCome s (Finish u.id) Accepted) (table : Txns (Node KeptTransaction)) → HasDependencies (changes.after_finish s u.id) table
       → (is_done s u.id ≡ true → IsUnnamed u.id (all_versions c.versions.slots))
-      → representation.VersionsStandFor opening (steps ++ steps_of s (Finish u.id) Accepted) (changes.after_finish s u.id) (state_of table) c.versions.slots c.versions.lists c.versions.places
+      → representation.VersionsStandFor opening (changes.after_finish s u.id) (state_of table) c.versions.slots c.versions.lists c.versions.places
   versions_after may table deps unnamed = record {
-    kept = kept_after_call opening steps s (Finish u.id) Accepted may h.versions.kept;
+    kept = standing_of opening (steps ++ steps_of s (Finish u.id) Accepted) (changes.after_finish s u.id) (kept_after_call opening steps s (Finish u.id) Accepted may h.kept);
     versions = subst (λ p. AreVersionsOf (changes.after_finish s u.id) p (all_versions c.versions.slots)) (λ i v. sym (deps.stands.phases v) i)
-        (call_keeps opening steps s (Finish u.id) Accepted (all_versions c.versions.slots) (all_versions c.versions.slots) h.versions.kept may
+        (call_keeps opening s (Finish u.id) Accepted (all_versions c.versions.slots) (all_versions c.versions.slots) h.versions.kept may
         (subst (λ p. AreVersionsOf s p (all_versions c.versions.slots)) phases h.versions.versions) (refl, unnamed));
     numbers = h.versions.numbers;
     order = h.versions.order;
   }
 
   -- in the state with other ended ones, where the table has these works
-  beside_after : (after : Readers) → HasTalePlaces after s.start s.clock c.tale → (table : Txns (Node KeptTransaction))
-      → representation.VersionsStandFor opening (steps ++ steps_of s (Finish u.id) Accepted) (changes.after_finish s u.id) (state_of table) c.versions.slots c.versions.lists c.versions.places
+  beside_after : MayCome s (Finish u.id) Accepted → (after : Readers) → HasTalePlaces after s.start s.clock c.tale → (table : Txns (Node KeptTransaction))
+      → representation.VersionsStandFor opening (changes.after_finish s u.id) (state_of table) c.versions.slots c.versions.lists c.versions.places
       → HasDependencies (changes.after_finish s u.id) table → AllStandInOrder s.start (state_of table) c.versions.slots c.versions.lists → HasWorks s table c.tale → HaveStages after.unfinished table c.tale → AreOver (changes.after_finish s u.id)
       → StandsBeside after opening (steps ++ steps_of s (Finish u.id) Accepted) (changes.after_finish s u.id) (record c { table = table })
-  beside_after after places table versions deps order works stages over = record {
+  beside_after may after places table versions deps order works stages over = record {
+    kept = kept_after_call opening steps s (Finish u.id) Accepted may h.kept;
     versions = versions;
     dependencies = deps;
     order = subst (λ (x : State). AllStandInOrder x.start (state_of table) c.versions.slots c.versions.lists) (sym (finish_is s u.id)) order;
@@ -265,7 +272,7 @@ module _ (rs : Readers) (opening : Map) (steps : List Step) (s : State) (c : Cor
   }
 
   over_finished : MayCome s (Finish u.id) Accepted → AreOver (changes.after_finish s u.id)
-  over_finished may = each_call_keeps_over opening steps s (phases_of (state_of c.table)) (all_versions c.versions.slots) (Finish u.id) Accepted h.versions.kept may h.versions.versions h.over
+  over_finished may = each_call_keeps_over opening s (phases_of (state_of c.table)) (all_versions c.versions.slots) (Finish u.id) Accepted h.versions.kept may h.versions.versions h.over
 
   none_done : is_done s u.id ≡ false → is_done s u.id ≡ true → IsUnnamed u.id (all_versions c.versions.slots)
   none_done more last = absurd (false≢true (sym more ∙ last))
@@ -274,7 +281,7 @@ module _ (rs : Readers) (opening : Map) (steps : List Step) (s : State) (c : Cor
   pub beside_word : MayCome s (Finish u.id) Accepted → is_done s u.id ≡ false → StandsBeside rs opening (steps ++ steps_of s (Finish u.id) Accepted) (changes.after_finish s u.id) c
   beside_word may more =
       let deps = word_in_table s c.table u.id h.dependencies more in
-      beside_after rs h.places c.table (versions_after may c.table deps (none_done more)) deps h.order h.works h.stages (over_finished may)
+      beside_after may rs h.places c.table (versions_after may c.table deps (none_done more)) deps h.order h.works h.stages (over_finished may)
 
   -- none is left: it leaves
   left_own : (v : ℕ) → v ≢ u.id → own_of (after_terminate c.table u.id) v ≡ own_of c.table v
@@ -284,8 +291,8 @@ module _ (rs : Readers) (opening : Map) (steps : List Step) (s : State) (c : Cor
       → StandsBeside after opening (steps ++ steps_of s (Finish u.id) Accepted) (changes.after_finish s u.id) (record c { table = after_terminate c.table u.id })
   beside_left after leaves may ended last unnamed =
       let table = after_terminate c.table u.id in
-      let deps = leave_in_table opening steps s c.table u.id h.versions.kept h.dependencies ended last in
-      beside_after after leaves.places table (versions_after may table deps (λ y. unnamed)) deps
+      let deps = leave_in_table opening s c.table u.id h.versions.kept h.dependencies ended last in
+      beside_after may after leaves.places table (versions_after may table deps (λ y. unnamed)) deps
       (leaving_in_order s.start (state_of c.table) (state_of table) c.versions.slots c.versions.lists u.id (λ v ne. left_others c.table u.id v ne) (left_state c.table u.id) unnamed h.order)
       (works_of_others s c.table table c.tale u.id u h.versions.kept.single e left_own h.works)
       (leaves.stages c.table h.stages)

@@ -106,7 +106,8 @@ module _ (rs : Readers) (opening : Map) (steps : List Step) (s : State) (c : Cor
   pub stands_written : (node new : Node KeptTransaction) → kept_of c.table t ≡ Some node → new.dependencies ≡ node.dependencies → HasDoneAsMuch node.own new.own
       → StandsAmong rs opening steps s (record c { table = table_after_write c.table t new })
   stands_written node new was same much = record {
-    versions = subst (λ states. representation.VersionsStandFor opening steps s states c.versions.slots c.versions.lists c.versions.places) states h.versions;
+    kept = h.kept;
+    versions = subst (λ states. representation.VersionsStandFor opening s states c.versions.slots c.versions.lists c.versions.places) states h.versions;
     dependencies = write_in_table s c.table t node new h.dependencies was same;
     order = subst (λ states. AllStandInOrder s.start states c.versions.slots c.versions.lists) states h.order;
     works = works_carried s c.table (table_after_write c.table t new) c.tale (says_written c.table t node new was much) h.works;

@@ -109,7 +109,7 @@ module _ (rs : Readers) (opening : Map) (steps : List Step) (s : State) (c : Cor
 
   -- ---- it waits
   told : (whom : Option TxId) → MatchOption whom (HasNoneOpen c.table (data_of c.table t).on) (IsLeastOpen c.table (data_of c.table t).on) → option_map (λ id. id.0) whom ≡ option_map (λ x. x.id) (awaited s t.0)
-  told whom m = awaited_told opening steps s c.table t whom h.versions.kept h.dependencies (subst StandsPreparing (sym prepared.1) refl) m
+  told whom m = awaited_told opening s c.table t whom h.versions.kept h.dependencies (subst StandsPreparing (sym prepared.1) refl) m
 
   none_id : (n : ℕ) → ◌≡◌ {A = Option ℕ} (Some n) None → ⊥
   none_id n q = cc
@@ -264,11 +264,11 @@ module _ (rs : Readers) (opening : Map) (steps : List Step) (s : State) (c : Cor
           → StandsAmong rs opening (steps ++ Rattle.mvo_theory.specs.Calls.steps_of s (Settle t.0) Accepted) (after_settle s t.0) (record c { table = table; tale = slice_set c.tale place (Settled entry) })
       stands_committed least v = stands_then rs opening steps s c h (Settle t.0) Accepted table c.versions.lists (slice_set c.tale place (Settled entry)) (may v) refl h.versions.numbers
           (subst (λ z. Rattle.mvo_representation.specs.Dependencies.HasDependencies z table) (ap (after_commit_of s t.0) there.1 ∙ sym (after_is least))
-          (commit_in_table opening steps s taken untold table t end' h.versions.kept (change.dependencies s h.dependencies) before handed.is tells graph))
+          (commit_in_table opening s taken untold table t end' h.versions.kept (change.dependencies s h.dependencies) before handed.is tells graph))
           (commit_in_order s.start (state_of c.table) (state_of table) c.versions.slots c.versions.lists t.0 end' others was here h.order)
           (subst (λ z. HasWordLists z c.versions.slots (words_in table)) (sym (after_is least))
           (subst (HasWordLists (after_commit s t.0 x.end) c.versions.slots) same_words
-          (commit_in_lists opening steps s (state_of c.table) c.versions.slots c.versions.lists c.versions.places (words_in c.table) t.0 x h.versions there.1 h.words)))
+          (commit_in_lists opening s (state_of c.table) c.versions.slots c.versions.lists c.versions.places (words_in c.table) t.0 x h.versions there.1 h.words)))
           (subst (λ z. HasRest rs z table (slice_set c.tale place (Settled entry)) c) (sym (after_is least)) rest)
 
       pub commits_leads : HasNoneOpen c.table (data_of c.table t).on → is_own_valid (own_of c.table t.0) ≡ true → (tale : List TalePlace) → tale ≡ slice_set c.tale (own_place (own_of c.table t.0)) (Settled entry)

@@ -232,7 +232,7 @@ module _ (rs : Readers) (opening : Map) (steps : List Step) (s : State) (c : Cor
       open' = inl (ap phase_as was_active)
 
       written : HasWritten t.0 c.versions.slots numbers
-      written = lists_are_written opening steps s (state_of c.table) c.versions.slots c.versions.lists c.versions.places (words_in c.table) t.0 h.versions open' h.words
+      written = lists_are_written opening s (state_of c.table) c.versions.slots c.versions.lists c.versions.places (words_in c.table) t.0 h.versions open' h.words
 
       state_then : after_precommit s t.0 ≡ after_prepare s r (s.clock + 1)
       state_then = ap (after_precommit_of s) found.1
@@ -240,11 +240,11 @@ module _ (rs : Readers) (opening : Map) (steps : List Step) (s : State) (c : Cor
       drawn : stage_of t.0 rs.unfinished ≡ None → why_not_precommit s t.0 ≡ None → StandsAmong rs opening (steps ++ theory.steps_of s (Precommit t.0) Accepted) (after_precommit s t.0) (record c { versions = record c.versions { lists = lists }; table = table; tale = tale })
       drawn other free = stands_then rs opening steps s c h (Precommit t.0) Accepted table lists tale (free, tt) refl
           (fronts_in_numbers (comes_at_draw (state_of c.table) t.0) c.versions.slots c.versions.lists numbers h.versions.numbers)
-          (precommit_in_table opening steps s placed t.0 h.versions.kept deps still_active)
-          (draw_in_order opening steps s (state_of c.table) (state_of table) c.versions.slots c.versions.lists c.versions.places t.0 end' numbers h.versions was_active others here end_is written h.order)
+          (precommit_in_table opening s placed t.0 h.versions.kept deps still_active)
+          (draw_in_order opening s (state_of c.table) (state_of table) c.versions.slots c.versions.lists c.versions.places t.0 end' numbers h.versions was_active others here end_is written h.order)
           (subst (λ z. HasWordLists z c.versions.slots (words_in table)) (sym state_then)
           (subst (HasWordLists (after_prepare s r (s.clock + 1)) c.versions.slots) same_words
-          (precommit_in_lists opening steps s (state_of c.table) c.versions.slots c.versions.lists c.versions.places (words_in c.table) r h.versions its_own h.words)))
+          (precommit_in_lists opening s (state_of c.table) c.versions.slots c.versions.lists c.versions.places (words_in c.table) r h.versions its_own h.words)))
           (subst (λ z. HasRest rs z table tale c) (sym state_then) (rest other))
 
       stands_drawn : stage_of t.0 rs.unfinished ≡ None → why_not_precommit s t.0 ≡ None → (versions : VersionsData) (new : List TalePlace) → AreInFront (comes_at_draw (state_of c.table) t.0) c.versions versions (words_in c.table t.0) → new ≡ tale

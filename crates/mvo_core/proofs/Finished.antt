@@ -159,7 +159,7 @@ module _ (rs : Readers) (opening : Map) (steps : List Step) (s : State) (c : Cor
           leads = record {
             may = may;
             stands = with_lists after opening (steps ++ steps_of s (Finish u.id) Accepted) (changes.after_finish s u.id) (record c { table = after_terminate table u.id }) left
-                (leaving_in_lists opening steps s (state_of between) c.versions.slots c.versions.lists c.versions.places (words_in between) (words_in (after_terminate table u.id)) u first_beside.versions e none_there now first_lists);
+                (leaving_in_lists opening s (state_of between) c.versions.slots c.versions.lists c.versions.places (words_in between) (words_in (after_terminate table u.id)) u first_beside.versions e none_there now first_lists);
           };
           answer = answered true s u.id is_over;
         }
@@ -207,7 +207,7 @@ module _ (rs : Readers) (opening : Map) (steps : List Step) (s : State) (c : Cor
         let e' = ended_after s u.id u e more in
         let fourth = beside_word rs opening steps s (record c { versions = versions; table = dropped_table }) third_beside u e may more in
         let fifth = beside_written rs opening steps' s' (record c { versions = versions; table = dropped_table }) fourth u' e' table (HasPassed versions.slots u.id) (passed_same versions.slots u.id) again in
-        let lists = finish_in_lists opening steps s (state_of between) c.versions.slots versions.slots c.versions.lists c.versions.places (words_in between) (words_in dropped_table) u p ps there.version
+        let lists = finish_in_lists opening s (state_of between) c.versions.slots versions.slots c.versions.lists c.versions.places (words_in between) (words_in dropped_table) u p ps there.version
         first_beside.versions e is there.at name more now (record { others = (list_written between dropped_table u.id HasDropped dropped).others; here = list_dropped }) first_lists in
         let lists' = passes opening steps' s' (state_of dropped_table) versions.slots versions.lists versions.places u' fourth.versions e' ps (words_in dropped_table) (words_in table) list_dropped
         (record { others = (list_written dropped_table table u.id (HasPassed versions.slots u.id) again).others; here = list_again }) lists in
@@ -227,7 +227,7 @@ module _ (rs : Readers) (opening : Map) (steps : List Step) (s : State) (c : Cor
         let unnamed = last_unnamed s (state_of between) c.versions.slots versions.slots (words_in between) u p ps there.version e is there.at name last now first_lists in
         let left = beside_left rs opening steps s (record c { versions = versions; table = table }) fourth u e after leaves may ended last unnamed in
         let list = left_list u.id (words_in between) table (λ v ne. (list_written dropped_table table u.id (HasPassed versions.slots u.id) again).others v ne ∙ (list_written between dropped_table u.id HasDropped dropped).others v ne) in
-        let lists = last_in_lists opening steps s (state_of between) c.versions.slots versions.slots c.versions.lists c.versions.places (words_in between) (words_in (after_terminate table u.id)) u p ps there.version
+        let lists = last_in_lists opening s (state_of between) c.versions.slots versions.slots c.versions.lists c.versions.places (words_in between) (words_in (after_terminate table u.id)) u p ps there.version
         first_beside.versions e is there.at name last now list first_lists in
         record {
           leads = record { may = may; stands = with_lists after opening steps' s' (record c { versions = versions; table = after_terminate table u.id }) left lists };

@@ -22,6 +22,7 @@ use Rattle.mvo_theory.specs.Causes.{why_not_close}
 use Rattle.mvo_theory.specs.Calls.{IsRefusal}
 use Rattle.mvo_theory.proofs.Finishing.{kept_closed}
 use Rattle.mvo_theory.proofs.Groups.{closed_at_low, closed_below_low, next_group_closes}
+use Rattle.mvo_shared.proofs.Standing.{standing_of}
 use Rattle.mvo_txn.specs.Txns.{state_of, IsLowWater}
 use Rattle.mvo_tale.specs.declared.next_records.NextRecords.{NextRecords}
 use Rattle.mvo_tale.specs.declared.tale_place.TalePlace.{TalePlace}
@@ -74,7 +75,7 @@ full_is false n v = ne_eqb n 0 (λ z. true≢false (sym (v.1 z)))
 
 module _ (rs : Readers) (opening : Map) (steps : List Step) (s : State) (c : CoreData) (h : StandsAmong rs opening steps s c) (low : ℕ) (told : IsLowWater c.table low) where
   low_is : low ≡ low_water s
-  low_is = low_water_told opening steps s c.table low h.versions.kept h.dependencies.stands told
+  low_is = low_water_told opening s c.table low h.versions.kept h.dependencies.stands told
 
   why_is : (full : Bool) → why_not_close s full ≡ why_at low c.closed full
   unfolding why_at
@@ -84,7 +85,7 @@ module _ (rs : Readers) (opening : Map) (steps : List Step) (s : State) (c : Cor
 
   -- ---- what the records of the next group need
   pub ends_above : AllByRecursion (λ e. low < e) (open_ends c.tale)
-  ends_above = subst (λ (n : ℕ). AllByRecursion (λ e. n < e) (open_ends c.tale)) (sym low_is) (opens_above_among s c.tale h.versions.kept.started h.versions.kept.sound.rising h.tale (low_water s) (closed_at_low opening steps s h.versions.kept).above)
+  ends_above = subst (λ (n : ℕ). AllByRecursion (λ e. n < e) (open_ends c.tale)) (sym low_is) (opens_above_among s c.tale h.versions.kept.started h.versions.kept.sound.rising h.tale (low_water s) (closed_at_low opening steps s h.kept).above)
 
   pub above_closed : IsClosedAt s.marks.closed s → (low == c.closed) ≡ false → c.closed < low
   above_closed closed moved =
@@ -95,7 +96,7 @@ module _ (rs : Readers) (opening : Map) (steps : List Step) (s : State) (c : Cor
       less a b le ne = omega (arith, le, ne)
 
   pub low_drawn : low ≤ s.clock
-  low_drawn = subst (λ (n : ℕ). n ≤ s.clock) (sym low_is) (closed_at_low opening steps s h.versions.kept).drawn
+  low_drawn = subst (λ (n : ℕ). n ≤ s.clock) (sym low_is) (closed_at_low opening steps s h.kept).drawn
 
   -- ---- the group
   module _ (n : NextRecords) (are : AreNextRecords c.tale c.closed low n) where
@@ -112,8 +113,9 @@ module _ (rs : Readers) (opening : Map) (steps : List Step) (s : State) (c : Cor
 
       with_group : StandsAmong rs opening steps (after_close s n.mark.0) (record c { closed = n.mark.0; grouped = n.next })
       with_group = record {
+        kept = kept_closed opening steps s n.mark.0 h.kept;
         versions = record {
-          kept = kept_closed opening steps s n.mark.0 h.versions.kept;
+          kept = standing_of opening steps (after_close s n.mark.0) (kept_closed opening steps s n.mark.0 h.kept);
           versions = kept_after_close s (phases_of (state_of c.table)) (all_versions c.versions.slots) n.mark.0 h.versions.versions;
           numbers = h.versions.numbers;
           order = h.versions.order;
@@ -152,7 +154,7 @@ module _ (rs : Readers) (opening : Map) (steps : List Step) (s : State) (c : Cor
     -- and all are settled up to its mark
     pub all_settled : IsClosedAt s.marks.closed s → IsClosedAt n.mark.0 (after_close s n.mark.0)
     all_settled closed =
-        let q = next_group_closes opening steps s fits (record { prev = s.marks.closed; mark = n.mark.0; commits = in_state.taken }) h.versions.kept closed next_is in
+        let q = next_group_closes opening steps s fits (record { prev = s.marks.closed; mark = n.mark.0; commits = in_state.taken }) h.kept closed next_is in
         record { drawn = q.closed.drawn; above = q.closed.above }
 
   -- ---- whether it is refused

@@ -75,7 +75,7 @@ module _ (rs : Readers) (opening : Map) (steps : List Step) (s : State) (c : Cor
   -- a walk over the versions of the key shows what the rules say
   pub in_order : (k : RowKey) → state_of c.table r.id ≡ Some Active → AreVersionsInOrder (state_of c.table) r.id r.id (versions_at c.versions.slots c.versions.lists k)
   in_order k active = record {
-    falling = order_falls opening steps s (state_of c.table) c.versions.slots c.versions.lists c.versions.places h.versions h.order k;
+    falling = order_falls opening s (state_of c.table) c.versions.slots c.versions.lists c.versions.places h.versions h.order k;
     own = order_has_own_in_front s.start (state_of c.table) c.versions.slots c.versions.lists r.id active h.order k;
   }
 
@@ -85,10 +85,10 @@ module _ (rs : Readers) (opening : Map) (steps : List Step) (s : State) (c : Cor
     shown = (shown_to (state_of c.table) r.id r.id (versions_at c.versions.slots c.versions.lists k)).version
 
     pub snapshot_is : content_shown c.versions.slots shown ≡ fin.get (snapshot s r.id) k
-    snapshot_is = shows_snapshot opening steps s (state_of c.table) c.versions.slots c.versions.lists c.versions.places r k h.versions f
+    snapshot_is = shows_snapshot opening s (state_of c.table) c.versions.slots c.versions.lists c.versions.places r k h.versions f
 
     pub shown_there : (n : VersionNo) → shown ≡ Some n → IsShown s (state_of c.table) c.versions.slots r.id k n
-    shown_there n e = shown_is_there opening steps s (state_of c.table) c.versions.slots c.versions.lists c.versions.places r k n h.versions f e
+    shown_there n e = shown_is_there opening s (state_of c.table) c.versions.slots c.versions.lists c.versions.places r k n h.versions f e
 
     pub row_there : (n : VersionNo) (e : shown ≡ Some n) → fin.get (snapshot s r.id) k ≡ Some (content_of (shown_there n e).version.row)
     row_there n e = sym snapshot_is ∙ ap (content_shown c.versions.slots) e ∙ ap (option_map (λ v. content_of v.row)) (shown_there n e).at
@@ -98,7 +98,7 @@ module _ (rs : Readers) (opening : Map) (steps : List Step) (s : State) (c : Cor
 
     pub may_end : (n : VersionNo) (e : shown ≡ Some n) → cause_at (state_of c.table) c.versions.slots r.id (Some n) ≡ None
         → MayEnd s (phases_of (state_of c.table)) r.id (all_versions c.versions.slots) (shown_there n e).version
-    may_end n e free = free_may_be_ended opening steps s (state_of c.table) c.versions.slots c.versions.lists c.versions.places r k n h.versions f (shown_there n e)
+    may_end n e free = free_may_be_ended opening s (state_of c.table) c.versions.slots c.versions.lists c.versions.places r k n h.versions f (shown_there n e)
         (sym (ap (cause_for (state_of c.table) r.id) (shown_there n e).at) ∙ free)
 
     -- ---- its own newest one
@@ -135,7 +135,7 @@ module _ (rs : Readers) (opening : Map) (steps : List Step) (s : State) (c : Cor
         by : (n : VersionNo) (w : IsShown s (state_of c.table) c.versions.slots r.id k n) → IsShownAs s (state_of c.table) r.id (all_versions c.versions.slots) w.version
             → cause_of (state_of c.table) r.id w.version.end ≡ conflict s r.id k
         by n w (AsOwn o) = own_free n w o ∙ sym (no_conflict (fin.contains_key (snapshot s r.id) k) (is_some (net_write k (history_of_active r.id s.active))) (claimed_by s r.id k) (own_wrote n w o))
-        by n w (AsOthers stamp x is) = sym (tells_cause opening steps s (state_of c.table) c.versions.slots c.versions.lists c.versions.places r n w.version stamp h.versions f w.at x is) ∙ ap (conflict s r.id) w.key
+        by n w (AsOthers stamp x is) = sym (tells_cause opening s (state_of c.table) c.versions.slots c.versions.lists c.versions.places r n w.version stamp h.versions f w.at x is) ∙ ap (conflict s r.id) w.key
 
         go : (o : Option VersionNo) → shown ≡ o → cause_at (state_of c.table) c.versions.slots r.id shown ≡ conflict s r.id k
         go None e =

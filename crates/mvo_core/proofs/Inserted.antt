@@ -73,7 +73,7 @@ module _ (rs : Readers) (opening : Map) (steps : List Step) (s : State) (c : Cor
 
   in_order : AllStandInOrder s.start (state_of w.recorded.roomy) new.slots new.lists
   in_order = subst (AllStandInOrder s.start (state_of w.recorded.roomy) new.slots) (sym w.put.lists)
-      (insert_keeps_order opening steps s (state_of w.recorded.roomy) c.versions.slots new.slots c.versions.lists c.versions.places here.tx row w.number.0 stands.versions found empty w.put.unused now stands.order)
+      (insert_keeps_order opening s (state_of w.recorded.roomy) c.versions.slots new.slots c.versions.lists c.versions.places here.tx row w.number.0 stands.versions found empty w.put.unused now stands.order)
 
   one_more : IsOneMore (fresh t.0 row) (all_versions c.versions.slots) (all_versions new.slots)
   one_more = subst (λ ss. IsOneMore (fresh t.0 row) (all_versions c.versions.slots) (all_versions ss)) (sym w.put.slots)
@@ -107,7 +107,7 @@ module _ (rs : Readers) (opening : Map) (steps : List Step) (s : State) (c : Cor
 
   words : HasWordLists (after_answer s t.0 (Insert row) Inserted) new.slots (words_in table)
   words = subst (λ (n : ℕ). HasWordLists (after_answer s n (Insert row) Inserted) new.slots (words_in table)) id
-      (insert_keeps_lists opening steps s (state_of w.recorded.roomy) c.versions.slots new.slots c.versions.lists c.versions.places (words_in w.recorded.roomy) (words_in table) here.tx row w.number.0
+      (insert_keeps_lists opening s (state_of w.recorded.roomy) c.versions.slots new.slots c.versions.lists c.versions.places (words_in w.recorded.roomy) (words_in table) here.tx row w.number.0
       stands.versions found empty added.0 now list_now stands.words)
 
   -- ---- the answer

@@ -68,7 +68,7 @@ module _ (rs : Readers) (opening : Map) (steps : List Step) (s : State) (c : Cor
   -- a walk finds it
   pub versions_in_order : state_of c.table t ≡ Some Active → (k : RowKey) → AreVersionsInOrder (state_of c.table) t t (versions_at c.versions.slots c.versions.lists k)
   versions_in_order active k = record {
-    falling = order_falls opening steps s (state_of c.table) c.versions.slots c.versions.lists c.versions.places h.versions h.order k;
+    falling = order_falls opening s (state_of c.table) c.versions.slots c.versions.lists c.versions.places h.versions h.order k;
     own = order_has_own_in_front s.start (state_of c.table) c.versions.slots c.versions.lists t active h.order k;
   }
 
@@ -81,11 +81,11 @@ module _ (rs : Readers) (opening : Map) (steps : List Step) (s : State) (c : Cor
 
     shows : content_shown c.versions.slots (shown_in c t k).version ≡ fin.get (snapshot s t) k
     shows = subst (λ (n : ℕ). content_shown c.versions.slots (shown_in c n k).version ≡ fin.get (snapshot s n) k) id
-        (shows_snapshot opening steps s (state_of c.table) c.versions.slots c.versions.lists c.versions.places r k h.versions here)
+        (shows_snapshot opening s (state_of c.table) c.versions.slots c.versions.lists c.versions.places r k h.versions here)
 
     pub shown_there : (number : VersionNo) → (shown_in c t k).version ≡ Some number → IsShown s (state_of c.table) c.versions.slots t k number
     shown_there number = subst (λ (n : ℕ). (shown_in c n k).version ≡ Some number → IsShown s (state_of c.table) c.versions.slots n k number) id
-        (shown_is_there opening steps s (state_of c.table) c.versions.slots c.versions.lists c.versions.places r k number h.versions here)
+        (shown_is_there opening s (state_of c.table) c.versions.slots c.versions.lists c.versions.places r k number h.versions here)
 
     -- a row, with its key
     whole : (v : Version) → v.row.key ≡ k → v.row ≡ row_with k (content_of v.row)
@@ -119,4 +119,4 @@ module _ (rs : Readers) (opening : Map) (steps : List Step) (s : State) (c : Cor
     -- on whom it depends then
     pub names_just : (op : Op) → entry_of op ≡ Key k → AreDependencies s op r (option_to_list (shown_in c t k).depends_on)
     names_just op e = subst (AreDependencies s op r) (listed (shown_in c t k).depends_on)
-        (key_named opening steps s (state_of c.table) c.versions.slots c.versions.lists c.versions.places t op r k h.versions f e)
+        (key_named opening s (state_of c.table) c.versions.slots c.versions.lists c.versions.places t op r k h.versions f e)

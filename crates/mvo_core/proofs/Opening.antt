@@ -12,6 +12,7 @@ use Rattle.mvo_theory.specs.Ranges.{Row}
 use Rattle.mvo_theory.specs.State.{opened}
 use Rattle.mvo_theory.proofs.Chain.{chained_opened}
 use Rattle.mvo_theory.proofs.Runs.{kept_opened}
+use Rattle.mvo_shared.proofs.Standing.{standing_opened}
 use Rattle.mvo_word.specs.declared.held.Held.TheVariants.{At, Infinity}
 use Rattle.mvo_chain.specs.declared.version.Version.{Version}
 use Rattle.mvo_txn.specs.declared.table_seat.TableSeat.{TableSeat}
@@ -76,7 +77,8 @@ module _ (rows : Map) (mark : ℕ) (v : VersionsData) (is : AreLoaded rows mark 
 
   pub opens : HasOpenedOver rows mark (record { versions = v; table = no_txns mark; tale = []; start = mark; opening = mark; closed = mark; grouped = 0 })
   opens = record {
-    versions = record { kept = kept_opened rows mark; versions = versions; numbers = indexed.numbers; order = indexed.order };
+    kept = kept_opened rows mark;
+    versions = record { kept = standing_opened rows mark; versions = versions; numbers = indexed.numbers; order = indexed.order };
     dependencies = opened_table rows mark;
     order = in_order;
     works = record { active = tt; preparing = tt };

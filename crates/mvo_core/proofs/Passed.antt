@@ -94,7 +94,7 @@ same_lists words words' t ps is now = λ i u. at u i
 now_after : (words words1 words' : WordLists) (t : ℕ) (ps qs : List WordPlace) → HaveListNow words words1 t ps → HaveListNow words words' t qs → HaveListNow words1 words' t qs
 now_after words words1 words' t ps qs one both = record { others = λ u ne. both.others u ne ∙ sym (one.others u ne); here = both.here }
 
-module _ (opening : Map) (steps : List Step) (s : State) (states : States) (slots : Slots) (lists : Lists) (places : Places) (u : EndedTx) (h : representation.VersionsStandFor opening steps s states slots lists places) (e : ended_of u.id s.ended ≡ Some u) where
+module _ (opening : Map) (steps : List Step) (s : State) (states : States) (slots : Slots) (lists : Lists) (places : Places) (u : EndedTx) (h : representation.VersionsStandFor opening s states slots lists places) (e : ended_of u.id s.ended ≡ Some u) where
   pub passes : (ps : List WordPlace) (words words' : WordLists) → words u.id ≡ ps → HaveListNow words words' u.id (from_own slots u.id ps) → HasWordLists s slots words → HasWordLists s slots words'
   passes [] words words' is now l = subst (HasWordLists s slots) (same_lists words words' u.id [] is now) l
   passes (p ∷ ps) words words' is now l = go (names_at slots u.id p) refl now (passes ps (with_list words u.id ps) words' (have_list words u.id ps).here)
@@ -104,7 +104,7 @@ module _ (opening : Map) (steps : List Step) (s : State) (states : States) (slot
           → HasWordLists s slots words'
       go true n m k = subst (HasWordLists s slots) (same_lists words words' u.id (p ∷ ps) is m) l
       go false n m k = k (now_after words (with_list words u.id ps) words' u.id ps (from_own slots u.id ps) (have_list words u.id ps) m)
-          (passing_in_lists opening steps s states slots lists places words (with_list words u.id ps) u p ps h e is n (have_list words u.id ps) l)
+          (passing_in_lists opening s states slots lists places words (with_list words u.id ps) u p ps h e is n (have_list words u.id ps) l)
 
 -- ---- whether it is done, once the first word is finished
 module _ (s : State) (slots slots' : Slots) (words : WordLists) (u : EndedTx) (e : ended_of u.id s.ended ≡ Some u) (l : HasWordLists s slots words) (p : WordPlace) (ps : List WordPlace) (is : words u.id ≡ p ∷ ps) (name : names_at slots u.id p ≡ true)

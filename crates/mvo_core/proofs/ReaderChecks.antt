@@ -44,6 +44,7 @@ module _ (opening : Map) (steps own : List Step) (w : WholeState) (c : CoreData)
   -- ---- nothing is written: the call is none of the core's
   stands_among : (us : List UnfinishedReader) (ys : List CommittedReader) → HasReaders w.core.start us ys c.tale → HaveStages us c.table c.tale → StandsAmong (record { unfinished = us; committed = ys }) opening own w.core c
   stands_among us ys readers stages = record {
+    kept = h.core.kept;
     versions = h.core.versions;
     dependencies = h.core.dependencies;
     order = h.core.order;

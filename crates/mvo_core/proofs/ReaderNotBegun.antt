@@ -101,6 +101,7 @@ module _ (opening : Map) (steps own : List Step) (w : WholeState) (c : CoreData)
   pub reader_not_begun : StandsWhole opening steps own w (record c { tale = closed_up (slice_set (c.tale ++ Reading (record { 0 = w.core.clock + 1 }) ∷ []) (length c.tale) Empty) })
   reader_not_begun = subst (λ (xs : List TalePlace). StandsWhole opening steps own w (record c { tale = xs })) (sym left_is) (record {
     core = record {
+      kept = h.core.kept;
       versions = h.core.versions;
       dependencies = h.core.dependencies;
       order = h.core.order;

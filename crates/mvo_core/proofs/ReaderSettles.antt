@@ -109,7 +109,8 @@ module _ (before : Readers) (opening : Map) (steps : List Step) (s : State) (c :
 
   handed_over : (after : Readers) → HasTale s (others_places tale) → HasTalePlaces after s.start s.clock tale → HaveStages after.unfinished table tale → AreGroupedTo tale c.grouped c.closed → StandsAmong after opening steps s (record c { table = table; tale = tale })
   handed_over after has places stages grouped = record {
-    versions = subst (λ st. representation.VersionsStandFor opening steps s st c.versions.slots c.versions.lists c.versions.places) states h.versions;
+    kept = h.kept;
+    versions = subst (λ st. representation.VersionsStandFor opening s st c.versions.slots c.versions.lists c.versions.places) states h.versions;
     dependencies = change.dependencies s h.dependencies;
     order = subst (λ st. AllStandInOrder s.start st c.versions.slots c.versions.lists) states h.order;
     works = works;
@@ -181,7 +182,7 @@ module _ (opening : Map) (steps own : List Step) (w : WholeState) (c : CoreData)
     may = subst (λ o. MayComeAtStage w (Settle t.0) o Accepted) (sym is) (why true valid, tt)
 
     told : (whom : Option TxId) → MatchOption whom (HasNoneOpen c.table (data_of c.table t).on) (IsLeastOpen c.table (data_of c.table t).on) → option_map (λ id. id.0) whom ≡ option_map (λ x. x.id) (awaited_by_reader s t.0)
-    told whom m = reader_awaited_told opening own s c.table t whom h.core.versions.kept h.core.dependencies active m
+    told whom m = reader_awaited_told opening own s c.table t whom h.core.kept h.core.dependencies active m
 
     -- ---- it waits
     pub reader_waits : (other : TxId) → IsLeastOpen c.table (data_of c.table t).on other → LeadsWhole opening steps own w (CoreCall (Settle t.0)) Accepted c

@@ -64,7 +64,8 @@ module _ (before : Readers) (opening : Map) (steps : List Step) (s : State) (c :
 
 pub readers_moved : ReadersMove
 readers_moved before after opening steps s c t table tale h apart written opens has places stages grouped = record {
-  versions = subst (λ st. representation.VersionsStandFor opening steps s st c.versions.slots c.versions.lists c.versions.places) (states before opening steps s c h t table tale apart written opens) h.versions;
+  kept = h.kept;
+  versions = subst (λ st. representation.VersionsStandFor opening s st c.versions.slots c.versions.lists c.versions.places) (states before opening steps s c h t table tale apart written opens) h.versions;
   dependencies = (change before opening steps s c h t table tale apart written opens).dependencies s h.dependencies;
   order = subst (λ st. AllStandInOrder s.start st c.versions.slots c.versions.lists) (states before opening steps s c h t table tale apart written opens) h.order;
   works = works before opening steps s c h t table tale apart written opens;

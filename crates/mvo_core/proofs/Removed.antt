@@ -120,12 +120,12 @@ module _ (rs : Readers) (opening : Map) (steps : List Step) (s : State) (c : Cor
 
     deleted_in_order : AllStandInOrder s.start (state_of c.table) versions.slots versions.lists
     deleted_in_order = subst (AllStandInOrder s.start (state_of c.table) versions.slots) (sym w.lists)
-        (delete_keeps_order opening steps s (state_of c.table) c.versions.slots versions.slots c.versions.lists c.versions.places r v n.0 h.versions f there.at may
+        (delete_keeps_order opening s (state_of c.table) c.versions.slots versions.slots c.versions.lists c.versions.places r v n.0 h.versions f there.at may
         (subst (λ ss. HaveNow c.versions.slots ss n.0 (ended_by r.id v)) (sym w.slots) ended_now) h.order)
 
     deleted_in_lists : HasWordLists (after_answer s r.id (Delete k) Deleted) versions.slots (words_in table)
     deleted_in_lists = subst (λ (q : RowKey). HasWordLists (after_answer s r.id (Delete q) Deleted) versions.slots (words_in table)) there.key
-        (delete_keeps_lists opening steps s (state_of c.table) c.versions.slots versions.slots c.versions.lists c.versions.places (words_in c.table) (words_in table) r v n.0 h.versions f there.at may
+        (delete_keeps_lists opening s (state_of c.table) c.versions.slots versions.slots c.versions.lists c.versions.places (words_in c.table) (words_in table) r v n.0 h.versions f there.at may
         (subst (λ ss. HaveNow c.versions.slots ss n.0 (ended_by r.id v)) (sym w.slots) ended_now)
         (list_now c.table (tx_id r.id) ids table (Delete k) Deleted (End n ∷ []) told) h.words)
 
@@ -203,11 +203,11 @@ module _ (rs : Readers) (opening : Map) (steps : List Step) (s : State) (c : Cor
 
     updated_in_order : AllStandInOrder s.start (state_of c.table) versions.slots versions.lists
     updated_in_order = subst (AllStandInOrder s.start (state_of c.table) versions.slots) (sym (w.lists ∙ p.lists))
-        (update_keeps_order opening steps s (state_of c.table) c.versions.slots ended_slots versions.slots c.versions.lists c.versions.places r v row n.0 m.0 h.versions f there.at same_key may
+        (update_keeps_order opening s (state_of c.table) c.versions.slots ended_slots versions.slots c.versions.lists c.versions.places r v row n.0 m.0 h.versions f there.at same_key may
         ended_now p.unused now h.order)
 
     updated_in_lists : HasWordLists (after_answer s r.id (Update row) Updated) versions.slots (words_in table)
-    updated_in_lists = update_keeps_lists opening steps s (state_of c.table) c.versions.slots ended_slots versions.slots c.versions.lists c.versions.places (words_in c.table) (words_in table) r v row n.0 m.0
+    updated_in_lists = update_keeps_lists opening s (state_of c.table) c.versions.slots ended_slots versions.slots c.versions.lists c.versions.places (words_in c.table) (words_in table) r v row n.0 m.0
         h.versions f there.at same_key may ended_now hole now
         (subst (HaveListNow (words_in c.table) (words_in table) r.id) (sym (append_assoc (words_in c.table r.id) (End n ∷ []) (Begin m ∷ [])))
         (list_now c.table (tx_id r.id) ids table (Update row) Updated (End n ∷ Begin m ∷ []) told)) h.words

@@ -8,6 +8,7 @@ use Rattle.mvo_theory.specs.Calls.{Call, Result, MayCome, after_call, steps_of}
 use Rattle.mvo_theory.proofs.Finds.{find_none}
 use Rattle.mvo_theory.proofs.Runs.{kept_after_call}
 use Rattle.mvo_theory.proofs.Single.{preparing_found, active_alone}
+use Rattle.mvo_shared.proofs.Standing.{standing_of}
 use Rattle.mvo_txn.specs.declared.state.TxState.TheVariants.{Active, Preparing}
 use Rattle.mvo_txn.specs.Txns.{Txns, state_of}
 use Rattle.mvo_deps.specs.declared.node.Node.{Node}
@@ -67,10 +68,11 @@ module _ (rs : Readers) (opening : Map) (steps : List Step) (s : State) (c : Cor
       → HasRest rs (after_call s call r) table tale c
       → StandsAmong rs opening (steps ++ steps_of s call r) (after_call s call r) (record c { versions = record c.versions { lists = lists }; table = table; tale = tale })
   stands_then call r table lists tale may same numbers deps order words rest = record {
+    kept = kept_after_call opening steps s call r may h.kept;
     versions = record {
-      kept = kept_after_call opening steps s call r may h.versions.kept;
+      kept = standing_of opening (steps ++ steps_of s call r) (after_call s call r) (kept_after_call opening steps s call r may h.kept);
       versions = subst (λ p. AreVersionsOf (after_call s call r) p (all_versions c.versions.slots)) (sym (λ i u. deps.stands.phases u i))
-          (call_keeps opening steps s call r (all_versions c.versions.slots) (all_versions c.versions.slots) h.versions.kept may
+          (call_keeps opening s call r (all_versions c.versions.slots) (all_versions c.versions.slots) h.versions.kept may
           (subst (λ p. AreVersionsOf s p (all_versions c.versions.slots)) phases h.versions.versions) same);
       numbers = numbers;
       order = h.versions.order;
@@ -85,5 +87,5 @@ module _ (rs : Readers) (opening : Map) (steps : List Step) (s : State) (c : Cor
     marks = rest.marks;
     grouped = rest.grouped;
     start = rest.start;
-    over = each_call_keeps_over opening steps s (phases_of (state_of c.table)) (all_versions c.versions.slots) call r h.versions.kept may h.versions.versions h.over;
+    over = each_call_keeps_over opening s (phases_of (state_of c.table)) (all_versions c.versions.slots) call r h.versions.kept may h.versions.versions h.over;
   }

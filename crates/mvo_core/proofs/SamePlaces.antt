@@ -11,6 +11,7 @@ use Rattle.mvo_core.specs.Standing.{StandsAmong}
 
 pub stands_by_places : (rs : Readers) (opening : Map) (steps : List Step) (s : State) (c : CoreData) (places : Places) → HaveSamePlaces c.versions.places places → StandsAmong rs opening steps s c → StandsAmong rs opening steps s (record c { versions = record c.versions { places = places } })
 stands_by_places rs opening steps s c places alike h = record {
+  kept = h.kept;
   versions = record {
     kept = h.versions.kept;
     versions = h.versions.versions;

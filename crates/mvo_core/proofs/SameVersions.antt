@@ -35,6 +35,7 @@ module _ (rs : Readers) (opening : Map) (steps : List Step) (s : State) (c : Cor
 
   pub stands_same_versions : StandsAmong rs opening steps s (record c { versions = v })
   stands_same_versions = record {
+    kept = h.kept;
     versions = record {
       kept = h.versions.kept;
       versions = subst (AreVersionsOf s (phases_of (state_of c.table))) (sym (same_all c.versions v w)) h.versions.versions;

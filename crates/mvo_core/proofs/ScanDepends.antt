@@ -24,5 +24,5 @@ module _ (rs : Readers) (opening : Map) (steps : List Step) (s : State) (c : Cor
 
   pub scan_depends : (r : ActiveTx) → active_of t s.active ≡ Some r → IsSeen (state_of c.table) c.versions s.start t table lo hi rows on → AreDependencies s (Scan table lo hi) r on
   scan_depends r f w =
-      scan_named opening steps s (state_of c.table) c.versions.slots c.versions.lists c.versions.places t r table lo hi on h.versions f
+      scan_named opening s (state_of c.table) c.versions.slots c.versions.lists c.versions.places t r table lo hi on h.versions f
       (named_by_scan s (state_of c.table) c.versions t table lo hi h.versions.numbers h.versions.order on w.named)

@@ -258,7 +258,7 @@ module _ (rs : Readers) (opening : Map) (steps : List Step) (s : State) (c : Cor
       let sort : z.sort ≡ p.sort = ap (λ (x : RowData). x.sort) w.row in
       let id : r.id ≡ t = id_of t s.active r f in
       let there = some_there (fin.get c.versions.places p)
-      (rows_are_placed opening steps s (state_of c.table) c.versions.slots c.versions.lists c.versions.places r z.key w.content h.versions
+      (rows_are_placed opening s (state_of c.table) c.versions.slots c.versions.lists c.versions.places r z.key w.content h.versions
       (ap (λ (n : ℕ). active_of n s.active) id ∙ f) (ap (λ (n : ℕ). fin.get (snapshot s n) z.key) id ∙ w.held)) in
       each_entry (λ q. at q ≡ Some z → IsIn z (here (places_within c.versions.places table lo hi))) table lo hi p there.0 (fin.entries c.versions.places)
       (sym (within_is p sort) ∙ w.inside)

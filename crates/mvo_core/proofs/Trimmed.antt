@@ -18,6 +18,7 @@ use Rattle.mvo_theory.specs.Calls.Call.{Trim}
 use Rattle.mvo_theory.specs.Calls.Result.{Accepted, Refused}
 use Rattle.mvo_theory.proofs.Each.{each_filter, each_weaker}
 use Rattle.mvo_theory.proofs.Kept.{kept_trimmed}
+use Rattle.mvo_shared.proofs.Standing.{standing_of}
 use Rattle.mvo_txn.specs.Txns.{state_of, IsOldestBegin, IsLowWater}
 use Rattle.mvo_deps.specs.declared.node.Node.{Node}
 use Rattle.mvo_readonly.specs.Whole.{WholeState}
@@ -77,6 +78,7 @@ whole_of rs s = record { core = s; readers = rs.unfinished; committed_readers = 
 pub stands_forgotten : (rs : Readers) (opening : Map) (steps : List Step) (s : State) (c : CoreData) → StandsAmong rs opening steps s c → (upto : ℕ) → upto ≤ s.start → upto ≤ s.marks.closed
     → StandsAmong rs opening steps s (record c { tale = forgotten upto c.tale })
 stands_forgotten rs opening steps s c h upto trimmed grouped = let after = whole_forgotten (whole_of rs s) upto c.tale h.versions.kept.started trimmed grouped (record { others = h.tale; readers = h.places.readers }) in record {
+  kept = h.kept;
   versions = h.versions;
   dependencies = h.dependencies;
   order = h.order;
@@ -116,8 +118,8 @@ module _ (rs : Readers) (opening : Map) (steps : List Step) (s : State) (c : Cor
     -- ---- the three tests
     pub test_is : is_trim s m ≡ may_trim_to m c.start oldest low
     test_is =
-        let o = oldest_told opening steps s c.table oldest h.versions.kept h.dependencies.stands begin in
-        let l = low_water_told opening steps s c.table low h.versions.kept h.dependencies.stands water in
+        let o = oldest_told opening s c.table oldest h.versions.kept h.dependencies.stands begin in
+        let l = low_water_told opening s c.table low h.versions.kept h.dependencies.stands water in
         λ i. nat_lt (h.start i) m && (nat_le m (sym o i) && nat_le m (sym l i))
 
     why_is : (b : Bool) → may_trim_to m c.start oldest low ≡ b → why_not_trim s m ≡ first_cause (when (not b) NothingToDo ∷ [])
@@ -138,31 +140,32 @@ module _ (rs : Readers) (opening : Map) (steps : List Step) (s : State) (c : Cor
       above = ltb-true s.start m (and_parts (nat_lt s.start m) (nat_le m (oldest_begin s) && nat_le m (low_water s)) (test_is ∙ yes)).0
 
       kept : IsKept opening steps (after_trim s m)
-      kept = kept_trimmed opening steps s m free h.versions.kept
+      kept = kept_trimmed opening steps s m free h.kept
 
       same_phase : (t : ℕ) → phase_in s t ≡ phase_in (after_trim s m) t
-      same_phase t = sym (h.versions.kept.after_trace.phases t) ∙ kept.after_trace.phases t
+      same_phase t = sym (h.kept.after_trace.phases t) ∙ kept.after_trace.phases t
 
       tale_then : HasWholeTale (record { core = after_trim s m; readers = rs.unfinished; committed_readers = rs.committed }) c.tale
       tale_then = whole_trimmed (whole_of rs s) m c.tale h.versions.kept.sound.rising (omega (arith, above)) (record { others = h.tale; readers = h.places.readers })
 
       trimmed : StandsAmong rs opening steps (after_trim s m) (record c { start = m })
       trimmed = record {
+        kept = kept;
         versions = record {
-          kept = kept;
+          kept = standing_of opening steps (after_trim s m) kept;
           versions = retabled (after_trim s m) (phase_in (after_trim s m)) (phases_of (state_of c.table)) (all_versions c.versions.slots) (λ t. h.versions.versions.phases t ∙ same_phase t)
-              (each_call_keeps opening steps s (Trim m) Accepted (all_versions c.versions.slots) (all_versions c.versions.slots) h.versions.kept (free, tt)
+              (each_call_keeps opening s (Trim m) Accepted (all_versions c.versions.slots) (all_versions c.versions.slots) h.versions.kept (free, tt)
               (retabled s (phases_of (state_of c.table)) (phase_in s) (all_versions c.versions.slots) (λ t. refl) h.versions.versions) refl);
           numbers = h.versions.numbers;
           order = h.versions.order;
         };
-        dependencies = trim_in_table opening steps s c.table m h.versions.kept h.dependencies free;
-        order = trim_in_order opening steps s (state_of c.table) c.versions.slots c.versions.lists c.versions.places m h.versions free h.order;
+        dependencies = trim_in_table opening s c.table m h.versions.kept h.dependencies free;
+        order = trim_in_order opening s (state_of c.table) c.versions.slots c.versions.lists c.versions.places m h.versions free h.order;
         works = record {
           active = h.works.active;
           preparing = each_filter (λ x. not (is_to m x)) (λ x. x.settled ≡ false → IsKeptPreparing c.table c.tale x) (λ x. x.settled ≡ false → IsKeptPreparing c.table c.tale x) (λ x e w. w) s.stamped h.works.preparing;
         };
-        words = trim_in_lists opening steps s (state_of c.table) c.versions.slots c.versions.lists c.versions.places (words_in c.table) m h.versions free h.words;
+        words = trim_in_lists opening s (state_of c.table) c.versions.slots c.versions.lists c.versions.places (words_in c.table) m h.versions free h.words;
         tale = tale_then.others;
         places = record { drawn = h.places.drawn; readers = tale_then.readers };
         stages = h.stages;

@@ -208,14 +208,14 @@ module _ (rs : Readers) (opening : Map) (steps : List Step) (s : State) (c : Cor
     })
     undone = stands_then rs opening steps s c h (Rollback t.0) Accepted table (with_fronts (is_put_by t.0) c.versions.slots c.versions.lists numbers) (tale_left (state_of c.table t.0) Other c.tale (own_place (own_of c.table t.0))) may refl
         (fronts_in_numbers (is_put_by t.0) c.versions.slots c.versions.lists numbers h.versions.numbers)
-        (abort_in_table opening steps s c.table untold table t h.versions.kept h.dependencies unended is told graph)
-        (abort_in_order opening steps s (state_of c.table) (state_of table) c.versions.slots c.versions.lists c.versions.places t.0 numbers h.versions open'
+        (abort_in_table opening s c.table untold table t h.versions.kept h.dependencies unended is told graph)
+        (abort_in_order opening s (state_of c.table) (state_of table) c.versions.slots c.versions.lists c.versions.places t.0 numbers h.versions open'
         (others_stand (deps.after_dependency_abort t) c.table untold table t Aborted is told) here
         (subst (λ (ws : ℕ → List Rattle.mvo_work.specs.declared.word_place.WordPlace.WordPlace). Rattle.mvo_representation.specs.Order.AreWrittenBy t.0 c.versions.slots (numbers_in (ws t.0))) same_words
-        (lists_are_written opening steps s (state_of c.table) c.versions.slots c.versions.lists c.versions.places (words_in c.table) t.0 h.versions open' h.words))
+        (lists_are_written opening s (state_of c.table) c.versions.slots c.versions.lists c.versions.places (words_in c.table) t.0 h.versions open' h.words))
         h.order)
         (subst (HasWordLists (after_abort s t.0) c.versions.slots) same_words
-        (abort_in_lists opening steps s (state_of c.table) c.versions.slots c.versions.lists c.versions.places (words_in c.table) t.0 h.versions open' h.words))
+        (abort_in_lists opening s (state_of c.table) c.versions.slots c.versions.lists c.versions.places (words_in c.table) t.0 h.versions open' h.words))
         (rest_aborted t.0 table works (stages_same rs.unfinished c.table table c.tale (λ u. ap reader_in (own_same (deps.after_dependency_abort t) c.table untold table t Aborted is told u)) h.stages) (state_of c.table t.0) refl unended)
 
     pub stands_undone : (versions : VersionsData) (tale : List TalePlace) → AreInFront (is_put_by t.0) c.versions versions (words_in table t.0) → tale ≡ tale_left (state_of c.table t.0) Other c.tale (own_place (own_of c.table t.0))

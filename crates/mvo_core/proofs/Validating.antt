@@ -63,7 +63,7 @@ validate_refused rs opening steps s c h t other r new why left = validate_given_
 module _ (rs : Readers) (opening : Map) (steps : List Step) (s : State) (c : CoreData) (h : StandsAmong rs opening steps s c) where
   -- the stamps of the versions of each key fall
   pub fall : AllHaveFallingStamps (state_of c.table) c.versions.slots c.versions.lists
-  fall = stamps_fall opening steps s (state_of c.table) c.versions.slots c.versions.lists c.versions.places h.versions h.order
+  fall = stamps_fall opening s (state_of c.table) c.versions.slots c.versions.lists c.versions.places h.versions h.order
 
   -- ---- what its next entry differs by
   module _ (t : ℕ) (e : Stamp) (x : StampedTx) (found : preparing_of t s.stamped ≡ Some x) (ends : x.end ≡ e.0) (unvalid : x.valid ≡ false) where
@@ -76,7 +76,7 @@ module _ (rs : Readers) (opening : Map) (steps : List Step) (s : State) (c : Cor
     named_at : (o : Option Entry) → differs (change_between (state_of c.table) c.versions t e.0 o) ≡ entry_differs s.stamped x o
     named_at None = refl
     named_at (Some entry) =
-        ap differs (change_named opening steps s (state_of c.table) c.versions.slots c.versions.lists c.versions.places t e.0 entry h.versions
+        ap differs (change_named opening s (state_of c.table) c.versions.slots c.versions.lists c.versions.places t e.0 entry h.versions
         (subst (λ (n : ℕ). s.start ≤ n) begins.1 begins.0) (subst (λ (n : ℕ). t < n) ends (subst (λ (n : ℕ). n < x.end) begins.1 begun))
         ∙ ap (λ (n : ℕ). change_of s.stamped n e.0 entry) (sym begins.1)
         ∙ ap (λ (n : ℕ). change_of s.stamped x.id n entry) (sym ends))

@@ -49,7 +49,7 @@ use Rattle.mvo_core.proofs.Waits.{clock_changed, alike_written, waits_alike, wai
 
 -- ---- what the versions, the table and what waits are tied to
 module _ (rs : Readers) (opening : Map) (steps : List Step) (s : State) (c : CoreData) (h : StandsAmong rs opening steps s c) where
-  pub stands_with : (w : WaitingData) → AreWaiting c.table.clock (state_of c.table) c.versions.slots w → VersionsStand opening steps s (state_of c.table) c.versions (words_in c.table) w
+  pub stands_with : (w : WaitingData) → AreWaiting c.table.clock (state_of c.table) c.versions.slots w → VersionsStand opening s (state_of c.table) c.versions (words_in c.table) w
   stands_with w waits = record {
     versions = h.versions;
     over = h.over;
@@ -63,11 +63,12 @@ module _ (rs : Readers) (opening : Map) (steps : List Step) (s : State) (c : Cor
     is_here : IsCollection s.start c.versions w r new w'
     is_here = subst (λ (n : ℕ). IsCollection n c.versions w r new w') (sym h.start) is
 
-    left : VersionsStand opening steps s (state_of c.table) new (words_in c.table) w'
-    left = collection_stands opening steps s (state_of c.table) c.versions new (words_in c.table) w w' r (stands_with w waits) is_here
+    left : VersionsStand opening s (state_of c.table) new (words_in c.table) w'
+    left = collection_stands opening s (state_of c.table) c.versions new (words_in c.table) w w' r (stands_with w waits) is_here
 
     pub collected_stands : StandsAmong rs opening steps s (record c { versions = new })
     collected_stands = record {
+      kept = h.kept;
       versions = left.versions;
       dependencies = h.dependencies;
       order = left.order;
@@ -86,7 +87,7 @@ module _ (rs : Readers) (opening : Map) (steps : List Step) (s : State) (c : Cor
     collected_waits = subst (λ (n : ℕ). AreWaiting n (state_of c.table) new.slots w') (sym h.dependencies.stands.clock) left.waiting
 
     pub collected_counts : IsCountedSo (horizon s) c.versions.slots new.slots r
-    collected_counts = collection_counts opening steps s (state_of c.table) c.versions new (words_in c.table) w w' r (stands_with w waits) is_here
+    collected_counts = collection_counts opening s (state_of c.table) c.versions new (words_in c.table) w w' r (stands_with w waits) is_here
 
     pub collected_shows : (b : ℕ) (k : RowKey) → IsFreeBegin s (state_of c.table) c.versions.slots b
         → standing (change_below (ends_of (phases_of (state_of c.table))) b k (all_versions new.slots))
@@ -96,7 +97,7 @@ module _ (rs : Readers) (opening : Map) (steps : List Step) (s : State) (c : Cor
         go : (x : Collection) → IsCollection s.start c.versions w x new w'
             → standing (change_below (ends_of (phases_of (state_of c.table))) b k (all_versions new.slots))
             ≡ standing (change_below (ends_of (phases_of (state_of c.table))) b k (all_versions c.versions.slots))
-        go Collected q = collect_shows_same opening steps s (state_of c.table) c.versions new (words_in c.table) w q.0 b k (stands_with w waits) q.1 free
+        go Collected q = collect_shows_same opening s (state_of c.table) c.versions new (words_in c.table) w q.0 b k (stands_with w waits) q.1 free
         go Nothing q = ap (λ (v : VersionsData). standing (change_below (ends_of (phases_of (state_of c.table))) b k (all_versions v.slots))) q.0
 
 pub taken_so : (start : ℕ) (old new : VersionsData) (w w' : WaitingData) (r : Collection) → IsCollection start old w r new w' → IsTaken start old r new
@@ -124,7 +125,7 @@ module _ (rs : Readers) (opening : Map) (steps : List Step) (s : State) (c : Cor
         let states' = state_of (txns.table_after_prepare placed t.0) in
         let ns = end_numbers (words_in c.table t.0) in
         let roomy_waits = waits_roomy_ended c.table.clock (state_of c.table) c.versions.slots w roomy roomy.ended_room room waits in
-        let now = draw_keeps_waiting opening steps s (state_of c.table) states' c.versions (words_in c.table) roomy t.0 e ns (stands_with rs opening steps s c h roomy roomy_waits)
+        let now = draw_keeps_waiting opening s (state_of c.table) states' c.versions (words_in c.table) roomy t.0 e ns (stands_with rs opening steps s c h roomy roomy_waits)
         (was_active rs opening steps s c h t none) (others rs opening steps s c h t none placed change)
         (subst (λ (x : Stamp). states' t.0 ≡ Some (Preparing x)) (sym end_is) (here rs opening steps s c h t none placed change))
         (drawn ∙ ap (λ (n : ℕ). n + 1) h.dependencies.stands.clock)

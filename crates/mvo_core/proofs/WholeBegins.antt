@@ -57,4 +57,4 @@ module _ (opening : Map) (steps own : List Step) (w : WholeState) (c : CoreData)
   begins_whole node none told wordless kind place n at why table table_is tale tale_is =
       subst (λ (xs : List TalePlace). LeadsWhole opening steps own w BeginReadOnly Accepted (record c { table = table; tale = xs })) (sym (tale_is ∙ ap (λ (b : Stamp). c.tale ++ PlaceReading b ∷ []) (begin_is n at)))
       (subst (λ (x : Txns (Node KeptTransaction)). LeadsWhole opening steps own w BeginReadOnly Accepted (record c { table = x; tale = c.tale ++ PlaceReading (record { 0 = w.core.clock + 1 }) ∷ [] })) (sym table_is)
-      (reader_begins opening steps own w c node h none told wordless kind place (sym (why_not_begun_told opening own w.core c.table h.core.versions.kept h.core.dependencies.stands) ∙ why, tt)))
+      (reader_begins opening steps own w c node h none told wordless kind place (sym (why_not_begun_told opening w.core c.table h.core.versions.kept h.core.dependencies.stands) ∙ why, tt)))

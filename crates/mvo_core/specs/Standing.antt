@@ -3,6 +3,7 @@ use Rattle.std.specs.Prelude.{ℕ, ◌≡◌, false, List, [], Option, None, Som
 use Rattle.std.specs.List.{AllByRecursion}
 use Rattle.mvo_types.specs.Keys.{Map}
 use Rattle.mvo_model.specs.Trace.{Step}
+use Rattle.mvo_theory.specs.Calls.{IsKept}
 use Rattle.mvo_theory.specs.State.{State, ActiveTx, StampedTx, opened}
 use Rattle.mvo_theory.specs.Marks.{IsClosedAt}
 use Rattle.mvo_txn.specs.Txns.{Txns, state_of}
@@ -56,8 +57,9 @@ words_in table t = own_words_of (own_of table t)
 -- a read-only transaction is Active until it ends. Beside it are these read-only ones.
 pub record StandsAmong (rs : Readers) (opening : Map) (steps : List Step) (s : State)
     (c : CoreData) : Type 0 where
+  pub kept : IsKept opening steps s
   pub versions :
-      representation.VersionsStandFor opening steps s (state_of c.table)
+      representation.VersionsStandFor opening s (state_of c.table)
       c.versions.slots c.versions.lists c.versions.places
   pub dependencies : HasDependencies s c.table
   pub order : AllStandInOrder s.start (state_of c.table) c.versions.slots c.versions.lists
