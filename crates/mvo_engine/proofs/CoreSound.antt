@@ -134,10 +134,10 @@ module _ {o : Opening} {c : CoreData} {sent : List GroupData} (i : IsSoundCore o
     ends =
         let s = i.whole.core in
         let is = i.stands.core.dependencies.stands.clock in
-        let started = i.stands.core.versions.kept.started in
+        let started = i.stands.core.kept.started in
         each_append (λ (x : StampedTx). x.end ≤ clock_of c) s.past s.stamped
         (each_weaker (IsPast s.start) (λ (x : StampedTx). x.end ≤ clock_of c) (λ x p. let le = p.until in let drawn = started.drawn in omega (arith, is, le, drawn)) s.past started.past)
-        (each_weaker (IsPlaced s.stamped s.clock) (λ (x : StampedTx). x.end ≤ clock_of c) (λ x p. let le = p.drawn in omega (arith, is, le)) s.stamped i.stands.core.versions.kept.sound.placed);
+        (each_weaker (IsPlaced s.stamped s.clock) (λ (x : StampedTx). x.end ≤ clock_of c) (λ x p. let le = p.drawn in omega (arith, is, le)) s.stamped i.stands.core.kept.sound.placed);
     reads =
         let is = i.stands.core.dependencies.stands.clock in
         each_weaker (IsCommittedReader i.rows i.own i.whole.core) (λ (y : CommittedReader). y.id ≤ clock_of c) (λ y p. let le = p.drawn in omega (arith, is, le)) i.whole.committed_readers i.stands.kept.committed_readers;

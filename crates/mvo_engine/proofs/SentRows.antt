@@ -100,36 +100,36 @@ module _ {o : Opening} {c : CoreData} {sent : List GroupData} (i : IsSoundCore o
   begun : AllByRecursion (λ (x : StampedTx). x.id < x.end) (timeline i.whole.core)
   begun =
       each_append (λ (x : StampedTx). x.id < x.end) i.whole.core.past i.whole.core.stamped
-      (each_weaker (IsPast i.whole.core.start) (λ (x : StampedTx). x.id < x.end) (λ x p. p.begun) i.whole.core.past i.stands.core.versions.kept.started.past)
-      (each_weaker (IsPlaced i.whole.core.stamped i.whole.core.clock) (λ (x : StampedTx). x.id < x.end) (λ x p. p.begun) i.whole.core.stamped i.stands.core.versions.kept.sound.placed)
+      (each_weaker (IsPast i.whole.core.start) (λ (x : StampedTx). x.id < x.end) (λ x p. p.begun) i.whole.core.past i.stands.core.kept.started.past)
+      (each_weaker (IsPlaced i.whole.core.stamped i.whole.core.clock) (λ (x : StampedTx). x.id < x.end) (λ x p. p.begun) i.whole.core.stamped i.stands.core.kept.sound.placed)
 
   drawn : AllByRecursion (λ (x : StampedTx). x.end ≤ i.whole.core.clock) (timeline i.whole.core)
   drawn =
-      let started = i.stands.core.versions.kept.started in
+      let started = i.stands.core.kept.started in
       each_append (λ (x : StampedTx). x.end ≤ i.whole.core.clock) i.whole.core.past i.whole.core.stamped
       (each_weaker (IsPast i.whole.core.start) (λ (x : StampedTx). x.end ≤ i.whole.core.clock) (λ x p. let le = p.until in let up = started.drawn in omega (arith, le, up)) i.whole.core.past started.past)
-      (each_weaker (IsPlaced i.whole.core.stamped i.whole.core.clock) (λ (x : StampedTx). x.end ≤ i.whole.core.clock) (λ x p. p.drawn) i.whole.core.stamped i.stands.core.versions.kept.sound.placed)
+      (each_weaker (IsPlaced i.whole.core.stamped i.whole.core.clock) (λ (x : StampedTx). x.end ≤ i.whole.core.clock) (λ x p. p.drawn) i.whole.core.stamped i.stands.core.kept.sound.placed)
 
   rising : IsRising (timeline i.whole.core)
   rising =
-      let started = i.stands.core.versions.kept.started in
-      rising_line i.whole.core.start i.whole.core.past i.whole.core.stamped started.past started.rising started.later i.stands.core.versions.kept.sound.rising
+      let started = i.stands.core.kept.started in
+      rising_line i.whole.core.start i.whole.core.past i.whole.core.stamped started.past started.rising started.later i.stands.core.kept.sound.rising
 
   pub sent_agrees : AgreesWithHistory i.rows i.whole.core sent
   sent_agrees =
       let last = i.last in
       let marks = ap (λ (m : Marks). m.closed) i.stands.core.marks in
       let closed = i.closed.drawn in
-      agrees i.rows i.own i.whole.core sent i.stands.core.versions.kept.after_trace rising drawn (none_first (timeline i.whole.core) begun) i.groups (omega (arith, last, marks, closed))
+      agrees i.rows i.own i.whole.core sent i.stands.core.kept.after_trace rising drawn (none_first (timeline i.whole.core) begun) i.groups (omega (arith, last, marks, closed))
 
   -- a beginning of the groups leaves the tale's rows up to its mark
   front_rows : (front behind : List GroupData) → sent ≡ front ++ behind → i.whole.core.start ≤ last_mark front → after_groups i.rows front ≡ tale_rows (last_mark front) i.whole.core
   front_rows front behind is above =
       let s = i.whole.core in
-      let past = i.stands.core.versions.kept.started.past in
+      let past = i.stands.core.kept.started.past in
       ap (λ (cs : List Commit). after_groups (left_by_all cs i.rows) front) (sym (none_first (timeline s) begun))
       ∙ (chain_rows s 0 front i.rows rising (records_of_front s 0 front behind (subst (HaveRecordsOf s 0) is i.groups))
-      ∙ from_start (last_mark front) i.rows i.own s i.stands.core.versions.kept.after_trace (each_weaker (IsPast s.start) (λ (x : StampedTx). x.end ≤ last_mark front) (λ x p. let le = p.until in omega (arith, le, above)) s.past past))
+      ∙ from_start (last_mark front) i.rows i.own s i.stands.core.kept.after_trace (each_weaker (IsPast s.start) (λ (x : StampedTx). x.end ≤ last_mark front) (λ x p. let le = p.until in omega (arith, le, above)) s.past past))
 
   image_sent : (least : ℕ) (image : Image) (g : GivesReceived o sent least image) → g.rows ≡ i.rows → GivesSent o i.rows i.whole.core sent least image
   image_sent least image g same = record {

@@ -37,7 +37,7 @@ use Rattle.mvo_world.proofs.Moves.{linked_closed}
 pub same_closed : {old new : CoreData} (i : Stands old) (c : Call) (r : CallResult) → groups_closed_by c r ≡ [] → LeadsOn i.opening i.steps i.state c r new → closed_mark_of new ≡ closed_mark_of old
 same_closed {old} {new} i c r none l =
     let s = i.state in
-    let chained = chained_after_call i.opening i.steps s.marks.closed [] s c r l.may i.stands.versions.kept (record { closed = i.closed; groups = refl }) in
+    let chained = chained_after_call i.opening i.steps s.marks.closed [] s c r l.may i.stands.kept (record { closed = i.closed; groups = refl }) in
     let same : s.marks.closed ≡ (after_call s c r).marks.closed = subst (λ (gs : List Group). AreGroupsOf (after_call s c r) s.marks.closed gs) none chained.groups in
     sym (ap (λ (m : Marks). m.closed) l.stands.marks) ∙ sym same ∙ ap (λ (m : Marks). m.closed) i.stands.marks
 
