@@ -1,0 +1,6 @@
+mod Seeking
+mod Same
+mod Leaving
+mod Keeping
+mod Showing
+pub mod Fitting

@@ -1,0 +1,4 @@
+pub mod Shown
+pub mod Looks
+pub mod Done
+pub mod Held

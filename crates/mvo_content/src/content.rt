@@ -1,0 +1,265 @@
+ghost use Rattle.std.specs.Prelude.{◌≡◌, ◌++◌, ◌∷◌, [], ◌<◌, false, true, IfOk, OnOk, OnErr, option_copied};
+ghost use Rattle.std.specs.Prelude.{◌≤◌, length, slice_get, vec_len, vec_capacity};
+ghost use Rattle.std.specs.Option.{option_map};
+ghost use Rattle.mvo_types.specs.declared.limits.TheConstants.{MAX_ENTRIES};
+ghost use Rattle.std.specs.FinMap as map;
+ghost use Rattle.mvo_types.specs.declared.entry.Entry.TheVariants.{Key, Range};
+ghost use Rattle.mvo_types.specs.AnswerData.{AnswerData, answer_data};
+ghost use Rattle.mvo_types.specs.Keys.{row_at};
+ghost use Rattle.mvo_model.specs.History.{after_history};
+ghost use Rattle.mvo_model.specs.Serial.{answer_to, scan};
+ghost use Rattle.mvo_theory.specs.Causes.{is_entry_too_many, is_write_too_many};
+ghost use Rattle.mvo_theory.specs.Entries.{entry_of};
+ghost use Rattle.mvo_shared.specs.Kept.{IsWork, IsOrdered};
+ghost use Rattle.mvo_shared.specs.Kept.{map_of_rows, with_looked, answer_kept, after_op};
+ghost use Rattle.mvo_theory.specs.Limits.{AreLimited};
+ghost use Rattle.mvo_work.specs.Limits.{MayFollow};
+ghost use Rattle.mvo_content.specs.Shown.{rows_in, AreRowsOf};
+ghost use Rattle.mvo_content.specs.Done.{work_in, write_left};
+
+use crate::copying::{answer_again, copy_of, write_of};
+use crate::looks::Looks;
+use crate::own_rows::{by_key, write_all};
+use crate::own_writes::{Left, left_at, note_left};
+use crate::rows_shown::RowsShown;
+use indexmap::IndexMap;
+use mvo_model::Serial;
+use mvo_types::{Answer, Entry, MAX_ENTRIES, MAX_WRITES, Op, Row, RowKey};
+use mvo_work::entry_of;
+use std::alloc::{AllocError, Global};
+use std::marker::Model;
+
+/// What a work holds: the operations of a transaction with their answers, each entry with the rows
+/// that others showed there at its first use, and by key what the own net writes left. Contracts
+/// see the first two (`work_in`), and the room: for so many operations more at least.
+///
+/// Its type keeps that the entries are those of the operations, that each answer is the serial
+/// step's on the rows of its own entry behind the own earlier writes, and the limits: so on every
+/// map that shows these rows all answers are those of the serial steps, whoever asked for them and
+/// wherever. An empty one takes no memory.
+///
+/// Each call takes constant time, but for the copies of the rows that an operation answers, and for
+/// a scan by one that has written: that takes the rows and the operations once more.
+#[derive(Drop)]
+pub struct WorkContent {
+    operations: Vec<(Op, Answer)>,
+    looks: Looks,
+    left: Left,
+}
+
+impl Model for WorkContent {
+    ghost use Rattle.std.specs.Prelude.{◌-◌, vec_len, vec_capacity};
+    ghost use Rattle.indexmap.specs.IndexMap.{spare};
+    ghost use Rattle.mvo_theory.specs.Told.{history_told};
+    ghost use Rattle.mvo_work.specs.Work.{room_of};
+    ghost use Rattle.mvo_content.specs.Done.{DoneData, IsWorkDone};
+
+    ghost Value = { DoneData };
+
+    ghost view = { λ d. record {
+      history = history_told d.operations.items;
+      looked = d.looks.looked;
+      room = room_of (vec_capacity d.operations - vec_len d.operations) d.looks.room
+          (spare d.left);
+    } };
+
+    ghost invariant = { λ d. IsWorkDone d.operations.items d.looks.looked d.left.entries };
+}
+
+impl WorkContent {
+    /// Nothing done. It takes no memory.
+    pub fn new(alloc: Global) -> WorkContent
+        ensures history { result.history ≡ [] }
+        ensures looked { result.looked ≡ [] }
+    {
+        WorkContent {
+            operations: Vec::new(alloc),
+            looks: Looks::new(alloc),
+            left: IndexMap::new(alloc),
+        }
+    }
+
+    /// How many operations there are.
+    pub fn operation_count(&self) -> usize
+        ensures { result ≡ length self.now.history }
+    {
+        self.operations.len()
+    }
+
+    /// The operation at a place with its answer, from 0 on.
+    pub fn operation_at(&self, place: usize) -> Option<&(Op, Answer)>
+        ensures { option_map (λ o. (o.0, answer_data o.1)) (option_copied result)
+            ≡ slice_get self.now.history place }
+    {
+        self.operations.get(place)
+    }
+
+    /// What others showed at the first use of each entry.
+    pub fn looks(&self) -> &Looks
+        ensures { result.now.looked ≡ self.now.looked }
+    {
+        &self.looks
+    }
+
+    /// Whether as many entries are kept as may be, and this isn't one of them.
+    pub fn is_entry_too_many(&self, entry: Entry) -> bool
+        ensures { result ≡ is_entry_too_many self.now.history entry }
+    {
+        self.looks.len() >= MAX_ENTRIES && !self.looks.contains(entry)
+    }
+
+    /// Whether as many keys are written as may be, and this isn't one of them.
+    pub fn is_write_too_many(&self, key: RowKey) -> bool
+        ensures { result ≡ is_write_too_many self.now.history key }
+    {
+        match left_at(&self.left, key) {
+            Some(_) => false,
+            None => self.left.len() >= MAX_WRITES,
+        }
+    }
+
+    /// What its type keeps. The call does nothing.
+    pub fn laws(&self)
+        ensures work { IsWork (work_in self.now) }
+        ensures order { IsOrdered (work_in self.now) }
+        ensures limits { AreLimited self.now.history }
+        ensures few { length self.now.looked ≤ MAX_ENTRIES }
+    {
+        let _ = &self.operations;
+    }
+
+    /// The row at a key behind the own writes, where others show these there.
+    fn row_now<'a>(&'a self, key: RowKey, rows: &'a RowsShown) -> Option<&'a Row>
+        requires { AreRowsOf (Key key) (rows_in rows.now) }
+        ensures { option_copied result
+            ≡ row_at (after_history self.now.history (map_of_rows (rows_in rows.now))) key }
+    {
+        match left_at(&self.left, key) {
+            Some(left) => left.as_ref(),
+            None => rows.first(),
+        }
+    }
+
+    /// Whether a row stands at a key behind the own writes, where others show these there.
+    fn is_there(&self, key: RowKey, rows: &RowsShown) -> bool
+        requires { AreRowsOf (Key key) (rows_in rows.now) }
+        ensures { result ≡ map.contains_key
+            (after_history self.now.history (map_of_rows (rows_in rows.now))) key }
+    {
+        self.row_now(key, rows).is_some()
+    }
+
+    /// The rows of a range behind the own writes, where others show these there.
+    fn scan(&self, table: u8, lo: u64, hi: u64, rows: &RowsShown) -> Result<Vec<Row>, AllocError>
+        requires { AreRowsOf (Range table lo hi) (rows_in rows.now) }
+        ensures { IfOk result (λ v. v.items ≡ scan
+            (after_history self.now.history (map_of_rows (rows_in rows.now))) table lo hi) }
+    {
+        let alloc = *self.operations.allocator();
+        if self.left.is_empty() {
+            return rows.copies(alloc);
+        }
+        let mut map = by_key(alloc, rows)?;
+        write_all(&mut map, &self.operations)?;
+        Serial::new(alloc, map).scan(table, lo, hi)
+    }
+
+    /// What the operation is told behind the own writes, where others show these in its entry.
+    fn answer(&self, op: &Op, rows: &RowsShown) -> Result<Answer, AllocError>
+        requires { AreRowsOf (entry_of op.now) (rows_in rows.now) }
+        ensures { IfOk result (λ a. answer_data a ≡ answer_to op.now
+            (after_history self.now.history (map_of_rows (rows_in rows.now)))) }
+    {
+        match op {
+            Op::Read(key) => Ok(Answer::Found(copy_of(self.row_now(*key, rows))?)),
+            Op::Scan(table, lo, hi) => Ok(Answer::Rows(self.scan(*table, *lo, *hi, rows)?)),
+            Op::Insert(row) => match self.is_there(row.row_key(), rows) {
+                true => Ok(Answer::Exists),
+                false => Ok(Answer::Inserted),
+            },
+            Op::Update(row) => match self.is_there(row.row_key(), rows) {
+                true => Ok(Answer::Updated),
+                false => Ok(Answer::Absent),
+            },
+            Op::Delete(key) => match self.is_there(*key, rows) {
+                true => Ok(Answer::Deleted),
+                false => Ok(Answer::Absent),
+            },
+        }
+    }
+
+    /// What the operation is told: on the rows that its entry keeps, or on these where it keeps
+    /// none yet.
+    fn next_answer(&self, op: &Op, others: &RowsShown) -> Result<Answer, AllocError>
+        requires { AreRowsOf (entry_of op.now) (rows_in others.now) }
+        ensures { IfOk result (λ a. answer_data a ≡ answer_kept
+            (with_looked self.now.looked (entry_of op.now) (rows_in others.now))
+            self.now.history op.now) }
+    {
+        match self.looks.rows(entry_of(op)) {
+            Some(kept) => self.answer(op, kept),
+            None => self.answer(op, others),
+        }
+    }
+
+    /// Room for one operation more. Nothing else changes.
+    fn make_room(&mut self) -> Result<(), AllocError>
+        ensures same { self.new ≡ record self.old { room = self.new.room } }
+        ensures ok { OnOk result (0 < self.new.room) }
+    {
+        self.operations.reserve(1)?;
+        self.looks.make_room()?;
+        self.left.reserve(1)
+    }
+
+    /// Adds an operation with its answer, its look and what it wrote, where there is room.
+    fn tell(
+        &mut self,
+        op: Op,
+        others: RowsShown,
+        answer: Answer,
+        write: Option<(RowKey, Option<Row>)>,
+    )
+        requires room { 0 < self.old.room }
+        requires shown { AreRowsOf (entry_of op) (rows_in others) }
+        requires limits { MayFollow self.old.history op (answer_data answer) }
+        requires few { is_entry_too_many self.old.history (entry_of op) ≡ false }
+        requires write { write ≡ write_left op (answer_data answer) }
+        requires answer { answer_data answer ≡ answer_kept
+            (with_looked self.old.looked (entry_of op) (rows_in others)) self.old.history op }
+        ensures { work_in self.new ≡ after_op (work_in self.old) op (rows_in others) }
+    {
+        self.looks.keep(entry_of(&op), others);
+        note_left(&mut self.left, write);
+        push_reserved(&mut self.operations, op, answer);
+    }
+
+    /// Does the operation where others show these rows in its entry: its answer is the serial
+    /// step's, behind the own earlier writes, on the rows that the entry keeps; and these are what
+    /// it keeps where it is new. Refused for want of memory, it has done nothing.
+    pub fn keep(&mut self, op: Op, others: RowsShown) -> Result<Answer, AllocError>
+        requires shown { AreRowsOf (entry_of op) (rows_in others) }
+        requires limits { (a : AnswerData) → MayFollow self.old.history op a }
+        requires few { is_entry_too_many self.old.history (entry_of op) ≡ false }
+        ensures answer { IfOk result (λ a. answer_data a ≡ answer_kept
+            (with_looked self.old.looked (entry_of op) (rows_in others)) self.old.history op) }
+        ensures ok { OnOk result
+            (work_in self.new ≡ after_op (work_in self.old) op (rows_in others)) }
+        ensures err { OnErr result (work_in self.new ≡ work_in self.old) }
+    {
+        let answer = self.next_answer(&op, &others)?;
+        let told = answer_again(*self.operations.allocator(), &answer)?;
+        let write = write_of(&op, &told)?;
+        self.make_room()?;
+        self.tell(op, others, told, write);
+        Ok(answer)
+    }
+}
+
+/// Adds an operation with its answer where there is room.
+fn push_reserved(operations: &mut Vec<(Op, Answer)>, op: Op, answer: Answer)
+    requires { vec_len operations.old < vec_capacity operations.old }
+    ensures { operations.new.items ≡ operations.old.items ++ (op, answer) ∷ [] }
+{
+    operations.push((op, answer)).unwrap();
+}

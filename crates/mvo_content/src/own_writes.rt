@@ -1,0 +1,45 @@
+//! What the own writes of a transaction left at the keys that it wrote.
+ghost use Rattle.std.specs.Prelude.{◌≡◌, ◌<◌, Some, option_copied};
+ghost use Rattle.mvo_types.specs.declared.row.RowKey.{RowKey};
+ghost use Rattle.std.specs.Map.{keys_of};
+ghost use Rattle.std.specs.Option.{option_map};
+ghost use Rattle.indexmap.specs.IndexMap.{spare};
+ghost use Rattle.mvo_theory.specs.Entries.{noted, noted_key};
+ghost use Rattle.mvo_content.specs.Done.{left_at, left_later};
+
+use indexmap::IndexMap;
+use mvo_types::{Row, RowKey};
+
+/// By key, in the order of the first write, the row that the last write left, if it left one.
+pub type Left = IndexMap<RowKey, Option<Row>>;
+
+/// What is left at the key, if it was written.
+pub fn left_at(left: &Left, key: RowKey) -> Option<&Option<Row>>
+    ensures { option_copied result ≡ left_at left.now.entries key }
+{
+    left.get(&key)
+}
+
+/// Notes what a write left, where there is room.
+pub fn note_left(left: &mut Left, write: Option<(RowKey, Option<Row>)>)
+    requires { 0 < spare left.old }
+    ensures keys { keys_of left.new.entries
+        ≡ noted_key (keys_of left.old.entries) (option_map (λ w. w.0) write) }
+    ensures at { (k : RowKey) →
+        left_at left.new.entries k ≡ left_later k write (left_at left.old.entries k) }
+{
+    match write {
+        Some((key, row)) => put_left(left, key, row),
+        None => {}
+    }
+}
+
+/// Notes what a write left at the key, where there is room.
+fn put_left(left: &mut Left, key: RowKey, row: Option<Row>)
+    requires { 0 < spare left.old }
+    ensures keys { keys_of left.new.entries ≡ noted (keys_of left.old.entries) key }
+    ensures at { (k : RowKey) →
+        left_at left.new.entries k ≡ left_later k (Some (key, row)) (left_at left.old.entries k) }
+{
+    left.insert(key, row).unwrap();
+}
