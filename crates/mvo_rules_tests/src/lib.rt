@@ -8,6 +8,8 @@ mod collecting;
 #[cfg(test)]
 mod counts;
 #[cfg(test)]
+mod content;
+#[cfg(test)]
 mod dependencies;
 #[cfg(test)]
 mod engine;
