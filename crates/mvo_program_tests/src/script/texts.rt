@@ -18,6 +18,7 @@ const REFUSALS: [(Refusal, &str); 33] = [
     (Refusal::NotPreparing, "refused 13"),
     (Refusal::NotValidated, "refused 14"),
     (Refusal::NotEnded, "refused 15"),
+    (Refusal::WorkMismatch, "refused 16"),
     (
         Refusal::WriteConflict(Cause::Active(TxId(3))),
         "refused 20 active 3",
