@@ -12,7 +12,7 @@ use std::marker::Model;
 ///
 /// Each group keeps the rules of `KeepsRules`: prev < mark <= 2^62; at most 1,024 records, whose
 /// ends rise strictly and lie in (prev, mark]; in each record 1 to 256 writes, whose (table, key)
-/// rise strictly; tables 0 to 15; data of at most 1,024 bytes; a body of at most 4,194,304 bytes.
+/// rise strictly; tables 0 to 63; data of at most 4,096 bytes; a body of at most 4,194,304 bytes.
 #[derive(Debug)]
 pub struct Group {
     prev: Stamp,

@@ -5,6 +5,7 @@ ghost use Rattle.std.specs.List.{flat_map};
 ghost use Rattle.mvo_types.specs.declared.limits.TheConstants.{MAX_PAIRS};
 ghost use Rattle.mvo_manifest.specs.Data.{pair_files};
 ghost use Rattle.mvo_pair.specs.Writing.{IsStop};
+ghost use Rattle.mvo_disk.specs.declared.limits.TheConstants.{FILE_COUNT};
 ghost use Rattle.mvo_disk.specs.Disk.{IsHonest};
 ghost use Rattle.mvo_load.specs.Read.{HasRead};
 ghost use Rattle.mvo_load.specs.Old.{is_old};
@@ -12,15 +13,12 @@ ghost use Rattle.mvo_store.specs.Files.{is_named};
 ghost use Rattle.mvo_store.specs.Old.{is_marked, KnowsOld, AreUnmarked};
 
 use crate::files::is_named;
-use mvo_disk::Disk;
+use mvo_disk::{Disk, FILE_COUNT};
 use mvo_load::is_old_on;
 use mvo_manifest::Manifest;
 use mvo_pair::Pair;
 use mvo_types::Refusal;
 use std::alloc::Global;
-
-// How many files a disk has.
-const FILES: u16 = 1024;
 
 /// Whether a file is old, where the manifest names it.
 fn mark_of<D: Disk>(
@@ -57,13 +55,13 @@ pub fn find_old<D: Disk>(
 ) -> Result<Vec<bool>, Refusal>
     requires room { D.fault_count disk.old + 1 < 2 ^ 64 }
     ensures knows { IsHonest (D.moment disk.new) → IfOk result (λ old.
-        KnowsOld (D.content disk.old) manifest.now FILES old.items) }
-    ensures long { IfOk result (λ old. length old.items ≡ FILES) }
+        KnowsOld (D.content disk.old) manifest.now FILE_COUNT old.items) }
+    ensures long { IfOk result (λ old. length old.items ≡ FILE_COUNT) }
     ensures stopped { IfErr result IsStop }
     ensures read { HasRead D.Disk disk.old disk.new result }
 {
-    let mut old = Vec::with_capacity(alloc, FILES as usize)?;
-    for file in 0..FILES {
+    let mut old = Vec::with_capacity(alloc, FILE_COUNT as usize)?;
+    for file in 0..FILE_COUNT {
         match mark_of(alloc, disk, manifest, file) {
             Ok(mark) => old.push(mark)?,
             Err(e) => return Err(e),

@@ -39,7 +39,7 @@ later_none : (a b : Option Effect) → is_some a ≡ false → is_some b ≡ fal
 later_none None b e f = f
 later_none (Some h) b e f = absurd (true≢false e)
 
-ended_push : (k : RowKey) (ts : History) (op : Op) (a : AnswerData) → is_ended_first k (ts ++ (op, a) ∷ []) ≡ true → (is_ended_first k ts ≡ true) ⊎ ((is_some (net_write k ts) ≡ false) × (is_some (write_at k (write_of op a)) ≡ true) × (is_some (ended_key op a) ≡ true))
+pub ended_push : (k : RowKey) (ts : History) (op : Op) (a : AnswerData) → is_ended_first k (ts ++ (op, a) ∷ []) ≡ true → (is_ended_first k ts ≡ true) ⊎ ((is_some (net_write k ts) ≡ false) × (is_some (write_at k (write_of op a)) ≡ true) × (is_some (ended_key op a) ≡ true))
 ended_push k [] op a h = go (is_some (write_at k (write_of op a))) (is_some (ended_key op a)) h
   where
     go : (b c : Bool) → cond b c false ≡ true → (false ≡ true) ⊎ ((false ≡ false) × (b ≡ true) × (c ≡ true))
@@ -74,7 +74,7 @@ ended_write (Delete i) a j k e h = absurd (none_key j e)
 abbrev claims_key : RowKey → List Claim → Bool
 claims_key k cs = list_any (λ c. eq_by_cmp key_cmp k c.key) cs
 
-still_claimed : (s : State) (r : ActiveTx) (w : Option RowKey) (k : RowKey) → claims_key k r.claims ≡ true → claims_key k (claims_with s r w) ≡ true
+pub still_claimed : (s : State) (r : ActiveTx) (w : Option RowKey) (k : RowKey) → claims_key k r.claims ≡ true → claims_key k (claims_with s r w) ≡ true
 still_claimed s r None k h = h
 still_claimed s r (Some j) k h = go (is_some (net_write j r.history))
   where
@@ -82,7 +82,7 @@ still_claimed s r (Some j) k h = go (is_some (net_write j r.history))
     go true = h
     go false = any_left (λ c. eq_by_cmp key_cmp k c.key) r.claims ((record { key = j; origin = origin s r.id j }) ∷ []) h
 
-now_claimed : (s : State) (op : Op) (a : AnswerData) (r : ActiveTx) (w : Option RowKey) (k : RowKey) → ended_key op a ≡ w → is_some w ≡ true → is_some (net_write k r.history) ≡ false → is_some (write_at k (write_of op a)) ≡ true → claims_key k (claims_with s r w) ≡ true
+pub now_claimed : (s : State) (op : Op) (a : AnswerData) (r : ActiveTx) (w : Option RowKey) (k : RowKey) → ended_key op a ≡ w → is_some w ≡ true → is_some (net_write k r.history) ≡ false → is_some (write_at k (write_of op a)) ≡ true → claims_key k (claims_with s r w) ≡ true
 now_claimed s op a r None k e i n h = absurd (false≢true i)
 now_claimed s op a r (Some j) k e i n h = go (is_some (net_write j r.history)) refl
   where

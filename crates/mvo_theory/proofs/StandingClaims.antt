@@ -95,7 +95,7 @@ rows_next x y xs m lt = go x.settled
     go true = ap (λ (d : Bool). after_history (cond d x.history [] ++ history_below y.end (settled_ones xs)) m) (lt-ltb x.end y.end lt) ∙ after_history-append x.history (history_below y.end (settled_ones xs)) m
     go false = refl
 
-all_serial : (m : Map) (xs : List StampedTx) → IsRising xs → IsLegal m xs → AllByRecursion (λ x. x.settled ≡ true → AreSerial x.history (seen_by m (settled_ones xs) x.end)) xs
+pub all_serial : (m : Map) (xs : List StampedTx) → IsRising xs → IsLegal m xs → AllByRecursion (λ x. x.settled ≡ true → AreSerial x.history (seen_by m (settled_ones xs) x.end)) xs
 all_serial m [] r h = tt
 all_serial m (x ∷ xs) r h = (
   λ o. subst (AreSerial x.history) (sym (rows_first x xs m r.0)) (h.0 o).0,
@@ -104,7 +104,7 @@ all_serial m (x ∷ xs) r h = (
 )
 
 -- ---- the claim
-claim_of : (f : RowKey → ℕ) (k : RowKey) (cs : List Claim) → HaveOrigins f cs → list_any (λ c. eq_by_cmp key_cmp k c.key) cs ≡ true → has_claim cs k (f k) ≡ true
+pub claim_of : (f : RowKey → ℕ) (k : RowKey) (cs : List Claim) → HaveOrigins f cs → list_any (λ c. eq_by_cmp key_cmp k c.key) cs ≡ true → has_claim cs k (f k) ≡ true
 claim_of f k [] h e = absurd (false≢true e)
 claim_of f k (c ∷ cs) h e = go (eq_by_cmp key_cmp k c.key) refl e (claim_of f k cs h.1)
   where
