@@ -6,9 +6,9 @@ mod chains;
 #[cfg(test)]
 mod collecting;
 #[cfg(test)]
-mod counts;
-#[cfg(test)]
 mod content;
+#[cfg(test)]
+mod counts;
 #[cfg(test)]
 mod dependencies;
 #[cfg(test)]
