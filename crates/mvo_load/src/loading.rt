@@ -9,20 +9,21 @@ ghost use Rattle.mvo_load.specs.Loaded.{IsLoaded};
 ghost use Rattle.mvo_load.specs.Parts.{HavePlaces};
 
 use crate::loaded::Loaded;
+use crate::pair_reader::PairReader;
 use crate::pairs::load_pairs;
 use crate::segments::load_segments;
 use crate::slots::read_manifest;
 use mvo_disk::Disk;
 use mvo_types::Refusal;
 use std::alloc::Global;
-use std::thread::Threads;
 
 /// What a disk holds of files of the known versions. Nothing changes, and no stop within it leaves
-/// anything new. Files are read one after another, and the records of pairs in threads, unless the
-/// manifest says that there are fewer than 8,192; memory is taken in proportion to the bytes of one
-/// pair's files or of one segment, and to the rows. The place of a live record takes 13 bytes where
-/// the records are read in threads, and else 32 or more, as that of a key which is put later; the
-/// seed is for the table of these, and who chose the keys can't know it.
+/// anything new. Files are read one after another, and the records of pairs as the reader reads
+/// them, in threads or not, unless the manifest says that there are fewer than 8,192, which the
+/// calling thread reads; memory is taken in proportion to the bytes of four pairs' files or of one
+/// segment, and to the rows. The place of a live record takes 13 bytes where there are 8,192 or
+/// more, and else 32 or more, as that of a key which is put later; the seed is for the table of
+/// these, and who chose the keys can't know it.
 ///
 /// Refused by the first rule that is broken, in this order: Corrupt with 0 or BadVersion by slot 0,
 /// Corrupt with 1 or BadVersion by slot 1, NotFormatted where no slot is open; of the pairs in
@@ -31,12 +32,13 @@ use std::thread::Threads;
 /// before; of the segments in their order Corrupt with the segment or BadVersion. OutOfMemory, for
 /// want of memory alone, and DiskFault, for a call of the device that failed, may stand in the
 /// place of any later answer.
-pub fn load<D: Disk>(
-    rt: &(impl Threads + Sync),
+pub fn load<D: Disk, P: PairReader>(
+    reader: &P,
     alloc: Global,
     disk: &mut D,
     seed: u64,
 ) -> Result<Loaded, Refusal>
+    requires reader { P.may_read }
     requires room { D.fault_count disk.old + 1 < 2 ^ 64 }
     ensures says { IsHonest (D.moment disk.new) → Tells IsStop (λ l. (l.rows, l.mark.0)) result
         (OpensAs (D.content disk.old)) }
@@ -57,7 +59,7 @@ pub fn load<D: Disk>(
         Err(e) => return Err(e),
     };
     let upto = manifest.version();
-    let (mut rows, places) = match load_pairs(rt, alloc, disk, upto, &manifest, seed) {
+    let (mut rows, places) = match load_pairs(reader, alloc, disk, upto, &manifest, seed) {
         Ok(found) => found,
         Err(e) => return Err(e),
     };

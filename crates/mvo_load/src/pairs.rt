@@ -8,6 +8,7 @@ ghost use Rattle.mvo_load.specs.Pairs.{HavePairs};
 
 use crate::at_once::at_once;
 use crate::gather::gather;
+use crate::pair_reader::PairReader;
 use crate::single::pair_on;
 use mvo_disk::Disk;
 use mvo_manifest::Manifest;
@@ -15,9 +16,8 @@ use mvo_pair::{DataRecord, Live};
 use mvo_places::Places;
 use mvo_types::{Refusal, Rows};
 use std::alloc::{AllocError, Global};
-use std::thread::Threads;
 
-/// Fewer records than this are read by the calling thread: starting others takes longer than it.
+/// Fewer records than this are read one pair after another: starting threads takes longer than it.
 const FEW_RECORDS: u64 = 8_192;
 
 /// Puts the live records of a pair on the rows of those before. Whether no two of all have one key.
@@ -67,18 +67,19 @@ fn load_in_turn<D: Disk>(
 /// The rows and the places of the live records of a manifest's pairs, made of all of them at once.
 /// Where a pair breaks a rule, or two records have one key, the pairs are read again one after
 /// another, to find the first broken rule.
-fn load_beside<D: Disk>(
-    rt: &(impl Threads + Sync),
+fn load_beside<D: Disk, P: PairReader>(
+    reader: &P,
     alloc: Global,
     disk: &mut D,
     upto: u32,
     manifest: &Manifest,
     seed: u64,
 ) -> Result<(Rows, Places), Refusal>
+    requires reader { P.may_read }
     requires room { D.fault_count disk.old + 1 < 2 ^ 64 }
     ensures { HavePairs D.Disk upto manifest.now disk.old disk.new result }
 {
-    let gathered = match gather(rt, alloc, disk, upto, manifest) {
+    let gathered = match gather(reader, alloc, disk, upto, manifest) {
         Ok(gathered) => gathered,
         Err(e) => return Err(e),
     };
@@ -102,16 +103,17 @@ fn count_of(manifest: &Manifest) -> u64 {
     count
 }
 
-/// The rows and the places of the live records of a manifest's pairs: of few in the calling thread,
-/// and of more in threads.
-pub fn load_pairs<D: Disk>(
-    rt: &(impl Threads + Sync),
+/// The rows and the places of the live records of a manifest's pairs: of few one pair after another,
+/// and of more all at once, as the reader reads them.
+pub fn load_pairs<D: Disk, P: PairReader>(
+    reader: &P,
     alloc: Global,
     disk: &mut D,
     upto: u32,
     manifest: &Manifest,
     seed: u64,
 ) -> Result<(Rows, Places), Refusal>
+    requires reader { P.may_read }
     requires room { D.fault_count disk.old + 1 < 2 ^ 64 }
     ensures { HavePairs D.Disk upto manifest.now disk.old disk.new result }
 {
@@ -121,7 +123,7 @@ pub fn load_pairs<D: Disk>(
             Err(e) => Err(e),
         };
     }
-    match load_beside(rt, alloc, disk, upto, manifest, seed) {
+    match load_beside(reader, alloc, disk, upto, manifest, seed) {
         Ok(found) => Ok(found),
         Err(e) => Err(e),
     }
