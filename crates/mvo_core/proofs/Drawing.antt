@@ -42,7 +42,7 @@ use Rattle.mvo_core.specs.Readers.{Readers, reader_in}
 use Rattle.mvo_core.specs.declared.kept_transaction.KeptTransaction.{KeptTransaction}
 use Rattle.mvo_core.specs.Data.{CoreData, own_of}
 use Rattle.mvo_core.specs.Standing.{IsKeptActive, IsKeptPreparing, HasWorks, own_words_of, words_in, StandsAmong}
-use Rattle.mvo_core.specs.Causes.{why_not_active, flag_of}
+use Rattle.mvo_core.specs.Causes.{why_not_active}
 use Rattle.mvo_core.specs.Aborting.{IsGivenUp}
 use Rattle.mvo_core.specs.Fronts.{comes_at_draw, numbers_in, AreInFront}
 use Rattle.mvo_core.specs.Keeping.{IsWritten, IsWrittenThen, IsPlacedInTale, with_own_at}

@@ -1,5 +1,5 @@
 -- A call that is given up leads on to what its refusal leaves.
-use Rattle.std.proofs.Common.{◌≡◌, ℕ, Bool, true, cond, List, [], ◌∷◌, ◌++◌, None, Some, refl, sym, ◌∙◌, subst}
+use Rattle.std.proofs.Common.{◌≡◌, ℕ, Bool, true, false, cond, List, [], ◌∷◌, ◌++◌, None, Some, refl, sym, ◌∙◌, subst, append-nil}
 use Rattle.mvo_types.specs.declared.refusal.Refusal.{Refusal}
 use Rattle.mvo_types.specs.Keys.{Map}
 use Rattle.mvo_model.specs.Trace.{Step}
@@ -30,6 +30,12 @@ failed old new t r e aborted rs opening steps s other h =
 pub reader_failed : (old new : CoreData) (t : ℕ) (r : Refusal) → is_failure r ≡ true → IsReaderAborted old t new → IsReaderGivenUp old t r new
 reader_failed old new t r e aborted rs opening steps s p at going h =
     subst (λ (b : Bool). StandsAmong (with_unfinished rs (cond b (with_stage t IsAbortedStage rs.unfinished) rs.unfinished)) opening (steps ++ cond b (Aborts t ∷ []) []) (cond b (after_abort s t) s) new) (sym e) (aborted rs opening steps s p at (going e) h)
+
+-- it isn't one, and nothing changes
+pub reader_stays : (c : CoreData) (t : ℕ) (r : Refusal) → is_failure r ≡ false → IsReaderGivenUp c t r c
+reader_stays c t r e rs opening steps s p at going h =
+    subst (λ (b : Bool). StandsAmong (with_unfinished rs (cond b (with_stage t IsAbortedStage rs.unfinished) rs.unfinished)) opening (steps ++ cond b (Aborts t ∷ []) []) (cond b (after_abort s t) s) c) (sym e)
+    (subst (λ ys. StandsAmong rs opening ys s c) (sym (append-nil steps)) h)
 
 -- the first cause that stands is the refusal
 pub first_stands : (s : State) (call : Call) (r : Refusal) → why_not s call ≡ Some r → IsRefusal (takes_memory call) (why_not s call) r

@@ -1,24 +1,22 @@
 -- A call of one that isn't read-only leads the whole state on.
-use Rattle.std.proofs.Common.{◌≡◌, ◌∙◌, ℕ, Bool, true, false, not, List, [], ◌∷◌, ◌++◌, append-nil, Option, None, refl, sym, ap, subst}
-use Rattle.mvo_types.specs.declared.refusal.Refusal.{Refusal}
+use Rattle.std.proofs.Common.{◌≡◌, ◌∙◌, Bool, true, false, not, List, [], ◌∷◌, ◌++◌, append-nil, Option, None, refl, sym, ap, subst}
 use Rattle.mvo_types.specs.declared.refusal.Refusal.TheVariants.{NothingToDo}
 use Rattle.mvo_types.specs.Causes.{first_cause, when}
 use Rattle.mvo_types.specs.Keys.{Map}
 use Rattle.mvo_model.specs.Trace.{Step}
 use Rattle.mvo_theory.specs.Causes.{is_trim}
-use Rattle.mvo_theory.specs.Calls.{Call, Result, MayCome, IsRefusal, IsCallInOrder, takes_memory, why_not, trace_of, after_run, steps_of, after_call}
+use Rattle.mvo_theory.specs.Calls.{Call, Result, MayCome, IsRefusal, takes_memory, why_not, trace_of, after_run, steps_of, after_call}
 use Rattle.mvo_theory.specs.Calls.Call.{Begin, Do, Precommit, Validate, Settle, Rollback, Finish, Trim, Close}
 use Rattle.mvo_theory.specs.Calls.Result.{Accepted, Refused}
-use Rattle.mvo_readonly.specs.Whole.{ReaderStage, WholeState, id_named, stage_named}
+use Rattle.mvo_readonly.specs.Whole.{ReaderStage, WholeState}
 use Rattle.mvo_readonly.specs.WholeCauses.{MayComeAtStage, why_not_other, has_reader_to}
 use Rattle.mvo_readonly.specs.WholeCauses.WholeCall.{CoreCall}
-use Rattle.mvo_readonly.specs.WholeCalls.{core_other, core_at_stage, readers_at_stage, committed_at_stage, core_calls, steps_of_whole_call, after_whole_call}
+use Rattle.mvo_readonly.specs.WholeCalls.{core_other, core_at_stage, readers_at_stage, committed_at_stage}
 use Rattle.mvo_readonly.proofs.WholeRuns.{whole_after_call}
 use Rattle.mvo_core.specs.Data.{CoreData}
 use Rattle.mvo_core.specs.Readers.{Readers}
 use Rattle.mvo_core.specs.Standing.{StandsAmong}
-use Rattle.mvo_core.specs.Steps.{LeadsAmong}
-use Rattle.mvo_core.specs.WholeStanding.{readers_of, StandsWhole, LeadsWhole, IsBelowReaders, OthersLeadWhole}
+use Rattle.mvo_core.specs.WholeStanding.{readers_of, IsBelowReaders, OthersLeadWhole}
 
 -- ---- why it is refused
 why_at : (a b : Bool) → b ≡ false → first_cause (when (not a) NothingToDo ∷ when b NothingToDo ∷ []) ≡ first_cause (when (not a) NothingToDo ∷ [])

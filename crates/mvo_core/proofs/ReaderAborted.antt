@@ -8,12 +8,9 @@ use Rattle.mvo_types.specs.declared.ids.TxId.{TxId}
 use Rattle.mvo_types.specs.Keys.{Map}
 use Rattle.mvo_model.specs.Trace.{Step}
 use Rattle.mvo_model.specs.Trace.Step.{Aborts}
-use Rattle.mvo_theory.specs.Calls.Call.{Rollback}
-use Rattle.mvo_theory.specs.Calls.Result.{Accepted}
-use Rattle.mvo_theory.specs.Marks.{IsClosedAt}
 use Rattle.mvo_theory.specs.State.{State, StampedTx, preparing_of}
 use Rattle.mvo_theory.specs.Steps.{after_abort_of, after_abort}
-use Rattle.mvo_readonly.specs.Whole.{ReaderStage, WholeState, stage_of}
+use Rattle.mvo_readonly.specs.Whole.{ReaderStage, stage_of}
 use Rattle.mvo_readonly.specs.Whole.ReaderStage.{Reading as IsReading, Preparing as IsPreparing, Committed as IsCommitted, Aborted as IsAborted}
 use Rattle.mvo_readonly.specs.WholeCalls.{with_stage}
 use Rattle.mvo_txn.specs.declared.state.TxState.{TxState}
@@ -26,7 +23,7 @@ use Rattle.mvo_deps.specs.Nodes.{IsReported}
 use Rattle.mvo_deps.specs.Graph.{KeepsGraphAtAbort}
 use Rattle.mvo_tale.specs.declared.tale_place.TalePlace.{TalePlace}
 use Rattle.mvo_tale.specs.declared.tale_place.TalePlace.TheVariants.{Empty}
-use Rattle.mvo_tale.specs.Slots.{ends, AreRising, open_end_at, reading_begin_at, closed_up}
+use Rattle.mvo_tale.specs.Slots.{ends, AreRising, reading_begin_at, closed_up}
 use Rattle.mvo_tale.specs.WholePlaces.{has_ended, HasWholeTale}
 use Rattle.mvo_tale.proofs.Gone.{ends_closed}
 use Rattle.mvo_tale.proofs.ReadingMoves.{reading_closed, reading_elsewhere, reading_not_open, open_elsewhere}
@@ -43,10 +40,9 @@ use Rattle.mvo_core.specs.Data.{CoreData, own_of}
 use Rattle.mvo_core.specs.Fronts.{AreInFront}
 use Rattle.mvo_core.specs.Keeping.{IsWritten, HasEndedAs, HasEndedIf}
 use Rattle.mvo_core.specs.Own.{own_place}
-use Rattle.mvo_core.specs.Readers.{Readers, no_readers, reader_in, kind_at, HasStage, HaveStages, HasTalePlaces}
+use Rattle.mvo_core.specs.Readers.{Readers, reader_in, kind_at, HasStage, HaveStages, HasTalePlaces}
 use Rattle.mvo_core.specs.Standing.{StandsAmong, words_in}
 use Rattle.mvo_core.specs.WholeStanding.{HasSameWork}
-use Rattle.mvo_core.proofs.Begun.{still_closed}
 use Rattle.mvo_core.proofs.CausesTold.{kind_is, may_write}
 use Rattle.mvo_core.proofs.OwnChanged.{IsOwnChanged, own_changed}
 use Rattle.mvo_core.proofs.ReaderOwn.{IsOwnOfReader, reader_own, kind_unended, stages_moved}
@@ -55,7 +51,7 @@ use Rattle.mvo_core.proofs.ReadersMoved.{readers_moved}
 use Rattle.mvo_core.proofs.Reporting.{own_same}
 use Rattle.mvo_core.proofs.Rest.{not_preparing_too, preparing_there}
 use Rattle.mvo_core.proofs.TaleMoves.{open_closed}
-use Rattle.mvo_core.proofs.Undone.{may, place_open, stands_undone}
+use Rattle.mvo_core.proofs.Undone.{place_open, stands_undone}
 
 -- ---- one that is none of the Preparing ones
 no_stamped : (x : StampedTx) → ◌≡◌ {A = Option StampedTx} (Some x) None → ⊥

@@ -21,7 +21,7 @@ use Rattle.mvo_core.specs.declared.kept_transaction.KeptTransaction.{KeptTransac
 use Rattle.mvo_core.specs.Data.{CoreData, own_of}
 use Rattle.mvo_core.specs.Keeping.{IsWritten}
 use Rattle.mvo_core.specs.Readers.{Readers}
-use Rattle.mvo_core.specs.Standing.{StandsAmong, HasWorks, IsKeptActive, IsKeptPreparing, words_in}
+use Rattle.mvo_core.specs.Standing.{StandsAmong, HasWorks, IsKeptActive, IsKeptPreparing}
 use Rattle.mvo_core.specs.WholeStanding.{readers_of, HasSameWork, ReadersMove, ReaderGoesOn}
 use Rattle.mvo_core.proofs.Carried.{some_own}
 use Rattle.mvo_core.proofs.OwnChanged.{IsOwnChanged, own_changed, words_stay}

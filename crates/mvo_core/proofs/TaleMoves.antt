@@ -11,7 +11,7 @@ use Rattle.mvo_tale.specs.declared.tale_place.TalePlace.{TalePlace}
 use Rattle.mvo_tale.specs.declared.tale_place.TalePlace.TheVariants.{Open, Reading, Settled, Empty}
 use Rattle.mvo_tale.specs.Stored.{StoredCommit}
 use Rattle.mvo_tale.specs.Slots.{open_end_of, open_end_at, and_place, without_empty_back, or_all, closed_up}
-use Rattle.mvo_tale.specs.Timeline.{IsStoredAs, IsPlaceOf, ArePlacesOf}
+use Rattle.mvo_tale.specs.Timeline.{IsStoredAs, ArePlacesOf}
 use Rattle.mvo_tale.proofs.Rising.{same_end}
 
 pub none_end : (e : ℕ) → ◌≡◌ {A = Option ℕ} None (Some e) → ⊥

@@ -1,5 +1,5 @@
 -- What a core stands for after a call of the whole state, it stands for.
-use Rattle.std.proofs.Common.{◌≡◌, ℕ, Bool, true, false, List, [], ◌∷◌, ◌++◌, sym, subst}
+use Rattle.std.proofs.Common.{ℕ, Bool, true, false, List, [], ◌∷◌, ◌++◌, sym, subst}
 use Rattle.mvo_types.specs.Keys.{Map}
 use Rattle.mvo_model.specs.Trace.{Step}
 use Rattle.mvo_theory.specs.Calls.{Result, Run, IsKept, MayRun, after_call, after_run, steps_of, trace_of}

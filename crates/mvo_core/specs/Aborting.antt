@@ -8,7 +8,7 @@ use Rattle.mvo_theory.specs.State.{State}
 use Rattle.mvo_theory.specs.Causes.{is_failure}
 use Rattle.mvo_theory.specs.Steps.{after_abort, after_refusal, steps_of_refusal}
 use Rattle.mvo_txn.specs.declared.state.TxState.{TxState}
-use Rattle.mvo_txn.specs.declared.state.TxState.TheVariants.{Active, Preparing, Committed, Aborted}
+use Rattle.mvo_txn.specs.declared.state.TxState.TheVariants.{Active, Preparing}
 use Rattle.mvo_txn.specs.Txns.{state_of, IsUnended}
 use Rattle.mvo_tale.specs.declared.tale_place.TalePlace.{TalePlace}
 use Rattle.mvo_tale.specs.declared.tale_place.TalePlace.TheVariants.{Empty}

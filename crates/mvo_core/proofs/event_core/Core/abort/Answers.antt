@@ -1,10 +1,7 @@
-use Rattle.std.proofs.Common.{◌≡◌, ◌∙◌, true, sym, ap, subst}
+use Rattle.std.proofs.Common.{◌∙◌, sym, ap, subst}
 use Rattle.mvo_txn.specs.declared.state.TxState.TheVariants.{Aborted}
-use Rattle.mvo_txn.specs.Txns.{Txns, state_of, IsUnended}
-use Rattle.mvo_deps.specs.declared.node.Node.{Node}
+use Rattle.mvo_txn.specs.Txns.{state_of, IsUnended}
 use Rattle.mvo_deps.specs.Data as deps
-use Rattle.mvo_collect.specs.Waiting.{AreWaiting}
-use Rattle.mvo_core.specs.declared.kept_transaction.KeptTransaction.{KeptTransaction}
 use Rattle.mvo_core.specs.declared.kept_transaction.TransactionKind.TheVariants.{Aborted as KindAborted}
 use Rattle.mvo_core.specs.Causes.{is_read_only}
 use Rattle.mvo_core.specs.Keeping.{HasEndedIf}
