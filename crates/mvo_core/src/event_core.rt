@@ -4,7 +4,7 @@ use mvo_collect::Waiting;
 use mvo_tale::Tale;
 use mvo_txn::TxnTable;
 use mvo_types::{MAX_STAMP, Refusal, Rows, Stamp, TxId};
-use mvo_versions::Versions;
+use mvo_versions::{IndexMaker, IndexesInThreads, IndexesInTurn, Versions};
 use std::alloc::Global;
 use std::marker::Model;
 use std::thread::Threads;
@@ -92,8 +92,35 @@ impl Core {
         ensures count { IfOk result (HasOneEach rows) }
         ensures err { IfErr result (λ r. r ≡ Refusal.OutOfMemory) }
     {
+        Core::open_by(&IndexesInThreads::new(rt), alloc, seed, rows, mark)
+    }
+
+    /// The same as `open`, in the calling thread alone: it starts no other, and takes no leave to.
+    pub fn open_in_turn(alloc: Global, seed: u64, rows: Rows, mark: Stamp) -> Result<Core, Refusal>
+        requires { mark.0 ≤ LIMIT }
+        ensures ok { IfOk result (λ c. HasOpenedOver rows mark.0 c) }
+        ensures count { IfOk result (HasOneEach rows) }
+        ensures err { IfErr result (λ r. r ≡ Refusal.OutOfMemory) }
+    {
+        Core::open_by(&IndexesInTurn, alloc, seed, rows, mark)
+    }
+
+    /// The same as `open`, with the indexes that this one makes.
+    pub fn open_by<M: IndexMaker>(
+        maker: &M,
+        alloc: Global,
+        seed: u64,
+        rows: Rows,
+        mark: Stamp,
+    ) -> Result<Core, Refusal>
+        requires maker { M.may_make }
+        requires mark { mark.0 ≤ LIMIT }
+        ensures ok { IfOk result (λ c. HasOpenedOver rows mark.0 c) }
+        ensures count { IfOk result (HasOneEach rows) }
+        ensures err { IfErr result (λ r. r ≡ Refusal.OutOfMemory) }
+    {
         let table = TxnTable::new(alloc, mark)?;
-        let versions = Versions::load(rt, alloc, seed, rows, mark)?;
+        let versions = Versions::load_by(maker, alloc, seed, rows, mark)?;
         let spares = Spares::new(alloc)?;
         Ok(Core {
             alloc,

@@ -27,5 +27,6 @@ pub use answers::{Closed, Finishing, Settlement, Validation};
 pub use event_core::Core;
 pub use mvo_collect::Collection;
 pub use mvo_tale::Tale;
+pub use mvo_versions::{IndexMaker, IndexesInThreads, IndexesInTurn};
 pub use operation::copy_of;
 pub use whole_laws::laws_of_whole_steps;

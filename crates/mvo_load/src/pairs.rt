@@ -103,8 +103,8 @@ fn count_of(manifest: &Manifest) -> u64 {
     count
 }
 
-/// The rows and the places of the live records of a manifest's pairs: of few one pair after another,
-/// and of more all at once, as the reader reads them.
+/// The rows and the places of the live records of a manifest's pairs: of few one pair after
+/// another, and of more all at once, as the reader reads them.
 pub fn load_pairs<D: Disk, P: PairReader>(
     reader: &P,
     alloc: Global,

@@ -15,6 +15,7 @@ ghost use Rattle.mvo_store.specs.Old.{KnowsOld};
 ghost use Rattle.mvo_store.specs.Standing.{IsUp, Gives, HasSlots, KeepsRows};
 ghost use Rattle.mvo_store.specs.Opening.{IsAnswer, HasBegun, KeepsContent, LeavesAsBefore};
 ghost use Rattle.mvo_store.specs.Opening.{HasSynced, IsNotOpened};
+ghost use Rattle.mvo_store.specs.Opened.{IsOpenedStore};
 
 use crate::jobs::jobs::Jobs;
 use crate::limits::MAX_FAULTS;
@@ -23,7 +24,7 @@ use crate::store::Store;
 use crate::syncing::sync_used;
 use mvo_disk::Disk;
 use mvo_frame::Segment;
-use mvo_load::{Loaded, load};
+use mvo_load::{Loaded, PairReader, PairsInThreads, PairsInTurn, load};
 use mvo_manifest::Manifest;
 use mvo_types::{Refusal, Rows, Stamp};
 use std::alloc::Global;
@@ -39,12 +40,13 @@ fn last_segment(manifest: &Manifest) -> u16
 }
 
 /// What is on the disk, and which of the files that its manifest names are old. Nothing changes.
-fn load_marked<D: Disk>(
-    rt: &(impl Threads + Sync),
+fn load_marked<D: Disk, P: PairReader>(
+    reader: &P,
     alloc: Global,
     seed: u64,
     disk: &mut D,
 ) -> Result<(Loaded, Vec<bool>), Refusal>
+    requires reader { P.may_read }
     requires room { D.fault_count disk.old + 1 < 2 ^ 64 }
     ensures says { IsHonest (D.moment disk.new) → Tells IsStop (λ l. (l.0.rows, l.0.mark.0)) result
         (OpensAs (D.content disk.old)) }
@@ -62,7 +64,7 @@ fn load_marked<D: Disk>(
     ensures any_moment { LeavesOnly D.moment D.left_since disk.old disk.new
         (AllOf (D.may_leave disk.old)) }
 {
-    let loaded = match load(rt, alloc, disk, seed) {
+    let loaded = match load(reader, alloc, disk, seed) {
         Ok(loaded) => loaded,
         Err(refusal) => return Err(refusal),
     };
@@ -73,12 +75,13 @@ fn load_marked<D: Disk>(
 }
 
 /// The same of a disk that is durable then.
-fn load_synced<D: Disk>(
-    rt: &(impl Threads + Sync),
+fn load_synced<D: Disk, P: PairReader>(
+    reader: &P,
     alloc: Global,
     seed: u64,
     disk: &mut D,
 ) -> Result<(Loaded, Vec<bool>), Refusal>
+    requires reader { P.may_read }
     ensures loaded { IsHonest (D.moment disk.new) → IfOk result (λ l. IsLoaded
         (D.content disk.old) l.0.manifest l.0.rows l.0.mark.0 l.0.gate) }
     ensures places { IsHonest (D.moment disk.new) → IfOk result (λ l. HavePlaces
@@ -99,7 +102,7 @@ fn load_synced<D: Disk>(
     if disk.faults() >= MAX_FAULTS {
         return Err(Refusal::ClockSpent);
     }
-    let found = match load_marked(rt, alloc, seed, disk) {
+    let found = match load_marked(reader, alloc, seed, disk) {
         Ok(found) => found,
         Err(refusal) => return Err(refusal),
     };
@@ -140,8 +143,32 @@ impl<D: Disk> Store<D> {
         ensures content_err { IfErr result (λ e. KeepsContent D.Disk disk e.1) }
         ensures any_moment_err { IfErr result (λ e. LeavesAsBefore D.Disk disk e.1) }
     {
+        Store::open_by(&PairsInThreads::new(rt), alloc, seed, disk)
+    }
+
+    /// The same as `open`, in the calling thread alone: it starts no other, and takes no leave to.
+    pub fn open_in_turn(
+        alloc: Global,
+        seed: u64,
+        disk: D,
+    ) -> Result<(Store<D>, Rows, Stamp), (Refusal, D)>
+        ensures { IsOpenedStore D.Disk disk result }
+    {
+        Store::open_by(&PairsInTurn, alloc, seed, disk)
+    }
+
+    /// The same as `open`, where this reader reads the pairs.
+    pub fn open_by<P: PairReader>(
+        reader: &P,
+        alloc: Global,
+        seed: u64,
+        disk: D,
+    ) -> Result<(Store<D>, Rows, Stamp), (Refusal, D)>
+        requires { P.may_read }
+        ensures { IsOpenedStore D.Disk disk result }
+    {
         let mut disk = disk;
-        let (loaded, old_marks) = match load_synced(rt, alloc, seed, &mut disk) {
+        let (loaded, old_marks) = match load_synced(reader, alloc, seed, &mut disk) {
             Ok(found) => found,
             Err(refusal) => return Err((refusal, disk)),
         };

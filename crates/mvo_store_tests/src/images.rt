@@ -5,6 +5,7 @@ use crate::stores::SEED;
 use crate::vectors::{CHECKPOINTED, DATA, DELTA, FIRST, FRESH, ROTATED, SECOND_ENDED, SEGMENT};
 use mvo_disk::{Disk, MemDisk};
 use mvo_store::Store;
+use mvo_types::{Refusal, Rows, Stamp};
 use std::alloc::Global;
 use std::process::Abort;
 use std::test::Fail;
@@ -76,15 +77,28 @@ fn put_all(disk: &mut MemDisk, changes: &[Change]) -> Result<(), Fail> {
     Ok(())
 }
 
-/// What the opening of an image answers, as a line.
-fn answer_of(rt: &(impl Threads + Sync), alloc: Global, disk: MemDisk) -> Result<String, Fail> {
-    match Store::open(rt, alloc, SEED, disk) {
+/// What an opening answered, as a line.
+fn line_of(
+    alloc: Global,
+    opened: Result<(Store<MemDisk>, Rows, Stamp), (Refusal, MemDisk)>,
+) -> Result<String, Fail> {
+    match opened {
         Ok((_, rows, mark)) => {
             let count = rows.len();
             Ok(format!(in alloc; "mark {mark} rows {count}")?)
         }
         Err((refusal, _)) => Ok(format!(in alloc; "{refusal}")?),
     }
+}
+
+/// What the opening of an image answers, as a line.
+fn answer_of(rt: &(impl Threads + Sync), alloc: Global, disk: MemDisk) -> Result<String, Fail> {
+    line_of(alloc, Store::open(rt, alloc, SEED, disk))
+}
+
+/// What it answers in the calling thread alone.
+fn answer_in_turn(alloc: Global, disk: MemDisk) -> Result<String, Fail> {
+    line_of(alloc, Store::open_in_turn(alloc, SEED, disk))
 }
 
 /// The image with these files and changes.
@@ -95,7 +109,7 @@ fn changed(alloc: Global, files: &[Change], changes: &[Change]) -> Result<MemDis
     Ok(disk)
 }
 
-/// The image with these files is answered so with each of the changes.
+/// The image with these files is answered so with each of the changes, in threads and in turn.
 fn are_answered(
     rt: &(impl Abort + Threads + Sync),
     alloc: Global,
@@ -105,6 +119,8 @@ fn are_answered(
     for (at, (changes, answer)) in cases.iter().enumerate() {
         let found = answer_of(rt, alloc, changed(alloc, files, changes)?)?;
         same_at(rt, at, &found.as_str(), answer);
+        let in_turn = answer_in_turn(alloc, changed(alloc, files, changes)?)?;
+        same_at(rt, at, &in_turn.as_str(), answer);
     }
     Ok(())
 }

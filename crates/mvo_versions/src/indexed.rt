@@ -1,7 +1,7 @@
 ghost use Rattle.std.specs.Prelude.{◌≡◌, IsSome, IfSome};
 ghost use Rattle.mvo_chain.specs.Slots.{version_at};
 
-use crate::indexes::indexes_of;
+use crate::index_maker::IndexMaker;
 use crate::listing::chains_of;
 use crate::runs::{enter, fits, give_back, joins, leave, place_of};
 use mvo_chain::{Chains, Version, VersionNo};
@@ -11,7 +11,6 @@ use mvo_types::{Row, Rows, Stamp, TxId};
 use mvo_word::Word;
 use std::alloc::{AllocError, Global};
 use std::marker::Model;
-use std::thread::Threads;
 
 /// The versions of all rows with both their indexes. Contracts see them by number, the numbers of
 /// each key, newest first, and the places in the order of sorts.
@@ -66,22 +65,22 @@ impl Indexed {
     ghost use Rattle.mvo_versions.specs.Changes.{AreLoaded, IsPut, IsRoomed, IsReworded};
     ghost use Rattle.mvo_versions.specs.Changes.{IsInFront, IsTakenOut};
 
-    /// The versions of these rows, put at the mark. The indexes of 8,192 rows or more are made in
-    /// two threads, each index beside the other. The seed decides where keys stand in memory: who
-    /// chooses the keys must not know it.
-    pub fn load(
-        rt: &(impl Threads + Sync),
+    /// The versions of these rows, put at the mark, with the indexes that this one makes. The seed
+    /// decides where keys stand in memory: who chooses the keys must not know it.
+    pub fn load<M: IndexMaker>(
+        maker: &M,
         alloc: Global,
         seed: u64,
         rows: Rows,
         mark: Stamp,
     ) -> Result<Indexed, AllocError>
-        requires { mark.0 ≤ LIMIT }
+        requires maker { M.may_make }
+        requires mark { mark.0 ≤ LIMIT }
         ensures loaded { IfOk result (AreLoaded rows mark.0) }
         ensures indexed { IfOk result AreIndexed }
     {
         let (chains, places) = chains_of(alloc, rows, mark)?;
-        let (index, order) = indexes_of(rt, alloc, seed, &chains, places)?;
+        let (index, order) = maker.indexes_of(alloc, seed, &chains, places)?;
         Ok(Indexed {
             chains,
             index,

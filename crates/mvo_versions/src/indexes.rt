@@ -58,6 +58,22 @@ fn at_once(
     Ok((index?, order?))
 }
 
+/// The key index of the versions and the ordered index of the places, one after the other.
+pub fn indexes_in_turn(
+    alloc: Global,
+    seed: u64,
+    chains: &Chains,
+    places: Vec<(SortPlace, u32)>,
+) -> Result<(HashIndex, RangeIndex), AllocError>
+    requires { length chains.now ≤ 2 ^ 32 }
+    ensures numbers { IfOk result (λ made. HasNumbers chains.now made.0.versions) }
+    ensures places { IfOk result (λ made. made.1 ≡ all_added places.items) }
+{
+    let index = index_of(alloc, seed, chains)?;
+    let order = RangeIndex::from_entries(alloc, places)?;
+    Ok((index, order))
+}
+
 /// The key index of the versions and the ordered index of the places: of few in the calling
 /// thread, one after the other, and of more each in a thread of its own.
 pub fn indexes_of(
@@ -74,7 +90,5 @@ pub fn indexes_of(
     if places.len() >= FEW_ROWS {
         return at_once(rt, alloc, seed, chains, places);
     }
-    let index = index_of(alloc, seed, chains)?;
-    let order = RangeIndex::from_entries(alloc, places)?;
-    Ok((index, order))
+    indexes_in_turn(alloc, seed, chains, places)
 }

@@ -1,4 +1,6 @@
+use crate::index_maker::IndexMaker;
 use crate::indexed::Indexed;
+use crate::indexes_in_threads::IndexesInThreads;
 use crate::leading::{lead, unless_ended};
 use crate::skips::{Skips, is_post};
 use mvo_chain::{Version, VersionNo};
@@ -70,7 +72,23 @@ impl Versions {
         ensures loaded { IfOk result (AreLoaded rows mark.0) }
         ensures indexed { IfOk result AreIndexed }
     {
-        let indexed = Indexed::load(rt, alloc, seed, rows, mark)?;
+        Versions::load_by(&IndexesInThreads::new(rt), alloc, seed, rows, mark)
+    }
+
+    /// The same, with the indexes that this one makes.
+    pub fn load_by<M: IndexMaker>(
+        maker: &M,
+        alloc: Global,
+        seed: u64,
+        rows: Rows,
+        mark: Stamp,
+    ) -> Result<Versions, AllocError>
+        requires maker { M.may_make }
+        requires mark { mark.0 ≤ LIMIT }
+        ensures loaded { IfOk result (AreLoaded rows mark.0) }
+        ensures indexed { IfOk result AreIndexed }
+    {
+        let indexed = Indexed::load(maker, alloc, seed, rows, mark)?;
         Ok(Versions {
             indexed,
             skips: Skips::new(alloc),

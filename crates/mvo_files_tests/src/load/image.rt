@@ -1,7 +1,7 @@
 //! Images of a disk, as bytes in hexadecimal digits, and what is found out of them.
 use crate::equal::same;
 use mvo_disk::{Disk, FILE_COUNT, MemDisk, rewrite_synced};
-use mvo_load::{Loaded, load};
+use mvo_load::{Loaded, PairReader, PairsInThreads, PairsInTurn, load};
 use mvo_places::Places;
 use mvo_types::{Refusal, Row, RowKey, Rows};
 use std::alloc::Global;
@@ -92,16 +92,14 @@ fn refused(alloc: Global, refusal: Refusal) -> Result<String, Fail> {
     Ok(format!(in alloc; "{refusal}")?)
 }
 
-/// The place of table 0 at key 5 on a disk.
-fn placed_on(
-    rt: &(impl Threads + Sync),
-    alloc: Global,
-    disk: &mut MemDisk,
-) -> Result<String, Fail> {
+/// The place of table 0 at key 5 on a disk, as this reader finds it.
+fn placed_on<P: PairReader>(reader: &P, alloc: Global, disk: &mut MemDisk) -> Result<String, Fail>
+    requires { P.may_read }
+{
     if disk.faults() > 0 {
         return Err(Fail::from("a fault"));
     }
-    match load(rt, alloc, disk, 7) {
+    match load(reader, alloc, disk, 7) {
         Ok(loaded) => place(alloc, &loaded.places),
         Err(refusal) => refused(alloc, refusal),
     }
@@ -117,25 +115,32 @@ fn line_of(alloc: Global, loaded: &Loaded) -> Result<String, Fail> {
     Ok(format!(in alloc; "{generation}, {mark}, {gate}, {count}: {row}")?)
 }
 
-/// What is found out of a disk, as such a line; or the refusal.
-fn found_on(rt: &(impl Threads + Sync), alloc: Global, disk: &mut MemDisk) -> Result<String, Fail> {
+/// What this reader finds out of a disk, as such a line; or the refusal.
+fn found_on<P: PairReader>(reader: &P, alloc: Global, disk: &mut MemDisk) -> Result<String, Fail>
+    requires { P.may_read }
+{
     if disk.faults() > 0 {
         return Err(Fail::from("a fault"));
     }
-    match load(rt, alloc, disk, 7) {
+    match load(reader, alloc, disk, 7) {
         Ok(loaded) => line_of(alloc, &loaded),
         Err(refusal) => refused(alloc, refusal),
     }
 }
 
-/// What is found out of a disk is this line.
+/// What is found out of a disk is this line, in threads and in turn.
 pub fn finds(
     rt: &(impl Abort + Threads + Sync),
     alloc: Global,
     disk: &mut MemDisk,
     line: &str,
 ) -> Result<(), Fail> {
-    same(rt, &found_on(rt, alloc, disk)?.as_str(), &line);
+    same(
+        rt,
+        &found_on(&PairsInThreads::new(rt), alloc, disk)?.as_str(),
+        &line,
+    );
+    same(rt, &found_on(&PairsInTurn, alloc, disk)?.as_str(), &line);
     Ok(())
 }
 
@@ -155,14 +160,19 @@ pub fn find_all(
     Ok(())
 }
 
-/// The place on a disk is this line.
+/// The place on a disk is this line, in threads and in turn.
 pub fn places(
     rt: &(impl Abort + Threads + Sync),
     alloc: Global,
     disk: &mut MemDisk,
     line: &str,
 ) -> Result<(), Fail> {
-    same(rt, &placed_on(rt, alloc, disk)?.as_str(), &line);
+    same(
+        rt,
+        &placed_on(&PairsInThreads::new(rt), alloc, disk)?.as_str(),
+        &line,
+    );
+    same(rt, &placed_on(&PairsInTurn, alloc, disk)?.as_str(), &line);
     Ok(())
 }
 

@@ -3,7 +3,7 @@ use Rattle.mvo_core.specs.Data.{CoreData}
 use Rattle.mvo_txn.specs.Txns.{state_of}
 use Rattle.mvo_core.proofs.Opening.{opens_as, opened_stands, opened_waits}
 use Rattle.mvo_core.proofs.VersionCounts.{opened_counts}
-use Rattle.mvo_core.proofs.event_core.Core.open.Goals as goal
+use Rattle.mvo_core.proofs.event_core.Core.open_by.Goals as goal
 
 pub invariant_of-result : goal.invariant_of-result
 invariant_of-result g c =
