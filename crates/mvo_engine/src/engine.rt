@@ -18,13 +18,16 @@ use crate::seen_durable::SeenDurable;
 use crate::sends::Sends;
 use crate::session::Session;
 use crate::store_guard::StoreGuard;
+use crate::totals::{Counting, Totals};
 use crate::turns::Turns;
 use mvo_disk::Disk;
 use mvo_marks::{Marks, Seat};
 use mvo_types::{Refusal, Stamp};
 use std::alloc::Global;
+use std::sync::atomic::{AtomicU64, Ordering};
 use std::sync::{Mutex, MutexGuard, Wait};
 use std::thread;
+use std::time::Duration;
 
 /// How often a thread tries to take the lock of the core before it sleeps over it.
 const TRIES: u32 = 64;
@@ -32,6 +35,12 @@ const TRIES: u32 = 64;
 /// How often it yields at most between two tries. Each try that fails writes the word of the lock,
 /// which the thread that has it has to fetch back then.
 const MOST_YIELDS: u32 = 32;
+
+/// Who was shown many rows lets others by for so many nanoseconds a row, and no longer than so many
+/// in all: half as long as it held the lock for them.
+const BY_A_ROW: u64 = 150;
+
+const AT_MOST: u64 = 1_000_000;
 
 /// So many versions are collected at most before the lock of the core is given back: it is held a
 /// few dozen microseconds, as long as some hundred reads.
@@ -48,6 +57,11 @@ pub struct Engine<L: Run, D: Disk, G: Gate + Drop> {
     core: Mutex<LockedCore<L>>,
     store: Mutex<LockedStore<L, D>>,
     turns: Turns,
+    /// How many found the lock of the core taken, and wait for it.
+    waiting: AtomicU64,
+    /// Where one sleeps whom nobody wakes.
+    aside: AtomicU64,
+    counting: Counting,
     pub(crate) alloc: Global,
     ghost named: { marks ≡ L.marks },
 }
@@ -60,6 +74,9 @@ impl<L: Run, D: Disk + Drop, G: Gate + Drop> Drop for Engine<L, D, G> {
             core: _,
             store: _,
             turns: _,
+            waiting: _,
+            aside: _,
+            counting: _,
             alloc: _,
         } = self;
     }
@@ -99,6 +116,9 @@ impl<L: Run, D: Disk, G: Gate + Drop> Engine<L, D, G> {
             core: Mutex::new(LockedCore::new(alloc, core, sends, ledger)),
             store: Mutex::new(LockedStore::new(store, consumer, publisher)),
             turns: Turns::new(),
+            waiting: AtomicU64::new(0),
+            aside: AtomicU64::new(0),
+            counting: Counting::new(),
             alloc,
         }
     }
@@ -171,7 +191,10 @@ impl<L: Run, D: Disk, G: Gate + Drop> Engine<L, D, G> {
         ensures { IsClosingFirst result }
     {
         match self.enter_core(rt).close_group(&self.marks) {
-            Ok(_) => Ok(()),
+            Ok(_) => {
+                self.counting.count_group();
+                Ok(())
+            }
             Err(Refusal::NothingToDo | Refusal::RingFull) => Ok(()),
             Err(refusal) => Err(refusal),
         }
@@ -221,6 +244,9 @@ impl<L: Run, D: Disk, G: Gate + Drop> Engine<L, D, G> {
             core,
             store,
             turns: _,
+            waiting: _,
+            aside: _,
+            counting: _,
             alloc: _,
         } = self;
         let mut store = store.into_inner();
@@ -228,20 +254,43 @@ impl<L: Run, D: Disk, G: Gate + Drop> Engine<L, D, G> {
         shut_down(core.into_inner(), store)
     }
 
-    // Passes the gate and takes the lock of the core. It tries for a while first, since a step
-    // gives the lock back sooner than a thread falls asleep and is woken. It rests between two
-    // tries, longer from one to the next, so that who has the lock isn't held up by tries.
+    // Passes the gate and takes the lock of the core. Where it is taken this one is counted among
+    // those that wait, until it has it.
     pub(crate) fn enter_core<R: Wait>(&self, rt: &R) -> MutexGuard<'_, LockedCore<L>> {
         self.gate.pass(Place::Core);
+        if let Some(core) = self.core.try_lock() {
+            return core;
+        }
+        self.waiting.fetch_add(1, Ordering::SeqCst);
+        let core = self.await_core(rt);
+        self.waiting.fetch_sub(1, Ordering::SeqCst);
+        core
+    }
+
+    // Takes the lock of the core. It tries for a while first, since a step gives the lock back
+    // sooner than a thread falls asleep and is woken. It rests before each try, longer from one to
+    // the next, so that who has the lock isn't held up by tries.
+    fn await_core<R: Wait>(&self, rt: &R) -> MutexGuard<'_, LockedCore<L>> {
         let mut yields = 1;
         for _ in 0..TRIES {
+            rest(yields);
             if let Some(core) = self.core.try_lock() {
                 return core;
             }
-            rest(yields);
             yields = yields.saturating_mul(2).min(MOST_YIELDS);
         }
         self.core.lock(rt)
+    }
+
+    // Lets those in who wait for the core, by who was shown so many rows under its lock and gave it
+    // back: else it would have the lock again before who waits tries the next time. It sleeps, so
+    // that they run where processors are short, and nobody wakes it.
+    pub(crate) fn let_others_in<R: Wait>(&self, rt: &R, rows: u64) {
+        if self.waiting.load(Ordering::SeqCst) == 0 {
+            return;
+        }
+        let nanos = rows.saturating_mul(BY_A_ROW).min(AT_MOST);
+        self.aside.park_timeout(rt, 0, Duration::from_nanos(nanos));
     }
 
     // Passes the gate and takes the lock of the store.
@@ -262,6 +311,17 @@ impl<L: Run, D: Disk, G: Gate + Drop> Engine<L, D, G> {
     // Who flushes next, and where the others sleep.
     pub(crate) fn turns(&self) -> &Turns {
         &self.turns
+    }
+
+    /// What was counted since the engine was opened. It takes no lock and no memory, and none of it
+    /// is promised: no clause speaks of these numbers.
+    pub fn totals(&self) -> Totals {
+        self.counting.totals()
+    }
+
+    // Where it is counted.
+    pub(crate) fn counting(&self) -> &Counting {
+        &self.counting
     }
 
     // The marks.

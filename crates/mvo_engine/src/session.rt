@@ -18,6 +18,7 @@ use mvo_disk::Disk;
 use mvo_marks::Seat;
 use mvo_types::{Stamp, TxId};
 use std::marker::Model;
+use std::sync::atomic::AtomicU64;
 use std::sync::{MutexGuard, Wait};
 
 /// One caller of an engine, in one thread at a time. It has one transaction at a time, and keeps a
@@ -31,6 +32,9 @@ pub struct Session<'e, L: Run, D: Disk, G: Gate + Drop> {
     /// What the calls of its transaction were answered.
     told: Told,
     receipts: Receipts<L>,
+    /// How many rows scans have shown it since it last let others in. It says nothing of the
+    /// transaction, so it is counted through a shared loan.
+    shown: AtomicU64,
 }
 
 impl<'e, L: Run, D: Disk, G: Gate + Drop> Drop for Session<'e, L, D, G> {
@@ -41,6 +45,7 @@ impl<'e, L: Run, D: Disk, G: Gate + Drop> Drop for Session<'e, L, D, G> {
             tx: _,
             told: _,
             receipts: _,
+            shown: _,
         } = self;
     }
 }
@@ -87,6 +92,7 @@ impl<'e, L: Run, D: Disk, G: Gate + Drop> Session<'e, L, D, G> {
             tx: None,
             told: Told::new(receipts.allocator()),
             receipts,
+            shown: AtomicU64::new(0),
         }
     }
 
@@ -101,6 +107,7 @@ impl<'e, L: Run, D: Disk, G: Gate + Drop> Session<'e, L, D, G> {
             tx: _,
             told: _,
             receipts,
+            shown: _,
         } = self;
         receipts
     }

@@ -69,6 +69,7 @@ impl<L: Run, D: Disk, G: Gate + Drop> Engine<L, D, G> {
         let turn = self.turns.take(rt);
         let done = self.guard_store(rt).call(call);
         drop(turn);
+        self.counting.count_call(call, &done);
         done
     }
 }

@@ -22,7 +22,10 @@ impl<L: Run, D: Disk, G: Gate + Drop> Engine<L, D, G> {
             return Err(Refusal::NothingToDo);
         }
         match core.close_group(&self.marks) {
-            Ok(_) => Ok(true),
+            Ok(_) => {
+                self.counting.count_group();
+                Ok(true)
+            }
             Err(Refusal::NothingToDo | Refusal::RingFull) => Ok(false),
             Err(refusal) => Err(refusal),
         }

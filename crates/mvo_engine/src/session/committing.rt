@@ -88,6 +88,7 @@ impl<'e, L: Run, D: Disk, G: Gate + Drop> Session<'e, L, D, G> {
             Ok(end) => {
                 let _ = self.tx.take();
                 self.replace_words(rt, tx);
+                self.engine.counting().count_commit();
                 Ok(end)
             }
             Err(refusal) => {
@@ -129,6 +130,7 @@ impl<'e, L: Run, D: Disk, G: Gate + Drop> Session<'e, L, D, G> {
         ensures session { self.new ≡ session_after refusal self.old }
         ensures left { HasLeftTx L.opening self.old.tx refusal self.new.tx }
     {
+        self.engine.counting().count_refusal(&refusal);
         if ends_transaction(refusal) {
             self.finish(rt, tx);
         }

@@ -7,9 +7,13 @@ use mvo_core::copy_of;
 use mvo_disk::Disk;
 use mvo_types::{Answer, Op, Refusal, Row, RowKey, Stamp, TxId};
 use std::sync::Wait;
+use std::sync::atomic::Ordering;
 
 /// So many receipts are let go of at most with a begin.
 const FORGOTTEN_AT_ONCE: usize = 64;
+
+/// Behind so many rows that scans have shown it, a session lets in who waits for the core.
+const SHOWN_AT_ONCE: u64 = 1_000;
 
 impl<'e, L: Run, D: Disk, G: Gate + Drop> Session<'e, L, D, G> {
     ghost use Rattle.std.specs.Prelude.{◌≡◌, [], true, Some, Ok, IfOk, IfErr};
@@ -104,7 +108,10 @@ impl<'e, L: Run, D: Disk, G: Gate + Drop> Session<'e, L, D, G> {
         self.told.reserve()?;
         let result = self.enter(rt).operate(tx, op);
         match result {
-            Ok(answer) => self.keep_answer(rt, copy, answer),
+            Ok(answer) => {
+                self.let_others_in(rt, &answer);
+                self.keep_answer(rt, copy, answer)
+            }
             Err(refusal) => {
                 self.end_by(rt, tx, refusal);
                 Err(refusal)
@@ -171,6 +178,21 @@ impl<'e, L: Run, D: Disk, G: Gate + Drop> Session<'e, L, D, G> {
         ensures err { IfErr result (λ e. refuses_operation (Op.Delete key) e ≡ true) }
     {
         self.operate(rt, Op::Delete(key))
+    }
+
+    // Lets in who waits for the core, where scans have shown it many rows.
+    fn let_others_in<R: Wait>(&self, rt: &R, answer: &Answer) {
+        let Answer::Rows(rows) = answer else {
+            return;
+        };
+        let shown = self.shown.load(Ordering::SeqCst);
+        let shown = shown.saturating_add(rows.len() as u64);
+        if shown < SHOWN_AT_ONCE {
+            self.shown.store(shown, Ordering::SeqCst);
+            return;
+        }
+        self.shown.store(0, Ordering::SeqCst);
+        self.engine.let_others_in(rt, shown);
     }
 
     // Passes on what the transaction was answered to an operation, and keeps a copy. Where memory

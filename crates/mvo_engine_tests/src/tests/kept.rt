@@ -12,7 +12,9 @@ use super::told::Told::{Byte, Done, Number, Ready};
 use super::trial::{Alone, Meeting, Trial, tried, tried_anew};
 use crate::equal::{holds, same};
 use mvo_disk::Disk;
-use mvo_engine::{CoreStats, Engine, Gate, Kept, OpenGate, Run, Session, Stats, StoreStats};
+use mvo_engine::{
+    CoreStats, Engine, Gate, Kept, OpenGate, Run, Session, Stats, StoreStats, Totals,
+};
 use mvo_keep::{Chore, Keeper, Policy};
 use mvo_store::StoreCall::RotateWrite;
 use mvo_types::{Refusal, Stamp};
@@ -94,6 +96,20 @@ fn put_away() -> Stats {
             dead: 0,
             step: None,
         },
+    }
+}
+
+/// What was counted then.
+fn counted() -> Totals {
+    Totals {
+        commits: 1,
+        write_conflicts: 0,
+        failed_validations: 0,
+        aborted_dependencies: 0,
+        groups: 1,
+        rotations: 1,
+        checkpoints: 1,
+        merges: 0,
     }
 }
 
@@ -203,6 +219,7 @@ pub fn keep_alone<L: Run, D: Disk, G: Gate + Drop, R: Abort + Wait>(
     follow(rt, alloc, engine, &mut one, &mut other, &PUT);
     keep_so(rt, alloc, engine, &mut keeper, &PUT_AWAY)?;
     same(rt, &engine.stats(rt), &put_away());
+    same(rt, &engine.totals(), &counted());
     follow(rt, alloc, engine, &mut one, &mut other, &HALF_WAY);
     keep_so(rt, alloc, engine, &mut keeper, &BROUGHT_ON)?;
     rest(rt, engine, &mut keeper, Stamp(4))?;

@@ -3,7 +3,7 @@
 use super::rows::{put, row};
 use super::trial::{Meeting, Trial, tried_anew};
 use super::turns::has_come;
-use crate::equal::holds;
+use crate::equal::{holds, same};
 use mvo_disk::Disk;
 use mvo_engine::{Engine, Gate, OpenGate, Run, Session};
 use mvo_types::{Cause, Refusal, TxId};
@@ -23,7 +23,10 @@ pub fn meet_for_a_key<
 >(rt: &R, alloc: Global, engine: &Engine<L, D, G>) -> Result<(), Refusal> {
     let mut one = engine.session(rt)?;
     let mut two = engine.session(rt)?;
-    put_and_meet(rt, alloc, &mut one, &mut two)
+    put_and_meet(rt, alloc, &mut one, &mut two)?;
+    let totals = engine.totals();
+    same(rt, &(totals.commits, totals.write_conflicts), &(1, 1));
+    Ok(())
 }
 
 fn put_and_meet<

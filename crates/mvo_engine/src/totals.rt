@@ -1,0 +1,106 @@
+//! What is counted of an engine without a lock.
+use mvo_store::{Done, StoreCall};
+use mvo_types::Refusal;
+use std::sync::atomic::{AtomicU64, Ordering};
+
+/// What an engine has counted since it was opened, each number at a moment of its own. Each is
+/// raised where its step is made; no proof says so, and nothing rests on it.
+#[derive(Clone, Copy, Debug, PartialEq, Eq)]
+pub struct Totals {
+    /// How many transactions sessions committed, those that are read-only among them.
+    pub commits: u64,
+    /// How often a call of a session was refused with WriteConflict.
+    pub write_conflicts: u64,
+    /// How often one was refused with ValidationFailed.
+    pub failed_validations: u64,
+    /// How often one was refused with DependencyAborted.
+    pub aborted_dependencies: u64,
+    /// How many groups were closed.
+    pub groups: u64,
+    /// How many rotations were begun by `rotate` and `keep`: none of a flush, and none by hand.
+    pub rotations: u64,
+    /// How many checkpoints were begun by `checkpoint` and `keep`.
+    pub checkpoints: u64,
+    /// How many merges were begun by `merge` and `keep`.
+    pub merges: u64,
+}
+
+/// Where it is counted.
+#[derive(Drop)]
+pub struct Counting {
+    commits: AtomicU64,
+    write_conflicts: AtomicU64,
+    failed_validations: AtomicU64,
+    aborted_dependencies: AtomicU64,
+    groups: AtomicU64,
+    rotations: AtomicU64,
+    checkpoints: AtomicU64,
+    merges: AtomicU64,
+}
+
+impl Counting {
+    /// Nothing was counted.
+    pub fn new() -> Counting {
+        Counting {
+            commits: AtomicU64::new(0),
+            write_conflicts: AtomicU64::new(0),
+            failed_validations: AtomicU64::new(0),
+            aborted_dependencies: AtomicU64::new(0),
+            groups: AtomicU64::new(0),
+            rotations: AtomicU64::new(0),
+            checkpoints: AtomicU64::new(0),
+            merges: AtomicU64::new(0),
+        }
+    }
+
+    /// What was counted so far.
+    pub fn totals(&self) -> Totals {
+        Totals {
+            commits: self.commits.load(Ordering::SeqCst),
+            write_conflicts: self.write_conflicts.load(Ordering::SeqCst),
+            failed_validations: self.failed_validations.load(Ordering::SeqCst),
+            aborted_dependencies: self.aborted_dependencies.load(Ordering::SeqCst),
+            groups: self.groups.load(Ordering::SeqCst),
+            rotations: self.rotations.load(Ordering::SeqCst),
+            checkpoints: self.checkpoints.load(Ordering::SeqCst),
+            merges: self.merges.load(Ordering::SeqCst),
+        }
+    }
+
+    /// A session has committed.
+    pub fn count_commit(&self) {
+        one_more(&self.commits);
+    }
+
+    /// A group was closed.
+    pub fn count_group(&self) {
+        one_more(&self.groups);
+    }
+
+    /// A call of a session was refused.
+    pub fn count_refusal(&self, refusal: &Refusal) {
+        match refusal {
+            Refusal::WriteConflict(_) => one_more(&self.write_conflicts),
+            Refusal::ValidationFailed(_) => one_more(&self.failed_validations),
+            Refusal::DependencyAborted(_) => one_more(&self.aborted_dependencies),
+            _ => {}
+        }
+    }
+
+    /// A call of the store came to this.
+    pub fn count_call(&self, call: StoreCall, came: &Result<Done, Refusal>) {
+        if came.is_err() {
+            return;
+        }
+        match call {
+            StoreCall::RotateWrite => one_more(&self.rotations),
+            StoreCall::CheckpointRead => one_more(&self.checkpoints),
+            StoreCall::MergeRead(_) => one_more(&self.merges),
+            _ => {}
+        }
+    }
+}
+
+fn one_more(count: &AtomicU64) {
+    count.fetch_add(1, Ordering::SeqCst);
+}
