@@ -9,9 +9,6 @@ use mvo_types::Refusal;
 /// The value of a gate that is open. Every other value is closed.
 pub const OPEN: u8 = 0xa5;
 
-/// The version that is written.
-pub const VERSION: u32 = 1;
-
 /// How many bytes the magic and the version have.
 pub const HEADER_LEN: usize = 8;
 

@@ -1,7 +1,7 @@
 use crate::equal::{holds, same};
 use crate::files::changes::changed;
 use mvo_disk::{Disk, MemDisk};
-use mvo_format::VERSION;
+use mvo_format::FIRST_FORMAT;
 use mvo_manifest::{Manifest, Pair, close_slot, open_slot, pick, read_slot, write_slot};
 use mvo_types::{Refusal, Stamp};
 use std::alloc::Global;
@@ -40,7 +40,7 @@ fn of_pair(alloc: Global) -> Result<Manifest, Fail> {
     })?;
     let mut segments = Vec::new(alloc);
     segments.push(3)?;
-    Ok(Manifest::new(VERSION, 2, Stamp(2), pairs, segments)?.ok_or("a manifest")?)
+    Ok(Manifest::new(FIRST_FORMAT.version, 2, Stamp(2), pairs, segments)?.ok_or("a manifest")?)
 }
 
 // The generation of a manifest, that a slot is closed, or a refusal, as a line.
@@ -54,7 +54,7 @@ fn line_of(alloc: Global, found: Result<Option<u64>, Refusal>) -> Result<String,
 
 // What is found of slot 0, as such a line.
 fn found(alloc: Global, bytes: &[u8]) -> Result<String, Fail> {
-    let found = match read_slot(alloc, VERSION, 0, bytes) {
+    let found = match read_slot(alloc, FIRST_FORMAT.version, 0, bytes) {
         Ok(None) => Ok(None),
         Ok(Some(manifest)) => Ok(Some(manifest.generation())),
         Err(refusal) => Err(refusal),
@@ -70,8 +70,8 @@ fn finds(rt: &impl Abort, alloc: Global, bytes: &[u8], line: &str) -> Result<(),
 
 // The manifest that counts, of the bytes of both slots.
 fn chosen_of(alloc: Global, first: &[u8], second: &[u8]) -> Result<Manifest, Refusal> {
-    let first = read_slot(alloc, VERSION, 0, first)?;
-    let second = read_slot(alloc, VERSION, 1, second)?;
+    let first = read_slot(alloc, FIRST_FORMAT.version, 0, first)?;
+    let second = read_slot(alloc, FIRST_FORMAT.version, 1, second)?;
     pick(first, second)
 }
 

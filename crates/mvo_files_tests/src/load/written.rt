@@ -3,7 +3,7 @@ use crate::load::image::{
     DATA, DELTA, INSERTED, LATER_DATA, NAMED, bytes, finds, places, put, put_all,
 };
 use mvo_disk::{Disk, MemDisk};
-use mvo_format::{FIRST_FORMAT, VERSION};
+use mvo_format::FIRST_FORMAT;
 use mvo_frame::Segment;
 use mvo_group::Group;
 use mvo_manifest::{Manifest, Pair};
@@ -17,7 +17,13 @@ use std::thread::Threads;
 fn manifest_of(alloc: Global, pairs: &[Pair]) -> Result<Manifest, Fail> {
     let mark = pairs.last().map_or(Stamp(0), |pair| pair.hi);
     let segments = vec![in alloc; 2]?;
-    let manifest = Manifest::new(VERSION, 0, mark, pairs.to_vec(alloc)?, segments)?;
+    let manifest = Manifest::new(
+        FIRST_FORMAT.version,
+        0,
+        mark,
+        pairs.to_vec(alloc)?,
+        segments,
+    )?;
     Ok(manifest.ok_or("a manifest")?)
 }
 
@@ -66,7 +72,7 @@ fn put_pairs(alloc: Global, disk: &mut MemDisk) -> Result<(), Fail> {
     if disk.faults() > 0 {
         return Err(Fail::from("a fault"));
     }
-    let _segment = Segment::fresh(disk, VERSION, 2)?;
+    let _segment = Segment::fresh(disk, FIRST_FORMAT.version, 2)?;
     Ok(())
 }
 
@@ -221,7 +227,7 @@ fn append(alloc: Global, disk: &mut MemDisk, group: &Group) -> Result<(), Fail> 
     if disk.faults() > 0 || group.prev().0 != 0 {
         return Err(Fail::from("a fault, or another group"));
     }
-    let mut segment = Segment::fresh(disk, VERSION, 2)?;
+    let mut segment = Segment::fresh(disk, FIRST_FORMAT.version, 2)?;
     segment.write_body(alloc, disk, group)?;
     segment.open_gate(disk)?;
     Ok(())

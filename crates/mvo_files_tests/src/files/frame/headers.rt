@@ -1,6 +1,6 @@
 use crate::equal::{holds, same};
 use mvo_bytes::{u8_at, u16_at, u32_at, u64_at};
-use mvo_format::{FIRST_FORMAT, VERSION, behind_header};
+use mvo_format::{FIRST_FORMAT, behind_header};
 use mvo_types::Refusal;
 use std::test::Fail;
 
@@ -18,7 +18,7 @@ fn of_version(version: u8) -> [u8; 9] {
 
 #[test]
 fn the_magic_is_looked_at_first(rt: HostRuntime) -> Result<(), Fail> {
-    let (format, rest) = behind_header(2, MAGIC, VERSION, &BYTES)?;
+    let (format, rest) = behind_header(2, MAGIC, FIRST_FORMAT.version, &BYTES)?;
     same(&rt, &format, &FIRST_FORMAT);
     same(&rt, &rest, &[7].as_slice());
     same(

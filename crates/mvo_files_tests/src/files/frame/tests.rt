@@ -1,7 +1,7 @@
 use crate::equal::{holds, same};
 use crate::files::changes::changed;
 use mvo_disk::{Disk, MemDisk};
-use mvo_format::{FIRST_FORMAT, Format, VERSION};
+use mvo_format::{FIRST_FORMAT, Format};
 use mvo_frame::{Kind, Segment, next_group, read_all};
 use mvo_group::Group;
 use mvo_types::{Refusal, Stamp};
@@ -95,7 +95,7 @@ fn is_appended(
     group: &Group,
 ) -> Result<(), Fail> {
     holds(rt, disk.faults() == 0);
-    let mut segment = Segment::fresh(disk, VERSION, 3)?;
+    let mut segment = Segment::fresh(disk, FIRST_FORMAT.version, 3)?;
     same(rt, &disk.bytes(3), &b"MVOL\x01\0\0\0\0".as_slice());
     if segment.file != 3 || group.prev().0 != 0 {
         return Err(Fail::from("another group"));
@@ -133,16 +133,44 @@ fn finds(
 fn the_vector_is_read(rt: HostRuntime) -> Result<(), Fail> {
     let alloc = rt.alloc();
     let fresh = b"MVOL\x01\0\0\0\0";
-    finds(&rt, alloc, VERSION, Kind::Last, &SEGMENT, "1 at 62")?;
-    finds(&rt, alloc, VERSION, Kind::Sealed, &SEGMENT, "1 at 62")?;
-    finds(&rt, alloc, VERSION, Kind::Last, fresh, "0 at 8")?;
-    finds(&rt, alloc, VERSION, Kind::Sealed, fresh, "refused 54 3")
+    finds(
+        &rt,
+        alloc,
+        FIRST_FORMAT.version,
+        Kind::Last,
+        &SEGMENT,
+        "1 at 62",
+    )?;
+    finds(
+        &rt,
+        alloc,
+        FIRST_FORMAT.version,
+        Kind::Sealed,
+        &SEGMENT,
+        "1 at 62",
+    )?;
+    finds(
+        &rt,
+        alloc,
+        FIRST_FORMAT.version,
+        Kind::Last,
+        fresh,
+        "0 at 8",
+    )?;
+    finds(
+        &rt,
+        alloc,
+        FIRST_FORMAT.version,
+        Kind::Sealed,
+        fresh,
+        "refused 54 3",
+    )
 }
 
 // What is found of a last segment is what a plain reading finds.
 fn agrees(rt: &impl Abort, alloc: Global, bytes: &[u8]) -> Result<(), Fail> {
     let line = plain(alloc, bytes)?;
-    finds(rt, alloc, VERSION, Kind::Last, bytes, &line)
+    finds(rt, alloc, FIRST_FORMAT.version, Kind::Last, bytes, &line)
 }
 
 // Cut at each length, and with each other value at each byte.
@@ -164,7 +192,7 @@ fn each_change_is_found(rt: HostRuntime) -> Result<(), Fail> {
 // put has table 0 and one byte.
 fn first_group(alloc: Global, max_data_len: u16) -> Result<String, Fail> {
     let format = Format {
-        version: VERSION,
+        version: FIRST_FORMAT.version,
         max_table: 0,
         max_data_len,
     };

@@ -1,7 +1,7 @@
 //! A plain reader of a pair's files, for what loading is compared with.
 use crate::equal::holds_at;
 use crate::files::pair::vectors::{DATA, NAMED, pair};
-use mvo_format::VERSION;
+use mvo_format::FIRST_FORMAT;
 use mvo_pair::{Live, load_pair};
 use mvo_types::Refusal;
 use std::alloc::Global;
@@ -79,7 +79,7 @@ fn are_live(live: &[Live], entries: u32, plain: Plain<'_>) -> bool {
 
 /// Whether loading one record and one number answers what reading them plainly does.
 fn agrees(alloc: Global, entries: u32, data: &[u8], delta: &[u8]) -> bool {
-    let loaded = load_pair(alloc, VERSION, pair(1, entries), data, delta);
+    let loaded = load_pair(alloc, FIRST_FORMAT.version, pair(1, entries), data, delta);
     match (&loaded, read_plainly(entries, data, delta)) {
         (Ok(live), Ok(plain)) => are_live(live, entries, plain),
         (Err(found), Err(wanted)) => *found == wanted,

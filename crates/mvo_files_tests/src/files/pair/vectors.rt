@@ -1,7 +1,7 @@
 //! The vectors of the format, and what a pair with them is.
 use crate::equal::{holds, same, same_at};
 use crate::files::changes::changed;
-use mvo_format::VERSION;
+use mvo_format::FIRST_FORMAT;
 use mvo_pair::{Live, Pair, load_pair};
 use mvo_types::{Refusal, RowKey, Stamp};
 use std::alloc::Global;
@@ -34,7 +34,7 @@ pub fn pair(records: u32, entries: u32) -> Pair {
 
 /// How many records are live, or the refusal.
 pub fn count(alloc: Global, pair: Pair, data: &[u8], delta: &[u8]) -> Result<usize, Refusal> {
-    let live = load_pair(alloc, VERSION, pair, data, delta)?;
+    let live = load_pair(alloc, FIRST_FORMAT.version, pair, data, delta)?;
     Ok(live.len())
 }
 
@@ -73,7 +73,7 @@ fn is_the_record(rt: &impl Abort, live: &Live) {
 
 #[test]
 fn a_record_is_live_until_it_is_named(rt: HostRuntime) -> Result<(), Fail> {
-    let live = load_pair(rt.alloc(), VERSION, pair(1, 0), &DATA, &DELTA)?;
+    let live = load_pair(rt.alloc(), FIRST_FORMAT.version, pair(1, 0), &DATA, &DELTA)?;
     match live.as_slice() {
         [only] => is_the_record(&rt, only),
         _ => holds(&rt, false),
@@ -143,8 +143,8 @@ fn a_delta_file_has_the_version_of_its_data_file(rt: HostRuntime) -> Result<(), 
 #[test]
 fn a_pair_reaches_as_far_as_it_counts(rt: HostRuntime) {
     // A header has 8 bytes, a record 27 and at most 1,024 of data, or 4,096, a number 4.
-    same(&rt, &pair(0, 0).data_reach(VERSION), &8);
-    same(&rt, &pair(2, 3).data_reach(VERSION), &2_110);
+    same(&rt, &pair(0, 0).data_reach(FIRST_FORMAT.version), &8);
+    same(&rt, &pair(2, 3).data_reach(FIRST_FORMAT.version), &2_110);
     same(&rt, &pair(2, 3).data_reach(2), &8_254);
     same(&rt, &pair(0, 0).delta_reach(), &8);
     same(&rt, &pair(2, 3).delta_reach(), &20);
