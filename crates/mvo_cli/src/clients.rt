@@ -3,8 +3,10 @@
 
 mod answering;
 mod client_line;
+mod client_pipes;
 mod client_work;
-mod pipes;
+mod pipe_folder;
 
+pub use client_pipes::ClientPipes;
 pub use client_work::ClientWork;
-pub use pipes::Pipes;
+pub use pipe_folder::{PipeFolder, pipes_in};

@@ -1,7 +1,7 @@
 //! Serves clients over the store in a folder.
 ghost use Rattle.mvo_engine.specs.Opened.{IsNamedBy};
 
-use crate::clients::{ClientWork, Pipes};
+use crate::clients::{ClientPipes, ClientWork};
 use crate::fault::Fault;
 use crate::folders::Folders;
 use crate::jobs::{flushed, run_kept};
@@ -11,7 +11,6 @@ use mvo_disk::Disk;
 use mvo_engine::{Engine, Fresh, OpenGate, Run};
 use mvo_front::{Job, JobWork, Outcome, run};
 use std::alloc::{AllocError, Global};
-use std::fs::{File, Files};
 use std::io::{self, Write};
 use std::marker::Brand;
 use std::random::RandomSource;
@@ -22,46 +21,46 @@ use std::thread::Threads;
 /// makes each commit durable. Nothing is done where the folder isn't opened, or a pipe isn't there.
 pub fn serve_in<R>(rt: &R, task: &ServeTask<'_>, is_terminal: bool) -> Result<(), Fault>
 where
-    R: AllocGlobal
-        + Print
-        + Eprint
-        + Files<File = File>
-        + RandomSource
-        + Folders
-        + Threads
-        + Wait
-        + Sync,
+    R: AllocGlobal + Print + Eprint + RandomSource + Folders + Threads + Wait + Sync,
 {
-    Pipes::new(rt.alloc(), rt, task.pipes).check(task.clients.count())?;
+    let pipes = rt.pipes_in(task.pipes)?;
+    pipes.check(task.clients.count())?;
     match rt.open_folder(task.folder, is_terminal) {
-        Ok(disk) => serve_on(rt, task, disk),
+        Ok(disk) => serve_on(rt, task, &pipes, disk),
         Err(fault) => Err(fault),
     }
 }
 
 /// The same over the store on a disk.
-fn serve_on<D: Disk + Drop + Send, R>(rt: &R, task: &ServeTask<'_>, disk: D) -> Result<(), Fault>
+fn serve_on<D, P, R>(rt: &R, task: &ServeTask<'_>, pipes: &P, disk: D) -> Result<(), Fault>
 where
-    R: AllocGlobal + Print + Eprint + Files<File = File> + RandomSource + Threads + Wait + Sync,
+    D: Disk + Drop + Send,
+    P: ClientPipes + Drop + Sync,
+    R: AllocGlobal + Print + RandomSource + Threads + Wait + Sync,
 {
     match open_fresh(rt, rt.alloc(), disk) {
-        Ok(fresh) => serve_by::<Brand, D, R>(rt, task, fresh),
+        Ok(fresh) => serve_by::<Brand, D, P, R>(rt, task, pipes, fresh),
         Err(fault) => Err(fault),
     }
 }
 
 /// The same over an opened store, for every run, which its parts name.
-fn serve_by<L, D, R>(rt: &R, task: &ServeTask<'_>, fresh: Fresh<D>) -> Result<(), Fault>
+fn serve_by<L, D, P, R>(
+    rt: &R,
+    task: &ServeTask<'_>,
+    pipes: &P,
+    fresh: Fresh<D>,
+) -> Result<(), Fault>
 where
     L: Run + Send + Sync,
     D: Disk + Drop + Send,
-    R: AllocGlobal + Print + Eprint + Files<File = File> + Threads + Wait + Sync,
+    P: ClientPipes + Drop + Sync,
+    R: AllocGlobal + Print + Threads + Wait + Sync,
     requires { IsNamedBy D.Disk L.opening L.marks L.ring L.name L.parts fresh }
 {
     let (alloc, clients) = (rt.alloc(), task.clients.count());
     let engine = Engine::<L, D, OpenGate>::new(fresh, OpenGate);
-    let pipes = Pipes::new(alloc, rt, task.pipes);
-    let work = ClientWork::new(alloc, &engine, &pipes, clients);
+    let work = ClientWork::new(alloc, &engine, pipes, clients);
     writeln!(io::writer(rt), "serving {clients}").map_err(Fault::Print)?;
     let outcomes = serve_all(rt, alloc, task, &work, &engine)?;
     let last = flushed(rt, &engine);

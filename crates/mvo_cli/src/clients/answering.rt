@@ -1,22 +1,23 @@
 //! Answers the lines of one client.
 
 use crate::clients::client_line::ClientLine;
+use crate::clients::client_pipes::ClientPipes;
 use crate::clients::client_work::ClientWork;
 use crate::jobs::Lines;
 use mvo_disk::Disk;
 use mvo_engine::{Gate, Run, Stats};
 use mvo_script::{MAX_LINE_LEN, read_line};
 use std::alloc::Global;
-use std::fs::{File, Files};
+use std::fs::File;
 use std::io::{self, BufReader, BufWriter, Write};
 use std::sync::Wait;
 
 /// Answers each line of a client until its pipe ends, or the program does. The replies are written
 /// as the buffer fills, before it waits for more lines, and at the end.
-pub fn answer_all<L, D, G, F, R>(
+pub fn answer_all<L, D, G, P, R>(
     rt: &R,
     alloc: Global,
-    work: &ClientWork<'_, L, D, G, F>,
+    work: &ClientWork<'_, L, D, G, P>,
     number: usize,
     lines: &mut Lines<'_, L, D, G>,
     from: File,
@@ -26,7 +27,7 @@ where
     L: Run,
     D: Disk,
     G: Gate + Drop,
-    F: Files<File = File>,
+    P: ClientPipes,
     R: Wait,
 {
     let mut reader = BufReader::new(alloc, from)?;
@@ -49,9 +50,9 @@ where
 }
 
 /// Answers a line.
-fn answer<L, D, G, F, R>(
+fn answer<L, D, G, P, R>(
     rt: &R,
-    work: &ClientWork<'_, L, D, G, F>,
+    work: &ClientWork<'_, L, D, G, P>,
     number: usize,
     lines: &mut Lines<'_, L, D, G>,
     line: &[u8],
@@ -61,7 +62,7 @@ where
     L: Run,
     D: Disk,
     G: Gate + Drop,
-    F: Files<File = File>,
+    P: ClientPipes,
     R: Wait,
 {
     match ClientLine::of(line) {

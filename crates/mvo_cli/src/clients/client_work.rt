@@ -1,12 +1,12 @@
 use crate::clients::answering::answer_all;
-use crate::clients::pipes::Pipes;
+use crate::clients::client_pipes::ClientPipes;
 use crate::fault::Fault;
 use crate::jobs::Lines;
 use mvo_disk::Disk;
 use mvo_engine::{Engine, Gate, Run};
 use mvo_front::{Job, JobWork, Outcome};
 use std::alloc::{AllocError, Global};
-use std::fs::{File, Files};
+use std::fs::File;
 use std::io::{self, Write};
 use std::sync::Wait;
 use std::sync::atomic::{AtomicU64, Ordering};
@@ -14,10 +14,10 @@ use std::thread;
 
 /// Serves the clients of a number, one behind another, in a session.
 #[derive(Drop)]
-pub struct ClientWork<'e, L: Run, D: Disk, G: Gate + Drop, F: Files<File = File>> {
+pub struct ClientWork<'e, L: Run, D: Disk, G: Gate + Drop, P: ClientPipes> {
     alloc: Global,
     engine: &'e Engine<L, D, G>,
-    pipes: &'e Pipes<'e, F>,
+    pipes: &'e P,
     /// How many clients there may be at once.
     clients: usize,
     /// Whether one of them said `stop`.
@@ -26,14 +26,14 @@ pub struct ClientWork<'e, L: Run, D: Disk, G: Gate + Drop, F: Files<File = File>
     serving: AtomicU64,
 }
 
-impl<'e, L: Run, D: Disk, G: Gate + Drop, F: Files<File = File>> ClientWork<'e, L, D, G, F> {
+impl<'e, L: Run, D: Disk, G: Gate + Drop, P: ClientPipes> ClientWork<'e, L, D, G, P> {
     /// What serves clients by an engine and over these pipes.
     pub fn new(
         alloc: Global,
         engine: &'e Engine<L, D, G>,
-        pipes: &'e Pipes<'e, F>,
+        pipes: &'e P,
         clients: usize,
-    ) -> ClientWork<'e, L, D, G, F> {
+    ) -> ClientWork<'e, L, D, G, P> {
         ClientWork {
             alloc,
             engine,
@@ -56,10 +56,12 @@ impl<'e, L: Run, D: Disk, G: Gate + Drop, F: Files<File = File>> ClientWork<'e, 
 
     /// Ends the program for all clients, and waits until no other thread serves. So long the pipes
     /// of the others are held open: who waits for a client, or for a line, doesn't then. Where they
-    /// can't be opened, nothing is ended.
+    /// can't be opened, nothing is ended; where another one has ended it, that one waits.
     pub fn stop<R: Wait>(&self, rt: &R, number: usize) -> Result<(), Fault> {
         let mut ends = self.ends_of_others(number)?;
-        self.over.store(1, Ordering::SeqCst);
+        if self.over.swap(1, Ordering::SeqCst) != 0 {
+            return Ok(());
+        }
         for (lines, _) in ends.iter_mut() {
             let _ = lines.write_all(b"\n");
         }
@@ -120,8 +122,7 @@ impl<'e, L: Run, D: Disk, G: Gate + Drop, F: Files<File = File>> ClientWork<'e, 
     }
 }
 
-impl<'e, L: Run, D: Disk, G: Gate + Drop, F: Files<File = File>> JobWork
-    for ClientWork<'e, L, D, G, F> {
+impl<'e, L: Run, D: Disk, G: Gate + Drop, P: ClientPipes> JobWork for ClientWork<'e, L, D, G, P> {
     ghost comes_to = { λ job outcome. Unit {0} };
 
     fn run<R: Wait>(&self, rt: &R, job: Job) -> Outcome {
