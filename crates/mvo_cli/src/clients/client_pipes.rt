@@ -1,8 +1,8 @@
 use crate::fault::Fault;
 use std::fs::File;
 
-/// Opens the named pipes of clients, which many threads may do at once. The client with the number I
-/// writes its lines to the pipe `I.in`, and reads its replies from `I.out`.
+/// Opens the named pipes of clients, which many threads may do at once. The client with the number
+/// I writes its lines to the pipe `I.in`, and reads its replies from `I.out`.
 pub trait ClientPipes {
     /// Looks whether both pipes of each client are there.
     fn check(&self, clients: usize) -> Result<(), Fault>;

@@ -22,12 +22,9 @@ where
     F: AllocGlobal + Files<File = File> + Clone + Drop,
 {
     let alloc = rt.alloc();
-    let Ok(files) = rt.clone() else {
-        return Err(Fault::OutOfMemory);
-    };
     Ok(PipeFolder {
         alloc,
-        files,
+        files: rt.clone()?,
         folder: String::from_str(alloc, folder)?,
     })
 }
