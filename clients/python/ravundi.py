@@ -16,6 +16,7 @@ meanwhile.
 from __future__ import annotations
 
 import contextlib
+import secrets
 import subprocess
 import threading
 from collections.abc import Callable, Iterator
@@ -195,6 +196,20 @@ class Client(Lines):
     def __init__(self, pipes: str, number: int):
         lines = open(f"{pipes}/{number}.in", "wb", buffering=2 * MOST_BYTES)
         super().__init__(lines, open(f"{pipes}/{number}.out", "rb", buffering=2 * MOST_BYTES))
+        self.begin_client(f"client {secrets.token_hex(8)}")
+
+    def begin_client(self, line: str) -> None:
+        """Begins a client. One that went just before may have left half a line, a transaction and
+        replies that it didn't read."""
+        try:
+            self.lines.write(f"\n{line}\n".encode())
+            self.lines.flush()
+        except BrokenPipeError:
+            raise self.ended() from None
+        for reply in self.replies:
+            if reply.decode() == f"{line}\n":
+                return
+        raise self.ended()
 
     def make_durable(self, end: int) -> None:
         """Waits until all that this client has committed is on the disk. Clients that wait at the

@@ -66,6 +66,11 @@ where
     R: Wait,
 {
     match ClientLine::of(line) {
+        ClientLine::Client => {
+            lines.end(rt);
+            writer.write_all(line)?;
+            writer.write_all(b"\n")
+        }
         ClientLine::Durable => {
             let reply = lines.make_durable(rt);
             writeln!(writer, "{reply}")

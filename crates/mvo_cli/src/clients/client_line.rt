@@ -1,5 +1,8 @@
 /// What a line of a client is.
 pub enum ClientLine {
+    /// `client WORD`: another client begins, which is answered with its own line. What the one
+    /// before has left open is rolled back: a pipe doesn't tell where it went.
+    Client,
     /// `durable`: waits until what has committed is durable.
     Durable,
     /// `leave`: rolls the present transaction back, if there is one.
@@ -15,7 +18,9 @@ pub enum ClientLine {
 impl ClientLine {
     /// What a line is, without its line feed.
     pub fn of(line: &[u8]) -> ClientLine {
-        if line == b"durable".as_slice() {
+        if line.starts_with(b"client ".as_slice()) {
+            ClientLine::Client
+        } else if line == b"durable".as_slice() {
             ClientLine::Durable
         } else if line == b"leave".as_slice() {
             ClientLine::Leave
