@@ -1,4 +1,5 @@
-"""A client of a store in a folder, over the pipes of one `mvo run DIR`. Standard library alone.
+"""A client of a store in a folder, over the pipes of a program that runs it (`mvo run DIR`), or that
+serves many clients at once (`mvo serve`). Standard library alone.
 
     from ravundi import Store
 
@@ -8,18 +9,21 @@
         store.run(lambda tx: tx.update(0, 5, 51, b"b"))
 
 A row has a table (0 to 63), a key and a sort (0 to 2^64 - 1) and up to 4,096 bytes of data. Threads
-may share a store: each transaction is one thread's, and commits that are made durable share their
-flushes. Other processes can't open the folder meanwhile.
+may share a `Store`: each transaction is one thread's, and commits that are made durable share their
+flushes. Of `mvo serve` each thread has a `Client` of its own. Other processes can't open the folder
+meanwhile.
 """
 from __future__ import annotations
 
 import contextlib
+import secrets
 import subprocess
 import threading
 from collections.abc import Callable, Iterator
-from typing import NamedTuple, TypeVar
+from typing import BinaryIO, NamedTuple, TypeVar
 
 T = TypeVar("T")
+L = TypeVar("L", bound="Lines")
 # Another transaction was in the way. The same work may pass under a new begin.
 CONFLICTS = (20, 21, 22)
 # A pipe holds twice that.
@@ -47,17 +51,11 @@ class Ended(Exception):
     again."""
 
 
-class Store:
-    """The store in a folder, which `mvo format` has made. With `keeps` the program does what is due
-    between the lines: it flushes, keeps its files few and lets go of what nobody can be shown."""
+class Lines:
+    """Lines, each with its reply, over two pipes. A thread's lines of one call stay together."""
 
-    def __init__(self, folder: str, program: str = "mvo", keeps: bool = True):
-        words = [program, "run", folder] + ["--keep"] * keeps
-        streams = {"stdin": subprocess.PIPE, "stdout": subprocess.PIPE, "stderr": subprocess.PIPE}
-        self.process = subprocess.Popen(words, bufsize=2 * MOST_BYTES, **streams)
-        self.pipe, self.turn = threading.Lock(), threading.Lock()
-        self.keeps, self.names = keeps, list[str]()
-        self.named = self.mark = 0
+    def __init__(self, lines: BinaryIO, replies: BinaryIO):
+        self.lines, self.replies, self.pipe = lines, replies, threading.Lock()
 
     def ask(self, *lines: str) -> list[str]:
         """The replies to these lines, between which no other thread's come."""
@@ -65,20 +63,18 @@ class Store:
         with self.pipe:
             for some in pieces(lines):
                 try:
-                    self.process.stdin.write(b"".join(some))
-                    self.process.stdin.flush()
+                    self.lines.write(b"".join(some))
+                    self.lines.flush()
                 except BrokenPipeError:
                     raise self.ended() from None
-                replies += (self.process.stdout.readline().decode().rstrip("\n") for _ in some)
+                replies += (self.replies.readline().decode().rstrip("\n") for _ in some)
                 if not replies[-1]:
                     raise self.ended()
         return replies
 
     def ended(self) -> Ended:
-        """Why the program isn't there any more."""
-        status = self.process.wait()
-        text = self.process.stderr.read().decode(errors="replace").strip()
-        return Ended(f"the program has ended with {status}: {text or 'it was killed'}")
+        """Why there are no replies any more."""
+        return Ended("the program has ended, or lets this client go")
 
     def one(self, line: str) -> str:
         """The reply to a line, if it wasn't refused."""
@@ -94,7 +90,7 @@ class Store:
         """A transaction, which commits where its block ends and is rolled back where that is left by
         an exception. With `durable` it is on the disk then, together with all that committed before.
         One that only reads is shown what there was at its begin, and is never in a conflict."""
-        tx = Transaction(self, "begin-read" if only_reads else "begin")
+        tx = Transaction(self, self.take_name(), "begin-read" if only_reads else "begin")
         try:
             yield tx
         except BaseException:
@@ -114,6 +110,36 @@ class Store:
                 if refused.code not in CONFLICTS or left == 1:
                     raise
         raise ValueError("it was to be done no time")
+
+    def close(self) -> None:
+        for stream in (self.lines, self.replies):
+            with contextlib.suppress(BrokenPipeError):
+                stream.close()
+
+    def __enter__(self: L) -> L:
+        return self
+
+    def __exit__(self, *_: object) -> None:
+        self.close()
+
+
+class Store(Lines):
+    """The store in a folder, which `mvo format` has made, over one `mvo run`. With `keeps` the
+    program does what is due between the lines: it flushes, keeps its files few and lets go of what
+    nobody can be shown."""
+
+    def __init__(self, folder: str, program: str = "mvo", keeps: bool = True):
+        words = [program, "run", folder] + ["--keep"] * keeps
+        streams = {"stdin": subprocess.PIPE, "stdout": subprocess.PIPE, "stderr": subprocess.PIPE}
+        self.process = subprocess.Popen(words, bufsize=2 * MOST_BYTES, **streams)
+        super().__init__(self.process.stdin, self.process.stdout)
+        self.turn, self.keeps, self.names = threading.Lock(), keeps, list[str]()
+        self.named = self.mark = 0
+
+    def ended(self) -> Ended:
+        status = self.process.wait()
+        text = self.process.stderr.read().decode(errors="replace").strip()
+        return Ended(f"the program has ended with {status}: {text or 'it was killed'}")
 
     def make_durable(self, end: int) -> None:
         """Waits until all that committed up to this end is on the disk. One thread flushes for all
@@ -141,16 +167,15 @@ class Store:
                 before = self.mark
                 self.flush()
         finally:
-            for stream in (self.process.stdin, self.process.stdout, self.process.stderr):
-                with contextlib.suppress(BrokenPipeError):
-                    stream.close()
+            super().close()
+            self.process.stderr.close()
             self.process.wait()
 
-    def __enter__(self) -> Store:
-        return self
-
-    def __exit__(self, *_: object) -> None:
-        self.close()
+    def leave(self, name: str) -> None:
+        """Rolls back. Each `finish` lets go of one thing that the transaction wrote."""
+        self.ask(f"rollback {name}")
+        while self.ask(*[f"finish {name}"] * FINISHES)[-1] == "more":
+            pass
 
     def take_name(self) -> str:
         """A name that no open transaction has."""
@@ -160,16 +185,60 @@ class Store:
                 self.names.append(f"t{self.named}")
             return self.names.pop()
 
+    def give_name(self, name: str) -> None:
+        self.names.append(name)
+
+
+class Client(Lines):
+    """One client of a program that serves (`mvo serve`), by its number, over the pipes of a folder.
+    It has one transaction at a time, so each thread takes a client of its own."""
+
+    def __init__(self, pipes: str, number: int):
+        lines = open(f"{pipes}/{number}.in", "wb", buffering=2 * MOST_BYTES)
+        super().__init__(lines, open(f"{pipes}/{number}.out", "rb", buffering=2 * MOST_BYTES))
+        self.begin_client(f"client {secrets.token_hex(8)}")
+
+    def begin_client(self, line: str) -> None:
+        """Begins a client. One that went just before may have left half a line, a transaction and
+        replies that it didn't read."""
+        try:
+            self.lines.write(f"\n{line}\n".encode())
+            self.lines.flush()
+        except BrokenPipeError:
+            raise self.ended() from None
+        for reply in self.replies:
+            if reply.decode() == f"{line}\n":
+                return
+        raise self.ended()
+
+    def make_durable(self, end: int) -> None:
+        """Waits until all that this client has committed is on the disk. Clients that wait at the
+        same time share a flush."""
+        self.one("durable")
+
+    def stop(self) -> None:
+        """Ends the program for all clients."""
+        self.one("stop")
+
+    def leave(self, name: str) -> None:
+        self.ask("leave")
+
+    def take_name(self) -> str:
+        return "t"
+
+    def give_name(self, name: str) -> None:
+        pass
+
 
 class Transaction:
     """An open transaction. Each call is one line, and Refused says why it wasn't done."""
 
-    def __init__(self, store: Store, line: str):
-        self.store, self.name = store, store.take_name()
+    def __init__(self, store: Store | Client, name: str, line: str):
+        self.store, self.name = store, name
         try:
-            self.id = int(store.one(f"{line} {self.name}").split(" ")[1])
+            self.id = int(store.one(f"{line} {name}").split(" ")[1])
         except Refused:
-            store.names.append(self.name)
+            store.give_name(name)
             raise
 
     def read(self, table: int, key: int) -> Row | None:
@@ -210,16 +279,14 @@ class Transaction:
         except BaseException:
             self.leave()
             raise
-        self.store.names.append(self.name)
+        self.store.give_name(self.name)
         return int(reply.split(" ")[1])
 
     def leave(self) -> None:
-        """Rolls back. Each `finish` lets go of one thing that the transaction wrote."""
+        """Rolls back."""
         with contextlib.suppress(Ended):
-            self.store.ask(f"rollback {self.name}")
-            while self.store.ask(*[f"finish {self.name}"] * FINISHES)[-1] == "more":
-                pass
-            self.store.names.append(self.name)
+            self.store.leave(self.name)
+            self.store.give_name(self.name)
 
 
 def data_of(word: str) -> bytes:

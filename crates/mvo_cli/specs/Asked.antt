@@ -59,6 +59,32 @@ work_command =
     let workers = with_rule (with_folder (codes "work") true) workers_rule in
     with_rule (with_rule workers keep_rule) files_rule
 
+-- the number of clients, which must be there
+abbrev pub clients_rule : Rule
+clients_rule = record (new_rule (codes "clients")) {
+  long = Some (codes "clients");
+  value_names = 1;
+  required = true;
+  parser = Some (parser.Signed (pos 1) (pos 64));
+}
+
+-- whether the store isn't kept meanwhile, which is said by the option's name alone
+abbrev pub no_keep_rule : Rule
+no_keep_rule = record (new_rule (codes "no-keep")) {
+  long = Some (codes "no-keep");
+  action = Some SetTrue;
+}
+
+-- the folder of the pipes, which must be there
+abbrev pub pipes_rule : Rule
+pipes_rule = record (new_rule (codes "PIPES")) { required = true }
+
+-- the command that serves clients
+abbrev pub serve_command : App
+serve_command =
+    let clients = with_rule (with_folder (codes "serve") true) clients_rule in
+    with_rule (with_rule clients no_keep_rule) pipes_rule
+
 -- the path of a script, which must be there
 abbrev pub script_rule : Rule
 script_rule = record (new_rule (codes "FILE")) { required = true }
@@ -97,7 +123,7 @@ commands =
     let runs = with_subcommand formats run_command.top in
     let rows = with_subcommand runs rows_command.top in
     let works = with_subcommand (with_looks rows) work_command.top in
-    with_subcommand works stops_command.top
+    with_subcommand (with_subcommand works serve_command.top) stops_command.top
 
 -- the words ask for the task
 abbrev pub AsksFor : List Text → Task → Type 0

@@ -1,5 +1,5 @@
 -- What a command asks for, by the words behind it.
-use Rattle.std.specs.Prelude.{◌≡◌, ◌<◌, ◌≤◌, ℕ, Bool, false, List, Option, Some, None, codes, map, vec_len}
+use Rattle.std.specs.Prelude.{◌≡◌, ◌<◌, ◌≤◌, ℕ, Bool, false, not, List, Option, Some, None, codes, map, vec_len}
 use Rattle.std.specs.Borrow.{Bor}
 use Rattle.std.specs.Str.{bytes_eq}
 use Rattle.std.specs.Str.Parse.{digits_value, without_leading_plus}
@@ -37,6 +37,14 @@ is_true (Some text) = bytes_eq text (codes "true")
 abbrev pub HasKeep : List Row → Bool → Type 0
 HasKeep rows keeps = keeps ≡ is_true (first_of (codes "keep") rows)
 
+-- the store isn't kept meanwhile
+abbrev pub HasNoKeep : List Row → Bool → Type 0
+HasNoKeep rows keeps = keeps ≡ not (is_true (first_of (codes "no-keep") rows))
+
+-- the folder of the pipes is this one
+abbrev pub HasPipes : List Row → Text → Type 0
+HasPipes rows pipes = first_of (codes "PIPES") rows ≡ Some pipes
+
 -- the paths of the scripts are these
 abbrev pub HasFiles : List Row → List Text → Type 0
 HasFiles rows files = all_of (codes "FILE") rows ≡ Some files
@@ -68,6 +76,10 @@ IsTask name rows (task.Work t) =
     (name ≡ codes "work") × HasFolder rows t.folder.now
     × HasCount (codes "workers") rows t.workers.count × HasKeep rows t.keeps
     × HasFiles rows (map (λ f. f.now) t.files.items) × (0 < vec_len t.files)
+IsTask name rows (task.Serve t) =
+    (name ≡ codes "serve") × HasFolder rows t.folder.now
+    × HasCount (codes "clients") rows t.clients.count × HasNoKeep rows t.keeps
+    × HasPipes rows t.pipes.now
 IsTask name rows (task.Stops script) =
     (name ≡ codes "stops") × HasScript rows script.now × (first_of (codes "explain") rows ≡ None)
 IsTask name rows (task.Explain number script) =

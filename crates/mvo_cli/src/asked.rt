@@ -3,10 +3,11 @@ ghost use Rattle.std.specs.Prelude.{codes, map, option_map};
 ghost use Rattle.clap.specs.Words.{FailsBy, Text, app_of, kind_of, rule_of, subcommand_rows_of, with_subcommand};
 ghost use Rattle.clap.specs.declared.Command.TheViews.{out-Command};
 ghost use Rattle.mvo_cli.specs.Asked.{AsksFor, commands, folder_rule, no_command, rows_command, table_rule, with_folder, work_command};
-ghost use Rattle.mvo_cli.specs.Asked.{run_command, stops_command, with_looks};
+ghost use Rattle.mvo_cli.specs.Asked.{run_command, serve_command, stops_command, with_looks};
 ghost use Rattle.mvo_cli.specs.Tasks.{IsTask};
 
 use crate::asked_run::run_command;
+use crate::asked_serve::{SERVE, serve_command, serve_task_of};
 use crate::asked_work::{WORK, work_command, work_task_of};
 use crate::stops_words::stops_command;
 use crate::task::{FOLDER, TABLE, Task, task_of};
@@ -67,6 +68,7 @@ fn task_among<'a>(alloc: Global, matches: &ArgMatches<'a>) -> Result<Option<Task
 {
     match matches.subcommand() {
         Some((WORK, found)) => work_task_of(alloc, found),
+        Some((SERVE, found)) => Ok(serve_task_of(found)),
         Some((name, found)) => Ok(task_of(name, found)),
         None => Ok(None),
     }
@@ -154,6 +156,13 @@ fn rows_command<'a>(alloc: Global) -> Result<Command<'a>, AllocError>
     rows.arg(table_arg(alloc))
 }
 
+/// Adds the command that serves clients.
+fn add_serve<'a>(mvo: Command<'a>, alloc: Global) -> Result<Command<'a>, AllocError>
+    ensures { IfOk result (λ c. app_of c ≡ with_subcommand (app_of mvo.entry) serve_command.top) }
+{
+    mvo.subcommand(serve_command(alloc)?)
+}
+
 /// Adds the command that looks at what stops and faults leave.
 fn add_stops<'a>(mvo: Command<'a>, alloc: Global) -> Result<Command<'a>, AllocError>
     ensures { IfOk result (λ c. app_of c ≡ with_subcommand (app_of mvo.entry) stops_command.top) }
@@ -223,5 +232,6 @@ fn command_line<'a>(alloc: Global) -> Result<Command<'a>, AllocError>
     let mvo = add_rows(mvo, alloc)?;
     let mvo = add_looks(mvo, alloc)?;
     let mvo = add_work(mvo, alloc)?;
+    let mvo = add_serve(mvo, alloc)?;
     add_stops(mvo, alloc)
 }

@@ -33,6 +33,12 @@ pub enum Fault {
     /// A file with a script can't be read.
     #[error("error: can't read {0}: {1}\n")]
     ScriptFile(String, io::Error),
+    /// A named pipe can't be used.
+    #[error("error: can't use the pipe {0}: {1}\n")]
+    Pipe(String, io::Error),
+    /// A client wasn't served to the end, and why.
+    #[error("{0}")]
+    Unserved(String),
     /// Nothing can be said of a script, or it has no such call.
     #[error("error: {0}\n")]
     Stops(StopsError),
@@ -73,6 +79,8 @@ impl Fault {
             Fault::Seed(_)
             | Fault::Script(_)
             | Fault::ScriptFile(_, _)
+            | Fault::Pipe(_, _)
+            | Fault::Unserved(_)
             | Fault::Stops(_)
             | Fault::Print(_)
             | Fault::OutOfMemory => 3,

@@ -6,4 +6,5 @@ mod replies;
 mod running;
 mod session_work;
 
-pub use running::{WorkError, work_over};
+pub use lines::Lines;
+pub use running::{WorkError, flushed, run_kept, work_over};

@@ -3,7 +3,9 @@
 
 mod asked;
 mod asked_run;
+mod asked_serve;
 mod asked_work;
+mod clients;
 mod dump;
 mod fault;
 mod folder;
@@ -16,6 +18,8 @@ mod program;
 mod script_file;
 mod seed;
 mod segment_stats;
+mod serve;
+mod serve_task;
 mod shown_jobs;
 mod shown_progress;
 mod stops;
@@ -30,6 +34,7 @@ pub use fault::Fault;
 pub use folders::Folders;
 pub use jobs::{WorkError, work_over};
 pub use program::run_program;
+pub use serve_task::ServeTask;
 pub use task::Task;
 pub use work_task::WorkTask;
 pub use workers::Workers;

@@ -7,6 +7,7 @@ use crate::folders::Folders;
 use crate::keeping::keep_held;
 use crate::listing::{write_counts, write_rows, write_stats};
 use crate::seed::draw_seed;
+use crate::serve::serve_in;
 use crate::stops::{print_call, print_stops};
 use crate::task::Task;
 use crate::work::work_in;
@@ -135,6 +136,7 @@ where
         Task::Stats(folder) => print_stats(rt, folder, is_terminal),
         Task::Keep(folder) => keep_and_count(rt, folder, is_terminal),
         Task::Work(task) => work_in(rt, &task, is_terminal),
+        Task::Serve(task) => serve_in(rt, &task, is_terminal),
         Task::Stops(script) => print_stops(rt, script, is_terminal),
         Task::Explain(number, script) => print_call(rt, number, script),
     }

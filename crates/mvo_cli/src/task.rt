@@ -3,6 +3,7 @@ ghost use Rattle.clap.specs.Words.{found_of, rows_of};
 ghost use Rattle.mvo_cli.specs.Tasks.{IsTask};
 
 use crate::asked_run::run_of;
+use crate::serve_task::ServeTask;
 use crate::work_task::WorkTask;
 use clap::ArgMatches;
 
@@ -41,6 +42,8 @@ pub enum Task<'a> {
     /// `mvo work DIR --workers N [--keep] FILE..`: each file's script as a job over the store in a
     /// folder.
     Work(WorkTask<'a>),
+    /// `mvo serve DIR --clients N [--no-keep] PIPES`: the lines of clients over named pipes.
+    Serve(ServeTask<'a>),
     /// `mvo stops FILE`: whether a stop or a fault at any call leaves what a script was promised.
     Stops(&'a str),
     /// `mvo stops --explain N FILE`: what that call is, and what each image at it opens as.

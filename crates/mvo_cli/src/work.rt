@@ -64,7 +64,7 @@ where
 }
 
 /// The parts of the store on a disk.
-fn open_fresh<D: Disk + Drop>(
+pub fn open_fresh<D: Disk + Drop>(
     rt: &(impl RandomSource + Threads + Sync),
     alloc: Global,
     disk: D,

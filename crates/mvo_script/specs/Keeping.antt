@@ -40,10 +40,12 @@ remains_behind r = Ok More
 
 -- ---- by the steps of the world that the driver makes
 module _ {D : Type 0} (IsStep : WorldData D → Event → Reply → WorldData D → Type 0) where
-  -- so many collections at most, up to the first that finds no garbage, and the reply to the last
+  -- so many collections at most, up to the first that finds no garbage, and the reply to the last;
+  -- where that took a version too, they are all that may be
   pub record AreCollections (most : ℕ) (d : Driver D) (r : Reply) (d' : Driver D) : Type 0 where
     pub steps : AreStepsOf IsStep (Collected WasTaken) d event.Collect r d'
     pub few : steps.count ≤ most
+    pub whole : r ≡ Collected WasTaken → steps.count ≡ most
 
   -- the chore is done as a line of a script would do it
   abbrev pub IsChoreBy : Chore → Driver D → Reply → Driver D → Type 0

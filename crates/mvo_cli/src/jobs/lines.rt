@@ -3,7 +3,7 @@ use mvo_core::Settlement;
 use mvo_disk::Disk;
 use mvo_engine::{Gate, Run, Session};
 use mvo_script::{Line, LineReply, RowText, SortRange};
-use mvo_types::{Answer, Refusal, Row, RowKey, TxId};
+use mvo_types::{Answer, Refusal, Row, RowKey, Stamp, TxId};
 use mvo_world::Reply;
 use std::alloc::Global;
 use std::sync::Wait;
@@ -18,6 +18,8 @@ pub struct Lines<'e, L: Run, D: Disk, G: Gate + Drop> {
     name: Option<String>,
     /// How many of its transactions have committed.
     commits: u64,
+    /// The end of the last one of these.
+    last: Stamp,
 }
 
 impl<'e, L: Run, D: Disk, G: Gate + Drop> Drop for Lines<'e, L, D, G> {
@@ -27,6 +29,7 @@ impl<'e, L: Run, D: Disk, G: Gate + Drop> Drop for Lines<'e, L, D, G> {
             session: _,
             name: _,
             commits: _,
+            last: _,
         } = self;
     }
 }
@@ -39,6 +42,7 @@ impl<'e, L: Run, D: Disk, G: Gate + Drop> Lines<'e, L, D, G> {
             session,
             name: None,
             commits: 0,
+            last: Stamp(0),
         }
     }
 
@@ -56,6 +60,14 @@ impl<'e, L: Run, D: Disk, G: Gate + Drop> Lines<'e, L, D, G> {
         match self.reply_to(rt, line) {
             Some(reply) => LineReply::Answered(reply),
             None => LineReply::BadLine,
+        }
+    }
+
+    /// Waits until what has committed is durable. It shares its flush with all who wait.
+    pub fn make_durable<R: Wait>(&mut self, rt: &R) -> LineReply {
+        match self.session.make_durable(rt, self.last) {
+            Ok(()) => LineReply::Answered(Reply::Durable(self.last)),
+            Err(refusal) => LineReply::Answered(Reply::Refused(refusal)),
         }
     }
 
@@ -159,6 +171,7 @@ impl<'e, L: Run, D: Disk, G: Gate + Drop> Lines<'e, L, D, G> {
             Ok(end) => {
                 self.name = None;
                 self.commits = self.commits.saturating_add(1);
+                self.last = end;
                 Reply::Settled(Settlement::Committed(end))
             }
             Err(refusal) => self.refused(refusal),

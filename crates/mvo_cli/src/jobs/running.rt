@@ -90,11 +90,7 @@ where
     };
     outcomes.sort_unstable_by_key(|outcome| outcome.number);
     write_outcomes(&outcomes, writer)?;
-    let flushed = match flush_all(rt, &engine) {
-        Ok(mark) => Reply::Durable(mark),
-        Err(refusal) => Reply::Refused(refusal),
-    };
-    let last = LineReply::Answered(flushed);
+    let last = flushed(rt, &engine);
     writeln!(writer, "{last}").map_err(WorkError::Write)?;
     writer.flush().map_err(WorkError::Write)
 }
@@ -102,7 +98,7 @@ where
 /// Runs the jobs, while one more thread keeps the store: what stops that stops the last flush, too.
 /// Where the system gives no other thread, the second closure is called first, and what is due is
 /// done behind the jobs.
-fn run_kept<L, D, W, R>(
+pub fn run_kept<L, D, W, R>(
     rt: &R,
     alloc: Global,
     jobs: Vec<Job>,
@@ -150,6 +146,14 @@ fn write_outcome<W: Write>(outcome: &Outcome, writer: &mut W) -> io::Result<()> 
     match &outcome.replies {
         Ok(replies) => writer.write_all(replies.as_bytes()),
         Err(_) => Ok(()),
+    }
+}
+
+/// Makes each commit durable, and answers as a flush of a script does.
+pub fn flushed<L: Run, D: Disk, R: Wait>(rt: &R, engine: &Engine<L, D, OpenGate>) -> LineReply {
+    match flush_all(rt, engine) {
+        Ok(mark) => LineReply::Answered(Reply::Durable(mark)),
+        Err(refusal) => LineReply::Answered(Reply::Refused(refusal)),
     }
 }
 

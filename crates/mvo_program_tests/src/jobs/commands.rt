@@ -1,5 +1,5 @@
 use crate::equal::{holds, same};
-use mvo_cli::{Task, WorkTask, Workers, command};
+use mvo_cli::{ServeTask, Task, WorkTask, Workers, command};
 use std::process::Abort;
 use std::test::*;
 
@@ -8,6 +8,13 @@ const LINES: [[&str; 7]; 3] = [
     ["mvo", "work", "d", "--workers", "8", "f", "g"],
     ["mvo", "work", "--workers", "8", "d", "f", "g"],
     ["mvo", "work", "d", "f", "g", "--workers", "8"],
+];
+
+/// Command lines of `mvo serve` with 16 clients, the folder d, and the pipes in p.
+const SERVED: [[&str; 6]; 3] = [
+    ["mvo", "serve", "d", "--clients", "16", "p"],
+    ["mvo", "serve", "--clients", "16", "d", "p"],
+    ["mvo", "serve", "d", "p", "--clients", "16"],
 ];
 
 #[test]
@@ -44,4 +51,27 @@ fn asks_for(rt: &impl Abort, task: &WorkTask<'_>) {
     same(rt, &task.workers.count(), &8);
     let files = task.files();
     holds(rt, files.len() == 2 && files[0] == "f" && files[1] == "g");
+}
+
+/// A store is kept where clients are served, and isn't where the option says so.
+#[test]
+fn clients_are_asked_for(rt: HostRuntime) -> Result<(), Fail> {
+    for line in SERVED {
+        match command(rt.alloc(), &line) {
+            Ok(Task::Serve(task)) => serves(&rt, &task, true),
+            _ => return Err(Fail::from("no clients are asked for")),
+        }
+    }
+    let line = ["mvo", "serve", "d", "--no-keep", "--clients", "16", "p"];
+    match command(rt.alloc(), &line) {
+        Ok(Task::Serve(task)) => serves(&rt, &task, false),
+        _ => return Err(Fail::from("no clients are asked for")),
+    }
+    Ok(())
+}
+
+fn serves(rt: &impl Abort, task: &ServeTask<'_>, keeps: bool) {
+    same(rt, &task.keeps, &keeps);
+    holds(rt, task.folder == "d" && task.pipes == "p");
+    same(rt, &task.clients.count(), &16);
 }

@@ -9,9 +9,9 @@ loop-left-preserved g c =
 pub returns-in_default : goal.returns-in_default
 returns-in_default g c =
     let i = c.loop-left.invariant in
-    record { steps = record { count = i.0; before = c.loop-left.self; more = i.1; last = inl (search rules) }; few = omega (arith, i.2) }
+    record { steps = record { count = i.0; before = c.loop-left.self; more = i.1; last = inl (search rules) }; few = omega (arith, i.2); whole = λ e. grind (arith, e) }
 
 pub returns : goal.returns
 returns g c =
     let i = c.loop-left.invariant in
-    record { steps = record { count = i.0; before = c.loop-left.self; more = i.1; last = inr (refl, refl) }; few = omega (arith, i.2) }
+    record { steps = record { count = i.0; before = c.loop-left.self; more = i.1; last = inr (refl, refl) }; few = omega (arith, i.2); whole = λ _. omega (arith, i.2) }
