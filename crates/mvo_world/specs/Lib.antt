@@ -14,5 +14,6 @@ pub mod WholeJustified
 pub mod Justified
 pub mod Steps
 pub mod Promise
+pub mod Opened
 pub mod Logging
 pub mod Keeping

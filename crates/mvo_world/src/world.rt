@@ -9,9 +9,9 @@ use crate::event::Event;
 use crate::push::push_reserved;
 use crate::reply::{Reply, reply_of, reply_to_taking};
 use crate::ring::Ring;
-use mvo_core::Core;
+use mvo_core::{Core, IndexMaker, IndexesInThreads, IndexesInTurn};
 use mvo_disk::Disk;
-use mvo_store::Store;
+use mvo_store::{PairReader, PairsInThreads, PairsInTurn, Store};
 use mvo_types::{Refusal, Stamp};
 use std::alloc::Global;
 use std::marker::Model;
@@ -76,6 +76,7 @@ impl<D: Disk> World<D> {
     ghost use Rattle.mvo_world.specs.Standing.{IsAfter, IsPrefix, RecoversPrefix, MayLeavePrefix};
     ghost use Rattle.mvo_world.specs.Standing.{HasHonestDisk};
     ghost use Rattle.mvo_world.specs.Promise.{IsOpenedOver};
+    ghost use Rattle.mvo_world.specs.Opened.{IsWorldOpening};
     ghost use Rattle.mvo_world.specs.Steps.{IsWorldStep, IsRunStep, AreSteps};
 
     /// A world over what is on the disk. It writes and cuts nothing. Refused as `Store::open` is,
@@ -115,14 +116,37 @@ impl<D: Disk> World<D> {
         ensures content_err { IfErr result (λ e. KeepsContent D.Disk disk e.1) }
         ensures any_moment_err { IfErr result (λ e. LeavesAsBefore D.Disk disk e.1) }
     {
-        let (store, rows, mark) = match Store::open(rt, alloc, seed, disk) {
+        let (reader, maker) = (PairsInThreads::new(rt), IndexesInThreads::new(rt));
+        World::open_by(&reader, &maker, alloc, seed, disk)
+    }
+
+    /// The same as `open`, in the calling thread alone: it starts no other, and takes no leave to.
+    pub fn open_in_turn(alloc: Global, seed: u64, disk: D) -> Result<World<D>, (Refusal, D)>
+        ensures { IsWorldOpening D.Disk disk result }
+    {
+        World::open_by(&PairsInTurn, &IndexesInTurn, alloc, seed, disk)
+    }
+
+    // The same, with the pairs that this reader reads, and the indexes that this one makes.
+    fn open_by<P: PairReader, M: IndexMaker>(
+        reader: &P,
+        maker: &M,
+        alloc: Global,
+        seed: u64,
+        disk: D,
+    ) -> Result<World<D>, (Refusal, D)>
+        requires reader { P.may_read }
+        requires maker { M.may_make }
+        ensures { IsWorldOpening D.Disk disk result }
+    {
+        let (store, rows, mark) = match Store::open_by(reader, alloc, seed, disk) {
             Ok(opened) => opened,
             Err(refused) => return Err(refused),
         };
         let Ok(ring) = Ring::new(alloc) else {
             return Err((Refusal::OutOfMemory, store.into_disk()));
         };
-        let Ok(core) = Core::open(rt, alloc, seed, rows, mark) else {
+        let Ok(core) = Core::open_by(maker, alloc, seed, rows, mark) else {
             return Err((Refusal::OutOfMemory, store.into_disk()));
         };
         Ok(World {
