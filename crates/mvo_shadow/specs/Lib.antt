@@ -1,0 +1,2 @@
+pub mod Shadowed
+pub mod Laws
