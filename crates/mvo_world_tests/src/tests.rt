@@ -7,6 +7,7 @@ mod events;
 mod faults;
 mod forgetting;
 mod images;
+mod in_turn;
 mod jobs;
 mod observed;
 mod openings;

@@ -34,6 +34,15 @@ pub fn try_open(
     World::open(rt, alloc, seed, disk)
 }
 
+/// A world over the disk, which the calling thread opens alone.
+pub fn try_open_in_turn(
+    alloc: Global,
+    seed: u64,
+    disk: MemDisk,
+) -> Result<World<MemDisk>, (Refusal, MemDisk)> {
+    World::open_in_turn(alloc, seed, disk)
+}
+
 /// One step.
 pub fn step(world: &mut World<MemDisk>, event: Event) -> Reply {
     world.step(event)

@@ -76,6 +76,10 @@ pub fn try_open(
     disk: MemDisk,
 ) -> Result<World<MemDisk>, (Refusal, MemDisk)> {
     let seed = disk.calls().len() as u64;
+    // Every other disk is opened in the calling thread alone.
+    if seed % 2 == 1 {
+        return calls::try_open_in_turn(alloc, seed, disk);
+    }
     calls::try_open(rt, alloc, seed, disk)
 }
 
