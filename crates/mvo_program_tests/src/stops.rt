@@ -8,3 +8,4 @@ mod looked_at;
 mod moments;
 mod random;
 mod read_only;
+mod upgrades;
