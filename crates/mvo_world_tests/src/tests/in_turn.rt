@@ -21,8 +21,8 @@ const CASES: [Case; 5] = [
     (Some((2, 0)), "refused 54 2"),
     (Some((3, 0)), "refused 54 3"),
     (Some((8, 0)), "refused 54 8"),
-    // What no slot begins with.
-    (Some((1, 7)), "refused 54 1"),
+    // The slot is closed: the other one counts, with the two pairs that were merged.
+    (Some((1, 7)), "4 Some(1)"),
 ];
 
 /// What opening answered, as such a text.
