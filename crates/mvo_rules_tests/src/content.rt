@@ -90,7 +90,12 @@ fn some_row(alloc: Global, numbers: &mut Numbers) -> Result<Row, AllocError> {
         table: 3,
         key: numbers.below(12),
     };
-    Row::from_slice(alloc, key, numbers.below(5), &[numbers.below(200) as u8])
+    Row::from_slice(
+        alloc,
+        key,
+        numbers.below(5),
+        &[(numbers.draw() % 200) as u8],
+    )
 }
 
 fn some_op(alloc: Global, numbers: &mut Numbers) -> Result<Op, AllocError> {

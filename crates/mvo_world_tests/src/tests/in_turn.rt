@@ -2,7 +2,7 @@
 
 use super::calls::{close, try_open, try_open_in_turn};
 use super::{ONE_PAIR, SEED, disk_after, found_in};
-use crate::equal::same;
+use crate::equal::holds;
 use mvo_disk::{Disk, MemDisk};
 use mvo_types::Refusal;
 use mvo_world::World;
@@ -64,23 +64,37 @@ fn changed(
     Ok(disk)
 }
 
-/// It is answered so, both ways.
-fn is_answered(rt: &(impl Abort + Threads + Sync), alloc: Global, case: &Case) -> Result<(), Fail> {
-    let (change, line) = case;
-    let disk = changed(rt, alloc, *change)?;
-    let found = line_of(alloc, try_open(rt, alloc, SEED, disk))?;
-    same(rt, &found.as_str(), line);
-    let disk = changed(rt, alloc, *change)?;
-    let in_turn = line_of(alloc, try_open_in_turn(alloc, SEED, disk))?;
-    same(rt, &in_turn.as_str(), line);
-    Ok(())
+/// What opening in threads answers.
+fn in_threads(
+    rt: &(impl Abort + Threads + Sync),
+    alloc: Global,
+    change: Option<(u16, u8)>,
+) -> Result<String, Fail> {
+    let disk = changed(rt, alloc, change)?;
+    line_of(alloc, try_open(rt, alloc, SEED, disk))
+}
+
+/// What opening in turn answers.
+fn in_turn(
+    rt: &(impl Abort + Threads + Sync),
+    alloc: Global,
+    change: Option<(u16, u8)>,
+) -> Result<String, Fail> {
+    let disk = changed(rt, alloc, change)?;
+    line_of(alloc, try_open_in_turn(alloc, SEED, disk))
+}
+
+/// It says so.
+fn says(rt: &impl Abort, found: &String, line: &str) {
+    holds(rt, found.as_str() == line);
 }
 
 #[test]
 fn worlds_open_alike_in_turn(rt: HostRuntime) -> Result<(), Fail> {
     let alloc = rt.alloc();
-    for case in &CASES {
-        is_answered(&rt, alloc, case)?;
+    for (change, line) in CASES {
+        says(&rt, &in_threads(&rt, alloc, change)?, line);
+        says(&rt, &in_turn(&rt, alloc, change)?, line);
     }
     Ok(())
 }
