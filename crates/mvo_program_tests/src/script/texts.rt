@@ -11,7 +11,7 @@ use std::test::Fail;
 
 const GREATEST: u64 = 1 << 62;
 
-const REFUSALS: [(Refusal, &str); 33] = [
+const REFUSALS: [(Refusal, &str); 34] = [
     (Refusal::NoSuchTransaction, "refused 10"),
     (Refusal::Ended, "refused 11"),
     (Refusal::NotActive, "refused 12"),
