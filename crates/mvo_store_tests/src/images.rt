@@ -101,6 +101,11 @@ fn answer_in_turn(alloc: Global, disk: MemDisk) -> Result<String, Fail> {
     line_of(alloc, Store::open_in_turn(alloc, SEED, disk))
 }
 
+/// It is this line, of the case with this number.
+fn says(rt: &impl Abort, at: usize, found: &String, answer: &str) {
+    same_at(rt, at, &found.as_str(), &answer);
+}
+
 /// The image with these files and changes.
 fn changed(alloc: Global, files: &[Change], changes: &[Change]) -> Result<MemDisk, Fail> {
     let mut disk = MemDisk::new(alloc)?;
@@ -118,9 +123,9 @@ fn are_answered(
 ) -> Result<(), Fail> {
     for (at, (changes, answer)) in cases.iter().enumerate() {
         let found = answer_of(rt, alloc, changed(alloc, files, changes)?)?;
-        same_at(rt, at, &found.as_str(), answer);
+        says(rt, at, &found, answer);
         let in_turn = answer_in_turn(alloc, changed(alloc, files, changes)?)?;
-        same_at(rt, at, &in_turn.as_str(), answer);
+        says(rt, at, &in_turn, answer);
     }
     Ok(())
 }

@@ -115,6 +115,11 @@ fn line_of(alloc: Global, loaded: &Loaded) -> Result<String, Fail> {
     Ok(format!(in alloc; "{generation}, {mark}, {gate}, {count}: {row}")?)
 }
 
+/// It is this line.
+fn says(rt: &impl Abort, found: &String, line: &str) {
+    same(rt, &found.as_str(), &line);
+}
+
 /// What this reader finds out of a disk, as such a line; or the refusal.
 fn found_on<P: PairReader>(reader: &P, alloc: Global, disk: &mut MemDisk) -> Result<String, Fail>
     requires { P.may_read }
@@ -135,12 +140,8 @@ pub fn finds(
     disk: &mut MemDisk,
     line: &str,
 ) -> Result<(), Fail> {
-    same(
-        rt,
-        &found_on(&PairsInThreads::new(rt), alloc, disk)?.as_str(),
-        &line,
-    );
-    same(rt, &found_on(&PairsInTurn, alloc, disk)?.as_str(), &line);
+    says(rt, &found_on(&PairsInThreads::new(rt), alloc, disk)?, line);
+    says(rt, &found_on(&PairsInTurn, alloc, disk)?, line);
     Ok(())
 }
 
@@ -167,12 +168,8 @@ pub fn places(
     disk: &mut MemDisk,
     line: &str,
 ) -> Result<(), Fail> {
-    same(
-        rt,
-        &placed_on(&PairsInThreads::new(rt), alloc, disk)?.as_str(),
-        &line,
-    );
-    same(rt, &placed_on(&PairsInTurn, alloc, disk)?.as_str(), &line);
+    says(rt, &placed_on(&PairsInThreads::new(rt), alloc, disk)?, line);
+    says(rt, &placed_on(&PairsInTurn, alloc, disk)?, line);
     Ok(())
 }
 
