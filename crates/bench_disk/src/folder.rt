@@ -1,10 +1,10 @@
 use anyhow::{Result, bail};
-use mvo_disk::{DirDisk, Silent, Unknown, make_folder};
+use mvo_disk::{DirDisk, Folder, Silent, Unknown, make_folder};
 use std::fs::{self, Files};
 use std::{env, process};
 
 /// A disk in a folder of the system.
-pub type HostDisk = DirDisk<HostRuntime, Unknown, Silent>;
+pub type HostDisk = DirDisk<Folder<HostRuntime>, Unknown, Silent>;
 
 /// A folder for the benchmark's files, which is removed behind it.
 #[derive(Drop)]

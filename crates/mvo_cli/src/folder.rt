@@ -1,7 +1,7 @@
 use crate::fault::Fault;
 use crate::seed::draw_seed;
 use crate::shown_progress::ShownProgress;
-use mvo_disk::{DirDisk, Disk, FolderRefusal, Unknown, make_folder};
+use mvo_disk::{DirDisk, Disk, Folder, FolderRefusal, Unknown, make_folder};
 use mvo_store::{Store, format};
 use mvo_types::{Refusal, Row, Rows, Stamp};
 use mvo_world::World;
@@ -21,7 +21,7 @@ fn fault_of(refusal: FolderRefusal) -> Fault {
 }
 
 /// The disk in a folder, with what its files hold.
-type HostDisk<R> = DirDisk<R, Unknown, ShownProgress<R>>;
+type HostDisk<R> = DirDisk<Folder<R>, Unknown, ShownProgress<R>>;
 
 /// The disk in a folder. Its reading is shown on standard error where that is a terminal.
 pub fn open_disk<R: AllocGlobal + Eprint + Files<File = File> + Clone + Drop>(

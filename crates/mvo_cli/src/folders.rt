@@ -2,7 +2,7 @@ use crate::clients::{ClientPipes, PipeFolder, pipes_in};
 use crate::fault::Fault;
 use crate::folder::open_disk;
 use crate::shown_progress::ShownProgress;
-use mvo_disk::{DirDisk, Disk, Unknown};
+use mvo_disk::{DirDisk, Disk, Folder, Unknown};
 
 /// Opens what is in folders, such that many threads may use it.
 pub trait Folders {
@@ -20,7 +20,7 @@ pub trait Folders {
 }
 
 impl Folders for HostRuntime {
-    type Disk = DirDisk<HostRuntime, Unknown, ShownProgress<HostRuntime>>;
+    type Disk = DirDisk<Folder<HostRuntime>, Unknown, ShownProgress<HostRuntime>>;
 
     type Pipes = PipeFolder<HostRuntime>;
 

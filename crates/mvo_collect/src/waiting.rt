@@ -48,7 +48,7 @@ impl Model for Waiting {
 
 impl Waiting {
     ghost use Rattle.std.specs.Prelude.{◌≡◌, ◌+◌, ◌-◌, ◌++◌, ◌∷◌, [], ◌<◌, ◌≤◌};
-    ghost use Rattle.std.specs.Prelude.{drop, slice_get, OnOk, OnErr};
+    ghost use Rattle.std.specs.Prelude.{drop, length, slice_get, OnOk, OnErr};
     ghost use Rattle.mvo_collect.specs.Waiting.{IsNothing};
 
     /// Nothing waits. It takes no memory.
@@ -128,6 +128,20 @@ impl Waiting {
         } }
     {
         self.ended.push_back_reserved(Ended { end, number });
+    }
+
+    /// How many dead ones wait.
+    pub fn dead_count(&self) -> usize
+        ensures { result ≡ length self.now.dead }
+    {
+        self.dead.len()
+    }
+
+    /// How many of those that were ended wait.
+    pub fn ended_count(&self) -> usize
+        ensures { result ≡ length self.now.ended }
+    {
+        self.ended.len()
     }
 
     /// The first of the dead, if one waits.

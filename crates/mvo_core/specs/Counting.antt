@@ -15,6 +15,10 @@ use Rattle.mvo_core.specs.Data.{CoreData}
 abbrev pub version_count : CoreData → ℕ
 version_count c = length (all_versions c.versions.slots)
 
+-- the places in the order of sorts
+abbrev pub place_count : CoreData → ℕ
+place_count c = fin.len c.versions.places
+
 -- one for each of these rows
 abbrev pub HasOneEach : Map → CoreData → Type 0
 HasOneEach rows c = version_count c ≡ fin.len rows

@@ -1,6 +1,7 @@
 -- What the layers above see of a core.
-use Rattle.std.specs.Prelude.{◌≡◌, ℕ, List}
+use Rattle.std.specs.Prelude.{◌≡◌, ℕ, List, Option}
 use Rattle.mvo_tale.specs.declared.tale_place.TalePlace.{TalePlace}
+use Rattle.mvo_tale.specs.Slots.{last_end}
 use Rattle.mvo_core.specs.Data.{CoreData}
 
 -- the timestamp that was drawn last, or the opening mark
@@ -14,6 +15,10 @@ closed_mark_of c = c.closed
 -- the places of the stored commits
 abbrev pub tale_of : CoreData → List TalePlace
 tale_of c = c.tale
+
+-- the end at the back of the tale
+abbrev pub last_end_of : CoreData → Option ℕ
+last_end_of c = last_end c.tale
 
 -- nothing but the versions is another
 abbrev pub HasNewVersions : CoreData → CoreData → Type 0

@@ -1,4 +1,5 @@
-//! How many versions and unfinished transactions there are, and which of these are Active.
+//! How many versions, places and unfinished transactions there are, which of these are Active, and
+//! which end was drawn last.
 ghost use Rattle.std.specs.Prelude.{◌≡◌};
 ghost use Rattle.mvo_core.specs.Unfinished.{IsNextActive, IsNextBegun, is_active_kind, is_active_in, is_open_kind};
 
@@ -12,7 +13,9 @@ impl Core {
     ghost use Rattle.std.specs.Prelude.{◌≡◌};
     ghost use Rattle.std.specs.FinMap as map;
     ghost use Rattle.mvo_txn.specs.Next.{IsNextBegin};
-    ghost use Rattle.mvo_core.specs.Counting.{version_count};
+    ghost use Rattle.std.specs.Option.{option_map};
+    ghost use Rattle.mvo_core.specs.Counting.{place_count, version_count};
+    ghost use Rattle.mvo_core.specs.Seen.{last_end_of};
     ghost use Rattle.mvo_core.specs.Unfinished.{IsNextActive, IsNextActiveWhole};
 
     /// How many versions there are, those that are garbage among them.
@@ -20,6 +23,29 @@ impl Core {
         ensures { result ≡ version_count self.now }
     {
         self.versions.version_count()
+    }
+
+    /// How many places there are in the order of sorts: one for each key that has a version, and
+    /// one more for each further sort that versions of it have.
+    pub fn place_count(&self) -> usize
+        ensures { result ≡ place_count self.now }
+    {
+        self.versions.place_count()
+    }
+
+    /// How many versions wait to be collected: first of those that aborted transactions put, then
+    /// of those that committed ones replaced or deleted, which readers may see still. No clause
+    /// says so: contracts don't see what waits.
+    pub fn waiting_counts(&self) -> (usize, usize) {
+        (self.waiting.dead_count(), self.waiting.ended_count())
+    }
+
+    /// The end that was drawn last of those whose places are in the tale, the begins of read-only
+    /// transactions among them: the one at its back.
+    pub fn last_end(&self) -> Option<Stamp>
+        ensures { option_map (λ e. e.0) result ≡ last_end_of self.now }
+    {
+        self.tale.last_end()
     }
 
     /// How many transactions aren't finished.

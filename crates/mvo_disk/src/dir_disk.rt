@@ -4,14 +4,15 @@ ghost use Rattle.mvo_disk.specs.declared.limits.TheConstants.{FILE_COUNT};
 
 use crate::disk_history::DiskHistory;
 use crate::folder::{Folder, FolderRefusal};
+use crate::folder_files::FolderFiles;
 use crate::read_progress::ReadProgress;
 use crate::{Disk, DiskFault, FILE_COUNT, Start};
 use std::alloc::Global;
 use std::fs::{File, Files};
 use std::marker::PhantomData;
 
-/// A disk in a folder of the operating system: file n under its four decimal digits. A file that
-/// isn't there is empty, and is made by the first write.
+/// A disk in a folder of the operating system, over what has its files: file n under its four
+/// decimal digits. A file that isn't there is empty, and is made by the first write.
 ///
 /// No byte of the files is kept in memory. What was done and what was answered is a list that
 /// proofs alone see: the content and the images are what that list makes of what the files held at
@@ -22,8 +23,8 @@ use std::marker::PhantomData;
 /// again.
 ///
 /// `P` is told of each read how many bytes were read so far, and how many the files held at first.
-pub struct DirDisk<R: Files<File = File> + Drop, S: Start, P: ReadProgress + Drop> {
-    folder: Folder<R>,
+pub struct DirDisk<F: FolderFiles + Drop, S: Start, P: ReadProgress + Drop> {
+    folder: F,
     history: DiskHistory,
     start: PhantomData<S>,
     progress: P,
@@ -34,7 +35,7 @@ pub struct DirDisk<R: Files<File = File> + Drop, S: Start, P: ReadProgress + Dro
     fault_count: u64,
 }
 
-impl<R: Files<File = File> + Drop, S: Start, P: ReadProgress + Drop> Drop for DirDisk<R, S, P> {
+impl<F: FolderFiles + Drop, S: Start, P: ReadProgress + Drop> Drop for DirDisk<F, S, P> {
     fn drop(self) {
         let DirDisk {
             folder: _,
@@ -50,7 +51,7 @@ impl<R: Files<File = File> + Drop, S: Start, P: ReadProgress + Drop> Drop for Di
 }
 
 // Looks for each file, and answers how many bytes they hold.
-fn find_all<R: Files<File = File> + Drop>(folder: &mut Folder<R>) -> Result<u64, FolderRefusal> {
+fn find_all<F: FolderFiles>(folder: &mut F) -> Result<u64, FolderRefusal> {
     let mut all = 0u64;
     for file in 0..FILE_COUNT {
         let len = folder.find(file)?;
@@ -60,8 +61,8 @@ fn find_all<R: Files<File = File> + Drop>(folder: &mut Folder<R>) -> Result<u64,
     Ok(all)
 }
 
-impl<R: Files<File = File> + Drop, S: Start, P: ReadProgress + Drop> DirDisk<R, S, P> {
-    ghost use Rattle.std.specs.Prelude.{◌≡◌, ◌<◌, ◌+◌, ◌^◌, [], true, false, IfOk, IsErr};
+impl<R: Files<File = File> + Drop, S: Start, P: ReadProgress + Drop> DirDisk<Folder<R>, S, P> {
+    ghost use Rattle.std.specs.Prelude.{◌≡◌, [], false, IfOk};
 
     /// The disk in the folder at a path. All that its files hold is durable then. The folder is
     /// this process's until the disk is dropped. The start is used up, so that code over any `S`
@@ -70,14 +71,30 @@ impl<R: Files<File = File> + Drop, S: Start, P: ReadProgress + Drop> DirDisk<R, 
         rt: R,
         alloc: Global,
         path: &str,
-        _start: S,
+        start: S,
         progress: P,
-    ) -> Result<DirDisk<R, S, P>, FolderRefusal>
+    ) -> Result<DirDisk<Folder<R>, S, P>, FolderRefusal>
         ensures fresh { IfOk result (λ d. d.history.events ≡ []) }
         ensures count { IfOk result (λ d. d.fault_count ≡ 0) }
         ensures unbroken { IfOk result (λ d. d.is_broken ≡ false) }
     {
-        let mut folder = Folder::open(rt, alloc, path)?;
+        match Folder::open(rt, alloc, path) {
+            Ok(folder) => DirDisk::over(folder, start, progress),
+            Err(refusal) => Err(refusal),
+        }
+    }
+}
+
+impl<F: FolderFiles + Drop, S: Start, P: ReadProgress + Drop> DirDisk<F, S, P> {
+    ghost use Rattle.std.specs.Prelude.{◌≡◌, ◌<◌, ◌+◌, ◌^◌, [], true, false, IfOk, IsErr};
+
+    /// The disk in a folder, of whose files no other disk is told. All that they hold is durable
+    /// then. The start is used up, as in `open`.
+    pub fn over(mut folder: F, _start: S, progress: P) -> Result<DirDisk<F, S, P>, FolderRefusal>
+        ensures fresh { IfOk result (λ d. d.history.events ≡ []) }
+        ensures count { IfOk result (λ d. d.fault_count ≡ 0) }
+        ensures unbroken { IfOk result (λ d. d.is_broken ≡ false) }
+    {
         let all = find_all(&mut folder)?;
         Ok(DirDisk {
             folder,
@@ -116,7 +133,7 @@ impl<R: Files<File = File> + Drop, S: Start, P: ReadProgress + Drop> DirDisk<R, 
     }
 }
 
-impl<R: Files<File = File> + Drop, S: Start, P: ReadProgress + Drop> Disk for DirDisk<R, S, P> {
+impl<F: FolderFiles + Drop, S: Start, P: ReadProgress + Drop> Disk for DirDisk<F, S, P> {
     ghost use Rattle.std.specs.Prelude.{◌≡◌, ◌⊎◌, ◌<◌, ◌+◌, ◌^◌, true, length, take, drop};
     ghost use Rattle.std.specs.Prelude.{IfOk, OnOk, OnErr, MatchResult};
     ghost use Rattle.mvo_disk.specs.Disk.{IsHonest, Answers, Counts, Only, Holds, PartlyHolds};

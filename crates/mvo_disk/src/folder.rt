@@ -1,11 +1,13 @@
 //! The files of a disk in a folder of the operating system.
 //!
-//! Each call of the system that a `DirDisk` makes stands in this file. No clause can say what the
-//! system answers, so none here speaks of bytes: that a call does what its name says is a premise.
+//! Each call of the system that a `DirDisk` over a `Folder` makes stands in this file. No clause can
+//! say what the system answers, so none here speaks of bytes: that a call does what its name says is
+//! a premise.
 ghost use Rattle.std.specs.Prelude.{◌≡◌, ◌<◌, length, IfOk};
 ghost use Rattle.mvo_disk.specs.declared.limits.TheConstants.{FILE_COUNT};
 
 use crate::FILE_COUNT;
+use crate::folder_files::FolderFiles;
 use std::alloc::{AllocError, Global};
 use std::fs::{self, File, Files, Metadata, OpenOptions, TryLockError};
 use std::io;
@@ -211,66 +213,6 @@ impl<R: Files<File = File> + Drop> Folder<R> {
         Ok(())
     }
 
-    /// Looks for a file, and answers its length once it is durable. A missing one has 0 bytes.
-    pub fn find(&mut self, file: u16) -> io::Result<u64>
-        requires { file < FILE_COUNT }
-    {
-        self.locate(file)?;
-        let found = match open_file(&self.rt, self.name.as_str()) {
-            Ok(found) => found,
-            Err(error) if error.kind() == io::ErrorKind::NotFound => return Ok(0),
-            Err(error) => return Err(error),
-        };
-        let len = found.metadata()?.len();
-        found.sync_data()?;
-        self.is_there[file as usize] = true;
-        Ok(len)
-    }
-
-    /// Makes the names of the files durable.
-    pub fn sync_names(&mut self) -> io::Result<()> {
-        if self.has_new {
-            self.entry.sync_all()?;
-            self.has_new = false;
-        }
-        Ok(())
-    }
-
-    /// The length of a file. One that isn't there has 0 bytes.
-    pub fn len(&mut self, file: u16) -> io::Result<u64>
-        requires { file < FILE_COUNT }
-    {
-        if let Some(handle) = &self.handles[file as usize] {
-            return Ok(handle.metadata()?.len());
-        }
-        if !self.is_there[file as usize] {
-            return Ok(0);
-        }
-        let handle = self.reopen(file)?;
-        let len = handle.metadata()?.len();
-        self.used = Some((file, handle));
-        Ok(len)
-    }
-
-    /// Fills the slice from the bytes of a file, at an offset. Fewer bytes than that fail.
-    pub fn read(&mut self, file: u16, at: u64, into: &mut [u8]) -> io::Result<()>
-        requires { file < FILE_COUNT }
-    {
-        if let Some(handle) = &self.handles[file as usize] {
-            return handle.read_exact_at(into, at);
-        }
-        if into.is_empty() {
-            return Ok(());
-        }
-        if !self.is_there[file as usize] {
-            return Err(io::Error::from(io::ErrorKind::NotFound));
-        }
-        let handle = self.reopen(file)?;
-        handle.read_exact_at(into, at)?;
-        self.used = Some((file, handle));
-        Ok(())
-    }
-
     // Makes a file that isn't there. A link to nothing counts as there.
     fn make(&mut self, file: u16) -> io::Result<File>
         requires { file < FILE_COUNT }
@@ -295,9 +237,69 @@ impl<R: Files<File = File> + Drop> Folder<R> {
             }
         }
     }
+}
 
-    /// Writes the bytes at an offset of a file, which is made if it isn't there.
-    pub fn write(&mut self, file: u16, at: u64, bytes: &[u8]) -> io::Result<()>
+impl<R: Files<File = File> + Drop> FolderFiles for Folder<R> {
+    ghost use Rattle.std.specs.Prelude.{◌<◌};
+    ghost use Rattle.mvo_disk.specs.declared.limits.TheConstants.{FILE_COUNT};
+
+    fn find(&mut self, file: u16) -> io::Result<u64>
+        requires { file < FILE_COUNT }
+    {
+        self.locate(file)?;
+        let found = match open_file(&self.rt, self.name.as_str()) {
+            Ok(found) => found,
+            Err(error) if error.kind() == io::ErrorKind::NotFound => return Ok(0),
+            Err(error) => return Err(error),
+        };
+        let len = found.metadata()?.len();
+        found.sync_data()?;
+        self.is_there[file as usize] = true;
+        Ok(len)
+    }
+
+    fn sync_names(&mut self) -> io::Result<()> {
+        if self.has_new {
+            self.entry.sync_all()?;
+            self.has_new = false;
+        }
+        Ok(())
+    }
+
+    fn len(&mut self, file: u16) -> io::Result<u64>
+        requires { file < FILE_COUNT }
+    {
+        if let Some(handle) = &self.handles[file as usize] {
+            return Ok(handle.metadata()?.len());
+        }
+        if !self.is_there[file as usize] {
+            return Ok(0);
+        }
+        let handle = self.reopen(file)?;
+        let len = handle.metadata()?.len();
+        self.used = Some((file, handle));
+        Ok(len)
+    }
+
+    fn read(&mut self, file: u16, at: u64, into: &mut [u8]) -> io::Result<()>
+        requires { file < FILE_COUNT }
+    {
+        if let Some(handle) = &self.handles[file as usize] {
+            return handle.read_exact_at(into, at);
+        }
+        if into.is_empty() {
+            return Ok(());
+        }
+        if !self.is_there[file as usize] {
+            return Err(io::Error::from(io::ErrorKind::NotFound));
+        }
+        let handle = self.reopen(file)?;
+        handle.read_exact_at(into, at)?;
+        self.used = Some((file, handle));
+        Ok(())
+    }
+
+    fn write(&mut self, file: u16, at: u64, bytes: &[u8]) -> io::Result<()>
         requires { file < FILE_COUNT }
     {
         if self.handles[file as usize].is_none() {
@@ -314,8 +316,7 @@ impl<R: Files<File = File> + Drop> Folder<R> {
         }
     }
 
-    /// Cuts a file to a length that is at most its own. One that isn't there has 0 bytes already.
-    pub fn cut(&mut self, file: u16, len: u64) -> io::Result<()>
+    fn cut(&mut self, file: u16, len: u64) -> io::Result<()>
         requires { file < FILE_COUNT }
     {
         if self.handles[file as usize].is_none() {
@@ -331,9 +332,7 @@ impl<R: Files<File = File> + Drop> Folder<R> {
         }
     }
 
-    /// Makes a file durable, and the names of all files. One that was neither written nor cut since
-    /// its last sync is durable already.
-    pub fn sync(&mut self, file: u16) -> io::Result<()>
+    fn sync(&mut self, file: u16) -> io::Result<()>
         requires { file < FILE_COUNT }
     {
         if let Some(handle) = self.handles[file as usize].take() {

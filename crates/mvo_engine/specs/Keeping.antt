@@ -43,7 +43,7 @@ use Rattle.mvo_engine.specs.Stats.{IsStatsOf, IsStoreStatsOf}
 -- what of it a keeper sees
 abbrev pub sight_of : Stats → Sight
 sight_of s = record {
-  clock = s.core.clock;
+  last_end = s.core.last_end;
   closed = s.core.closed;
   oldest = s.core.oldest;
   tale_start = s.core.tale_start;

@@ -1,11 +1,12 @@
 -- What is seen of an engine: how its memory stands under the one lock, and its store under the
 -- other.
 use Rattle.std.specs.Prelude.{◌≡◌, length, sum_by}
+use Rattle.std.specs.Option.{option_map}
 use Rattle.std.specs.FinMap as map
 use Rattle.mvo_disk.specs.declared.disk.Disk.{Ghosts}
 use Rattle.mvo_txn.specs.Next.{IsNextBegin}
-use Rattle.mvo_core.specs.Counting.{version_count}
-use Rattle.mvo_core.specs.Seen.{clock_of, closed_mark_of, tale_of}
+use Rattle.mvo_core.specs.Counting.{place_count, version_count}
+use Rattle.mvo_core.specs.Seen.{clock_of, closed_mark_of, last_end_of, tale_of}
 use Rattle.mvo_store.specs.Causes.{has_group}
 use Rattle.mvo_store.specs.Jobs.{next_due}
 use Rattle.mvo_store.specs.Seen.{mark_of, installed_manifest}
@@ -19,11 +20,13 @@ use Rattle.mvo_engine.specs.States.{CoreState, StoreState}
 pub record IsCoreStatsOf (c : CoreState) (s : CoreStats) : Type 0 where
   pub clock : s.clock.0 ≡ clock_of c.core
   pub closed : s.closed.0 ≡ closed_mark_of c.core
+  pub last_end : option_map (λ e. e.0) s.last_end ≡ last_end_of c.core
   pub unfinished : s.unfinished ≡ map.len c.core.table.seats
   pub oldest : IsNextBegin c.core.table 0 s.oldest
   pub tale_start : s.tale_start.0 ≡ c.core.start
   pub places : s.places ≡ length (tale_of c.core)
   pub versions : s.versions ≡ version_count c.core
+  pub sorted_keys : s.sorted_keys ≡ place_count c.core
   pub sessions : s.sessions ≡ c.made
 
 pub record IsStoreStatsOf {D : Type 0} (t : StoreState D) (s : StoreStats) : Type 0 where

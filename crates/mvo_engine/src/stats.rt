@@ -9,6 +9,8 @@ pub struct CoreStats {
     pub clock: Stamp,
     /// The mark of the group that was closed last, or the opening mark.
     pub closed: Stamp,
+    /// The end at the back of the tale, if its places aren't empty (`Core::last_end`).
+    pub last_end: Option<Stamp>,
     /// How many transactions aren't finished.
     pub unfinished: usize,
     /// The one with the least begin, if there is one.
@@ -19,6 +21,14 @@ pub struct CoreStats {
     pub places: usize,
     /// How many versions of rows there are, those that are garbage among them.
     pub versions: usize,
+    /// How many keys have versions, where each key keeps its sort: one more for each further sort
+    /// that versions of a key have.
+    pub sorted_keys: usize,
+    /// How many versions that aborted transactions put wait to be collected. No clause says so.
+    pub aborted: usize,
+    /// How many versions that committed transactions replaced or deleted wait to be collected,
+    /// those among them that readers may see still. No clause says so.
+    pub replaced: usize,
     /// How many sessions there are: made, and not retired.
     pub sessions: u32,
 }
@@ -63,7 +73,7 @@ impl Stats {
     {
         let (core, store) = (self.core, self.store);
         Sight {
-            clock: core.clock,
+            last_end: core.last_end,
             closed: core.closed,
             oldest: core.oldest,
             tale_start: core.tale_start,

@@ -18,7 +18,7 @@ use Rattle.mvo_keep.specs.declared.keeper.Keeper.{Keeper}
 -- nothing was seen
 abbrev pub new_keeper : Keeper
 new_keeper = record {
-  clock = record { 0 = 0 };
+  last_end = None;
   mark = record { 0 = 0 };
   has_flushed = false;
   reclaimed = None;
@@ -31,13 +31,18 @@ abbrev pub begin_or_above : Option TxId → ℕ
 begin_or_above None = MAX_STAMP + 1
 begin_or_above (Some t) = t.0
 
+-- there is such an end, and it is above the mark
+abbrev pub is_above : Option Stamp → Stamp → Bool
+is_above None mark = false
+is_above (Some end') mark = nat_lt mark.0 end'.0
+
 -- What counts for what is due, by what is seen and what the keeper remembers. A flush that was the
 -- last chore isn't due again, whatever came of it, so that one that is refused holds nothing up.
 pub record IsStandingBy (k : Keeper) (s : Sight) (named : List Pair) (standing : Standing) : Type 0
   where
     pub has_group : standing.has_group ≡
         (not k.has_flushed && (s.has_group || nat_lt s.durable.0 s.closed.0))
-    pub has_commits : standing.has_commits ≡ (not k.has_flushed && nat_lt s.closed.0 k.clock.0)
+    pub has_commits : standing.has_commits ≡ (not k.has_flushed && is_above k.last_end s.closed)
     pub step : standing.step ≡ option_map calls.Step s.step
     pub may_reclaim : (standing.may_reclaim ≡ true) ↔ (k.reclaimed ≢ Some s.generation)
     pub pairs : standing.pairs.items ≡ named
@@ -50,9 +55,9 @@ pub record IsStandingBy (k : Keeper) (s : Sight) (named : List Pair) (standing :
     pub may_collect : (standing.may_collect ≡ true) ↔ (k.collected ≢ Some s.tale_start)
 
 -- ---- what is remembered
--- the clock and the mark, and that no flush came since
+-- the last end and the mark, and that no flush came since
 abbrev pub keeper_after_look : Sight → Keeper → Keeper
-keeper_after_look s k = record k { clock = s.clock; mark = s.durable; has_flushed = false }
+keeper_after_look s k = record k { last_end = s.last_end; mark = s.durable; has_flushed = false }
 
 abbrev pub is_flush : Chore → Bool
 is_flush Flush = true
@@ -68,7 +73,7 @@ collected_after start came known = known
 
 abbrev pub keeper_after : Sight → Chore → Result Remains Refusal → Keeper → Keeper
 keeper_after s chore came k = record {
-  clock = s.clock;
+  last_end = s.last_end;
   mark = s.durable;
   has_flushed = is_flush chore;
   reclaimed = reclaimed_after s.generation came k.reclaimed;

@@ -1,6 +1,6 @@
 use crate::chore::Chore;
 use crate::remains::Remains;
-use crate::seen::{begin_or_above, step_of};
+use crate::seen::{begin_or_above, is_above, step_of};
 use crate::sight::Sight;
 use crate::standing::Standing;
 use mvo_pair::Pair;
@@ -10,8 +10,8 @@ use mvo_types::{Refusal, Stamp};
 /// what came of its last chores.
 #[derive(Clone, Copy, Debug, PartialEq, Eq)]
 pub struct Keeper {
-    /// The timestamp that was drawn last, at its last look.
-    clock: Stamp,
+    /// The end at the back of the tale, at its last look.
+    last_end: Option<Stamp>,
     /// The mark that was durable then.
     mark: Stamp,
     /// Whether its last chore was a flush, whatever came of it.
@@ -32,7 +32,7 @@ impl Keeper {
         ensures { result ≡ new_keeper }
     {
         Keeper {
-            clock: Stamp(0),
+            last_end: None,
             mark: Stamp(0),
             has_flushed: false,
             reclaimed: None,
@@ -48,7 +48,7 @@ impl Keeper {
         let is_due = !self.has_flushed;
         Standing {
             has_group: is_due && (sight.has_group || sight.durable < sight.closed),
-            has_commits: is_due && sight.closed < self.clock,
+            has_commits: is_due && is_above(self.last_end, sight.closed),
             step: step_of(sight.step),
             may_reclaim: self.reclaimed != Some(sight.generation),
             pairs,
@@ -67,7 +67,7 @@ impl Keeper {
         ensures { result ≡ keeper_after_look sight.now self }
     {
         Keeper {
-            clock: sight.clock,
+            last_end: sight.last_end,
             mark: sight.durable,
             has_flushed: false,
             reclaimed: self.reclaimed,

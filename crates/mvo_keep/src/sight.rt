@@ -4,8 +4,8 @@ use mvo_types::{Stamp, TxId};
 /// What who keeps a store sees of it: of its memory, and of its files.
 #[derive(Clone, Copy, Debug, PartialEq, Eq)]
 pub struct Sight {
-    /// The timestamp that was drawn last, or the opening mark.
-    pub clock: Stamp,
+    /// The end at the back of the tale, if its places aren't empty (`Core::last_end`).
+    pub last_end: Option<Stamp>,
     /// The mark of the group that was closed last, or the opening mark.
     pub closed: Stamp,
     /// The unfinished transaction with the least begin, if there is one.

@@ -1,5 +1,5 @@
 -- The places of the ends that were drawn: which ends they have, and which commits.
-use Rattle.std.specs.Prelude.{ℕ, ◌<◌, Bool, true, false, if◌then◌else◌, List, [], ◌∷◌, Option, None, Some, slice_get, option_and_then, ⊤}
+use Rattle.std.specs.Prelude.{ℕ, ◌<◌, ◌-◌, length, Bool, true, false, if◌then◌else◌, List, [], ◌∷◌, Option, None, Some, slice_get, option_and_then, ⊤}
 use Rattle.std.specs.List.{AllByRecursion}
 use Rattle.mvo_theory.specs.Marks.{Commit}
 use Rattle.mvo_tale.specs.declared.tale_place.TalePlace.{TalePlace}
@@ -57,6 +57,13 @@ reading_begin_of (Reading b) = Some b.0
 reading_begin_of (Settled x) = None
 reading_begin_of Empty = None
 
+-- where it ends, or would end; of a read-only one that is its begin
+abbrev pub end_of : TalePlace → Option ℕ
+end_of (Open e) = Some e.0
+end_of (Reading b) = Some b.0
+end_of (Settled x) = Some x.end
+end_of Empty = None
+
 -- where it ends, if it does
 abbrev pub pending_end_of : TalePlace → Option ℕ
 pending_end_of (Open e) = Some e.0
@@ -69,6 +76,10 @@ stored_of (Open e) = None
 stored_of (Reading b) = None
 stored_of (Settled x) = Some x
 stored_of Empty = None
+
+-- the end at the back, if that place isn't empty
+abbrev pub last_end : List TalePlace → Option ℕ
+last_end slots = option_and_then end_of (slice_get slots (length slots - 1))
 
 -- the end of the Preparing transaction at the place, if one is there
 abbrev pub open_end_at : List TalePlace → ℕ → Option ℕ

@@ -56,13 +56,13 @@ impl Tale {
     ghost use Rattle.std.specs.Prelude.{◌≡◌, ◌++◌, ◌∷◌, [], ◌<◌, ◌≤◌, length, slice_get, slice_set};
     ghost use Rattle.std.specs.Prelude.{IfOk, OnOk, OnErr, IfSome, IsSome, Some};
     ghost use Rattle.std.specs.List.{AllByRecursion};
-    ghost use Rattle.std.specs.Option.{option_copied};
+    ghost use Rattle.std.specs.Option.{option_copied, option_map};
     ghost use Rattle.mvo_group.specs.Data.{group_of};
     ghost use Rattle.mvo_group.specs.Rules.{KeepsRules};
     ghost use Rattle.mvo_tale.specs.declared.tale_place.TalePlace.TheVariants.{Open, Reading};
     ghost use Rattle.mvo_tale.specs.declared.tale_place.TalePlace.TheVariants.{Settled, Empty};
     ghost use Rattle.mvo_tale.specs.Slots.{AreRising, ends, open_ends};
-    ghost use Rattle.mvo_tale.specs.Slots.{pending_end_at, stored_at, closed_up};
+    ghost use Rattle.mvo_tale.specs.Slots.{pending_end_at, stored_at, closed_up, last_end};
     ghost use Rattle.mvo_tale.specs.Forgetting.{forgotten, slot_or_empty};
     ghost use Rattle.mvo_tale.specs.Next.{AreGroupedTo, AreNextRecords};
 
@@ -155,6 +155,20 @@ impl Tale {
         ensures rising { AreRising (ends self.now) }
     {
         self.gone + self.slots.len()
+    }
+
+    /// The end at the back, if that place isn't empty.
+    pub fn last_end(&self) -> Option<Stamp>
+        ensures { option_map (λ e. e.0) result ≡ last_end self.now }
+    {
+        let count = self.len();
+        if count == 0 {
+            return None;
+        }
+        match self.slot(count - 1) {
+            Some(place) => place.end(),
+            None => None,
+        }
     }
 
     /// The stored commit at a place, if one is there.

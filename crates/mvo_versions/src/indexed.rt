@@ -56,6 +56,7 @@ impl Model for Indexed {
 
 impl Indexed {
     ghost use Rattle.std.specs.Prelude.{◌≡◌, ◌≤◌, ◌<◌, ◌^◌, IfOk, OnErr, IsSome, IfSome, Some, option_copied};
+    ghost use Rattle.std.specs.FinMap as map;
     ghost use Rattle.mvo_chain.specs.Slots.{version_at};
     ghost use Rattle.mvo_hash.specs.Lists.{IsNewer};
     ghost use Rattle.mvo_word.specs.declared.held.Held.TheVariants.{By};
@@ -95,6 +96,13 @@ impl Indexed {
         ensures indexed { AreIndexed self.now }
     {
         self.chains.get(number)
+    }
+
+    /// How many places there are.
+    pub fn place_count(&self) -> usize
+        ensures { result ≡ map.len self.now.places }
+    {
+        self.order.len()
     }
 
     /// The versions by number.

@@ -51,6 +51,7 @@ impl Model for Versions {
 impl Versions {
     ghost use Rattle.std.specs.Prelude.{◌≡◌, ◌≤◌, ◌<◌, ◌^◌, ◌-◌, IfOk, OnErr, IsSome, IfSome, option_copied};
     ghost use Rattle.std.specs.Prelude.{length};
+    ghost use Rattle.std.specs.FinMap as map;
     ghost use Rattle.mvo_chain.specs.Slots.{version_at, hole_count};
     ghost use Rattle.mvo_representation.specs.Steps.{ended_by};
     ghost use Rattle.mvo_types.specs.declared.limits.TheConstants.{MAX_STAMP as LIMIT};
@@ -109,6 +110,14 @@ impl Versions {
         ensures { result ≡ length self.now.slots - hole_count self.now.slots }
     {
         self.indexed.chains().version_count()
+    }
+
+    /// How many places there are in the order of sorts: one for each key, and one more for each
+    /// further sort that versions of it have.
+    pub fn place_count(&self) -> usize
+        ensures { result ≡ map.len self.now.places }
+    {
+        self.indexed.place_count()
     }
 
     /// Puts the row as a version of the transaction, which nobody has ended, in front of those of

@@ -1,7 +1,8 @@
 -- What who keeps a world sees of it, and what is due of it then.
 use Rattle.std.specs.Prelude.{◌≡◌, length, Option}
+use Rattle.std.specs.Option.{option_map}
 use Rattle.mvo_txn.specs.Next.{IsNextBegin}
-use Rattle.mvo_core.specs.Seen.{clock_of, closed_mark_of, tale_of}
+use Rattle.mvo_core.specs.Seen.{closed_mark_of, last_end_of, tale_of}
 use Rattle.mvo_store.specs.Causes.{has_group}
 use Rattle.mvo_store.specs.Jobs.{next_due}
 use Rattle.mvo_store.specs.Seen.{mark_of, installed_manifest}
@@ -16,7 +17,7 @@ use Rattle.mvo_world.specs.WorldData.{WorldData}
 
 -- what is seen of its core and of its store
 pub record IsSightOf {D : Type 0} (w : WorldData D) (s : Sight) : Type 0 where
-  pub clock : s.clock.0 ≡ clock_of w.core
+  pub last_end : option_map (λ e. e.0) s.last_end ≡ last_end_of w.core
   pub closed : s.closed.0 ≡ closed_mark_of w.core
   pub oldest : IsNextBegin w.core.table 0 s.oldest
   pub tale_start : s.tale_start.0 ≡ w.core.start

@@ -16,7 +16,7 @@ impl<D: Disk> World<D> {
     {
         let manifest = self.store.manifest();
         Sight {
-            clock: self.core.clock(),
+            last_end: self.core.last_end(),
             closed: self.core.closed_mark(),
             oldest: self.core.oldest_unfinished(),
             tale_start: self.core.tale_start(),

@@ -2,7 +2,7 @@
 use crate::equal::{holds, same};
 use crate::files::disk::guarded::{cut, len, put, read, read_two, sync, write};
 use mvo_disk::{
-    DirDisk, Disk, DiskFault, FolderRefusal, ReadProgress, Silent, Unknown, make_folder,
+    DirDisk, Disk, DiskFault, Folder, FolderRefusal, ReadProgress, Silent, Unknown, make_folder,
 };
 use std::alloc::Global;
 use std::fs::{self, File};
@@ -12,7 +12,7 @@ use std::sync::atomic::{AtomicU64, Ordering};
 use std::test::Fail;
 use std::{env, process};
 
-type HostDisk = DirDisk<HostRuntime, Unknown, Silent>;
+type HostDisk = DirDisk<Folder<HostRuntime>, Unknown, Silent>;
 
 /// A path in the folder of temporary files that is this process's own.
 fn path_of(rt: &HostRuntime, name: &str) -> Result<String, Fail> {
