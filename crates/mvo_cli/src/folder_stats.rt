@@ -11,11 +11,11 @@ use crate::segment_stats::SegmentStats;
 use mvo_disk::{Disk, DiskFault, FILE_COUNT};
 use mvo_frame::Kind;
 use mvo_load::segment_on;
-use mvo_manifest::FIRST_FILE;
+use mvo_manifest::{FIRST_FILE, Manifest};
 use mvo_pair::Pair;
-use mvo_store::Store;
+use mvo_store::{Store, is_named};
 use mvo_types::{Refusal, Stamp};
-use std::alloc::Global;
+use std::alloc::{AllocError, Global};
 use std::fs::{File, Files};
 use std::random::RandomSource;
 use std::thread::Threads;
@@ -83,8 +83,9 @@ fn stats_of<D: Disk + Drop>(
     let (upto, from) = (manifest.version(), manifest.checkpoint_mark());
     let pairs: Vec<Pair> = manifest.pairs().iter().copied().collect(alloc)?;
     let files: Vec<u16> = manifest.segments().iter().copied().collect(alloc)?;
+    let unnamed = unnamed_by(alloc, manifest)?;
     let mut disk = store.into_disk();
-    match files_of(alloc, &mut disk, upto, from, &pairs, &files) {
+    match files_of(alloc, &mut disk, upto, from, &files, &unnamed) {
         Ok((segments, unused)) => Ok(FolderStats {
             mark,
             rows,
@@ -96,14 +97,26 @@ fn stats_of<D: Disk + Drop>(
     }
 }
 
+/// The files behind the slots that a manifest doesn't name. Of a store that was just opened no job
+/// has taken one.
+fn unnamed_by(alloc: Global, manifest: &Manifest) -> Result<Vec<u16>, AllocError> {
+    let mut files = Vec::new(alloc);
+    for file in FIRST_FILE..FILE_COUNT {
+        if !is_named(manifest, file) {
+            files.push(file)?;
+        }
+    }
+    Ok(files)
+}
+
 /// What the segments have, and how many files are in use by nobody.
 fn files_of<D: Disk>(
     alloc: Global,
     disk: &mut D,
     upto: u32,
     from: Stamp,
-    pairs: &[Pair],
     files: &[u16],
+    unnamed: &[u16],
 ) -> Result<(Vec<SegmentStats>, usize), Refusal>
     requires few { D.fault_count disk.old < MAX_FAULTS }
 {
@@ -111,7 +124,7 @@ fn files_of<D: Disk>(
         Ok(segments) => segments,
         Err(refusal) => return Err(refusal),
     };
-    match unused_on(disk, pairs, files) {
+    match unused_on(disk, unnamed) {
         Ok(unused) => Ok((segments, unused)),
         Err(_) => Err(Refusal::DiskFault),
     }
@@ -181,34 +194,26 @@ fn segment_in<D: Disk>(
     }
 }
 
-/// How many files hold bytes that nobody needs.
-fn unused_on<D: Disk>(disk: &mut D, pairs: &[Pair], segments: &[u16]) -> Result<usize, DiskFault>
+/// How many of the files that nobody names hold bytes.
+fn unused_on<D: Disk>(disk: &mut D, unnamed: &[u16]) -> Result<usize, DiskFault>
     requires few { D.fault_count disk.old < MAX_FAULTS }
 {
     let mut count = 0usize;
     for file in FIRST_FILE..FILE_COUNT {
-        if is_unused(disk, pairs, segments, file)? {
+        if is_unused(disk, unnamed, file)? {
             count = count.saturating_add(1);
         }
     }
     Ok(count)
 }
 
-/// Whether a file holds bytes, and neither a pair nor the log has it.
-fn is_unused<D: Disk>(
-    disk: &mut D,
-    pairs: &[Pair],
-    segments: &[u16],
-    file: u16,
-) -> Result<bool, DiskFault>
+/// Whether a file is one of these, and holds bytes.
+fn is_unused<D: Disk>(disk: &mut D, unnamed: &[u16], file: u16) -> Result<bool, DiskFault>
     requires file { file < FILE_COUNT }
     requires few { D.fault_count disk.old < MAX_FAULTS }
     ensures count { OnOk result (D.fault_count disk.new ≡ D.fault_count disk.old) }
 {
-    let is_of_pair = pairs
-        .iter()
-        .any(|pair| pair.data_file == file || pair.delta_file == file);
-    if is_of_pair || segments.contains(&file) {
+    if !unnamed.contains(&file) {
         return Ok(false);
     }
     let len = disk.len(file)?;

@@ -29,7 +29,7 @@ use std::sync::{Mutex, MutexGuard, Wait};
 use std::thread;
 use std::time::Duration;
 
-/// How often a thread tries to take the lock of the core before it sleeps over it.
+/// How often a thread that found the lock of the core taken tries again before it sleeps over it.
 const TRIES: u32 = 64;
 
 /// How often it yields at most between two tries. Each try that fails writes the word of the lock,
@@ -40,6 +40,7 @@ const MOST_YIELDS: u32 = 32;
 /// in all: half as long as it held the lock for them.
 const BY_A_ROW: u64 = 150;
 
+/// So many nanoseconds, a millisecond.
 const AT_MOST: u64 = 1_000_000;
 
 /// So many versions are collected at most before the lock of the core is given back: it is held a

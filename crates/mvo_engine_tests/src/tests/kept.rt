@@ -78,11 +78,15 @@ fn put_away() -> Stats {
         core: CoreStats {
             clock: Stamp(2),
             closed: Stamp(2),
+            last_end: None,
             unfinished: 0,
             oldest: None,
             tale_start: Stamp(2),
             places: 1,
             versions: 1,
+            sorted_keys: 1,
+            aborted: 0,
+            replaced: 0,
             sessions: 2,
         },
         store: StoreStats {
@@ -184,6 +188,12 @@ const READ: [Line; 3] = [
     (Other(Rollback), Done),
 ];
 
+/// One begins, and is rolled back.
+const BEGUN: [Line; 2] = [(Other(Begin), Number(26)), (Other(Rollback), Done)];
+
+/// Nothing is due for that.
+const NOTHING: [Kept; 3] = [Kept::Idle, Kept::Idle, Kept::Idle];
+
 /// The row is the last that was put.
 const LAST: [Line; 1] = [(One(Find), Byte(Some(12)))];
 
@@ -227,6 +237,8 @@ pub fn keep_alone<L: Run, D: Disk, G: Gate + Drop, R: Abort + Wait>(
     rest(rt, engine, &mut keeper, Stamp(4))?;
     follow(rt, alloc, engine, &mut one, &mut other, &READ);
     rest(rt, engine, &mut keeper, Stamp(25))?;
+    follow(rt, alloc, engine, &mut one, &mut other, &BEGUN);
+    keep_so(rt, alloc, engine, &mut keeper, &NOTHING)?;
     follow(rt, alloc, engine, &mut one, &mut other, &LAST);
     Ok(())
 }
