@@ -26,6 +26,7 @@ mod sends;
 mod session;
 mod stats;
 mod store_guard;
+mod taken;
 mod totals;
 mod transacted;
 mod transaction;

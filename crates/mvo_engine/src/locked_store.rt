@@ -5,6 +5,7 @@ ghost use Rattle.mvo_types.specs.declared.refusal.Refusal.{Refusal};
 
 use crate::chain::Chain;
 use crate::run::Run;
+use crate::taken::Taken;
 use mvo_disk::Disk;
 use mvo_group::Group;
 use mvo_marks::{Marks, Publisher, Seat};
@@ -23,6 +24,8 @@ pub struct LockedStore<L: Run, D: Disk> {
     store: Store<D>,
     ring: Consumer<Group, Global, Chain>,
     publisher: Publisher,
+    /// What was taken out of the ring: how many commits that wrote, and the bytes of their groups.
+    taken: Taken,
     run: PhantomData<L>,
 }
 
@@ -32,6 +35,7 @@ impl<L: Run, D: Disk + Drop> Drop for LockedStore<L, D> {
             store: _,
             ring: _,
             publisher: _,
+            taken: _,
             run: _,
         } = self;
     }
@@ -93,6 +97,7 @@ impl<L: Run, D: Disk> LockedStore<L, D> {
             store,
             ring,
             publisher,
+            taken: Taken::new(),
             run: PhantomData,
         }
     }
@@ -108,6 +113,7 @@ impl<L: Run, D: Disk> LockedStore<L, D> {
             store,
             ring: _,
             publisher: _,
+            taken: _,
             run: _,
         } = self;
         store.into_disk()
@@ -187,6 +193,7 @@ impl<L: Run, D: Disk> LockedStore<L, D> {
         };
         // A look at a field: from then on the proof knows that the group keeps its rules.
         let _ = group.mark();
+        self.taken.count(&group);
         self.store.accept_group(group);
         Ok(())
     }

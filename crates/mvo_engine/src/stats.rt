@@ -54,6 +54,10 @@ pub struct StoreStats {
     pub dead: u64,
     /// The next step of a job that runs (`Store::next_step`).
     pub step: Option<Due>,
+    /// How many commits that wrote came to it in groups since the opening. No clause says so.
+    pub grouped: u64,
+    /// How many bytes of log these groups have, without the frames round them. No clause says so.
+    pub log_bytes: u64,
 }
 
 /// How an engine stands: its store, and then its memory, each at a moment of its own.

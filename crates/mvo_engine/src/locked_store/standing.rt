@@ -31,6 +31,8 @@ impl<L: Run, D: Disk> LockedStore<L, D> {
             records: records_in(manifest.pairs()),
             dead: dead_in(manifest.pairs()),
             step: self.store.next_step(),
+            grouped: self.taken.commits,
+            log_bytes: self.taken.bytes,
         }
     }
 

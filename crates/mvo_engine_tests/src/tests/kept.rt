@@ -99,6 +99,8 @@ fn put_away() -> Stats {
             records: 1,
             dead: 0,
             step: None,
+            grouped: 1,
+            log_bytes: 49,
         },
     }
 }
