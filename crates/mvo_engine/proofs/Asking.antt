@@ -103,7 +103,7 @@ kind_of (Update r) m a is = update_so _ a is
 kind_of (Delete k) m a is = delete_so _ a is
 
 -- so is what a sound core answered
-answered_so : {o : Opening} (t : ℕ) (op : Op) (a : Answer) → WasAnswered o t op a → IsOfKind op a
+pub answered_so : {o : Opening} (t : ℕ) (op : Op) (a : Answer) → WasAnswered o t op a → IsOfKind op a
 answered_so t op a w = kind_of op (snapshot w.sound.whole.core t) a (w.answer w.sound.rows w.sound.steps w.sound.own w.sound.whole w.sound.stands)
 
 -- and what a session is answered

@@ -20,6 +20,7 @@ pub mod Lasting
 mod Refused
 mod Transacting
 mod Asking
+mod ReadingMany
 mod OneCall
 mod RollingBack
 pub mod Upkeep

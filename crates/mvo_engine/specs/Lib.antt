@@ -18,6 +18,7 @@ pub mod Retiring
 pub mod Settling
 pub mod Asked
 pub mod Asking
+pub mod Reads
 pub mod RollingBack
 pub mod Refusing
 pub mod Transacting

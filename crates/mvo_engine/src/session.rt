@@ -5,6 +5,7 @@ mod giving_up;
 mod lasting;
 mod operating;
 mod reading;
+mod reading_all;
 mod transacting;
 
 use crate::engine::Engine;

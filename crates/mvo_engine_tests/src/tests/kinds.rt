@@ -1,15 +1,17 @@
 //! Operations that are answered of their kind.
 
-use super::asking::Ask::{Begin, Commit, Find, Of, Rollback};
-use super::rows::{KEY, row};
+use super::asking::Ask::{Begin, Changes, Commit, Find, InsertBeside, Of, Rollback};
+use super::rows::{BESIDE, KEY, row};
 use super::steps::Line;
 use super::steps::Step::{One, Other};
-use super::told::Told::{self, Byte, Done, Is, Number};
-use super::told::{NO_TRANSACTION, WRITE_CONFLICT, said};
+use super::told::Told::{self, Byte, Done, Inserted, Is, Number};
+use super::told::{
+    BAD_TABLE, NO_TRANSACTION, TOO_MANY_READS, VALIDATION_FAILED, WRITE_CONFLICT, said,
+};
 use super::trial::{Trial, tried_anew};
 use mvo_disk::Disk;
 use mvo_engine::{Gate, OpenGate, Run, Session};
-use mvo_types::{Refusal, Row};
+use mvo_types::{Refusal, Row, RowKey};
 use std::alloc::Global;
 use std::sync::Wait;
 use std::test::*;
@@ -24,6 +26,10 @@ pub enum Kind {
     Replace(u8),
     Remove,
     Put(u8),
+    /// The rows at so many keys at once, the row's own and the other one's in turn.
+    All(usize),
+    /// The row, and behind it one of a table that there isn't.
+    AllBeyond,
 }
 
 impl Kind {
@@ -38,6 +44,8 @@ impl Kind {
             Kind::Get => got(session.get(rt, KEY)),
             Kind::Rows(lo, hi) => counted(session.rows(rt, 0, lo, hi)),
             Kind::Remove => said(session.remove(rt, KEY)),
+            Kind::All(count) => summed(all_of(rt, alloc, session, count)),
+            Kind::AllBeyond => summed(session.read_all(rt, &[KEY, BEYOND, KEY])),
             _ => said(self.write(rt, alloc, session)),
         }
     }
@@ -65,6 +73,43 @@ fn got(answer: Result<Option<Row>, Refusal>) -> Told {
         Ok(None) => Told::Byte(None),
         Err(refusal) => Told::Refused(refusal.code()),
     }
+}
+
+/// A key of a table that there isn't.
+const BEYOND: RowKey = RowKey { table: 64, key: 1 };
+
+/// The rows at so many keys.
+fn all_of<L: Run, D: Disk, G: Gate + Drop, R: Wait>(
+    rt: &R,
+    alloc: Global,
+    session: &mut Session<'_, L, D, G>,
+    count: usize,
+) -> Result<Vec<Option<Row>>, Refusal> {
+    let mut keys = Vec::new(alloc);
+    for n in 0..count {
+        keys.push(if n % 2 == 0 { KEY } else { BESIDE })?;
+    }
+    session.read_all(rt, &keys)
+}
+
+/// The bytes that were found, each times the number of its place, the first of which is 1.
+fn summed(answer: Result<Vec<Option<Row>>, Refusal>) -> Told {
+    match answer {
+        Ok(rows) => Told::Number(sum_of(&rows)),
+        Err(refusal) => Told::Refused(refusal.code()),
+    }
+}
+
+fn sum_of(rows: &[Option<Row>]) -> u64 {
+    let mut sum = 0u64;
+    for (n, row) in rows.iter().enumerate() {
+        let byte = match row {
+            Some(row) => row.bytes().first().copied().unwrap_or(0),
+            None => 0,
+        };
+        sum = sum.saturating_add((n as u64).saturating_add(1).saturating_mul(u64::from(byte)));
+    }
+    sum
 }
 
 /// How many rows were found.
@@ -111,6 +156,35 @@ const OF_KIND: [Line; 30] = [
     (Other(Rollback), Done),
     (One(Commit), Number(8)),
 ];
+
+const OF_MANY: [Line; 16] = [
+    (One(Of(Kind::All(1))), NO_TRANSACTION),
+    (One(Begin), Number(1)),
+    (One(Of(Kind::All(0))), Number(0)),
+    (One(Of(Kind::All(3))), Number(0)),
+    (One(Of(Kind::Put(5))), Is(false)),
+    (One(InsertBeside(7)), Inserted),
+    // 1 x 5, 2 x 7, 3 x 5.
+    (One(Of(Kind::All(3))), Number(34)),
+    // As many as may be, and one more.
+    (One(Of(Kind::All(64))), Number(12_512)),
+    (One(Of(Kind::All(65))), TOO_MANY_READS),
+    // The one before the one that is refused counts.
+    (One(Of(Kind::AllBeyond)), BAD_TABLE),
+    (One(Of(Kind::Get)), Byte(Some(5))),
+    (One(Commit), Number(2)),
+    // What was read is looked at again at the commit.
+    (One(Begin), Number(3)),
+    (One(Of(Kind::All(2))), Number(19)),
+    (Other(Changes(6, 6)), Number(5)),
+    (One(Commit), VALIDATION_FAILED),
+];
+
+#[test]
+fn many_keys_are_read_at_once(rt: HostRuntime) -> Result<(), Fail> {
+    tried_anew(&rt, rt.alloc(), OpenGate, Trial::Steps(&OF_MANY))?;
+    Ok(())
+}
 
 #[test]
 fn operations_are_answered_of_their_kind(rt: HostRuntime) -> Result<(), Fail> {

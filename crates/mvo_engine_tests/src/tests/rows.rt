@@ -8,7 +8,7 @@ use std::sync::Wait;
 
 pub const KEY: RowKey = RowKey { table: 0, key: 5 };
 
-const BESIDE: RowKey = RowKey { table: 0, key: 7 };
+pub const BESIDE: RowKey = RowKey { table: 0, key: 7 };
 
 /// The row at the key, with a byte of data.
 pub fn row(alloc: Global, byte: u8) -> Result<Row, AllocError> {

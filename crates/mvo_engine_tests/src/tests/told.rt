@@ -45,6 +45,8 @@ pub const VALIDATION_FAILED: Told = Told::Refused(21);
 
 pub const TABLE_FULL: Told = Told::Refused(30);
 
+pub const TOO_MANY_READS: Told = Told::Refused(32);
+
 pub const BAD_TABLE: Told = Told::Refused(34);
 
 pub const DISK_FAULT: Told = Told::Refused(50);
