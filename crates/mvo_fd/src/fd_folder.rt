@@ -212,7 +212,7 @@ impl<T: Stat + Drop> FdFolder<T> {
 
 impl<T: Stat + Drop> FolderFiles for FdFolder<T> {
     ghost use Rattle.std.specs.Prelude.{◌≡◌, ◌<◌, false, OnOk};
-    ghost use Rattle.mvo_fd.specs.Handles.{Keeps, IsThere};
+    ghost use Rattle.mvo_fd.specs.Handles.{KeepsOpen, IsThere};
     ghost use Rattle.mvo_disk.specs.declared.limits.TheConstants.{FILE_COUNT};
 
     fn find(&mut self, file: u16) -> io::Result<u64>
@@ -276,7 +276,7 @@ impl<T: Stat + Drop> FolderFiles for FdFolder<T> {
     // The sync of the file has the descriptor by which it was written.
     fn write(&mut self, file: u16, at: u64, bytes: &[u8]) -> io::Result<()>
         requires { file < FILE_COUNT }
-        ensures { OnOk result (Keeps self.new.handles.items file) }
+        ensures { OnOk result (KeepsOpen self.new.handles.items file) }
     {
         if self.handles[file as usize].is_none() {
             let handle = if self.is_there[file as usize] {
@@ -295,7 +295,7 @@ impl<T: Stat + Drop> FolderFiles for FdFolder<T> {
     fn cut(&mut self, file: u16, len: u64) -> io::Result<()>
         requires { file < FILE_COUNT }
         ensures { OnOk result
-            (IsThere self.old.is_there.items file → Keeps self.new.handles.items file) }
+            (IsThere self.old.is_there.items file → KeepsOpen self.new.handles.items file) }
     {
         if self.handles[file as usize].is_none() {
             if !self.is_there[file as usize] {
