@@ -3,5 +3,6 @@
 mod faults;
 mod folders;
 mod guarded;
+mod openers;
 mod record;
 mod stops;

@@ -1,0 +1,3 @@
+pub mod FileName
+pub mod Handles
+pub mod Status
