@@ -11,7 +11,6 @@ use Rattle.mvo_types.specs.declared.ids.TxId.{TxId}
 use Rattle.mvo_types.specs.declared.refusal.Refusal.{Refusal}
 use Rattle.mvo_types.specs.declared.refusal.Refusal.TheVariants.{OutOfMemory}
 use Rattle.mvo_types.specs.declared.row.RowKey.{RowKey}
-use Rattle.mvo_types.specs.AnswerData.{answer_data}
 use Rattle.mvo_types.specs.RowData.{RowData}
 use Rattle.mvo_model.specs.History.{History}
 use Rattle.mvo_theory.specs.Calls.Call.{Do}
@@ -25,7 +24,7 @@ use Rattle.mvo_engine.specs.Calls.{IsCoreStep, session_after}
 use Rattle.mvo_engine.specs.Asked.{WasAnswered, HasGone, HasLeftTx}
 use Rattle.mvo_engine.specs.Asking.{IsFinding}
 use Rattle.mvo_engine.specs.Refusing.{refuses_operation}
-use Rattle.mvo_engine.specs.Reads.{AreAnswered, AreFinding, AreReadsOf, IsRefusedRead, HasReadAll, HasNotReadAll, row_in}
+use Rattle.mvo_engine.specs.Reads.{AreCoreAnswers, AreFinding, AreReadsOf, IsRefusedRead, HasReadAll, HasNotReadAll, row_found}
 use Rattle.mvo_engine.specs.Reads.HasNotReadAll.{Gone, Refused}
 use Rattle.mvo_engine.proofs.Asking.{answered_so}
 
@@ -49,14 +48,14 @@ ops_cut reads keys i key were more =
     ∙ ap (map Read) (sym (append_assoc (take i keys) (key ∷ []) (drop (i + 1) keys)) ∙ around keys i key more)
 
 -- one more read is answered
-pub one_more : (o : Opening) (t : ℕ) (keys : List RowKey) (i : ℕ) (d : RowKey) (reads all : List (Op × Answer)) (a : Answer) (old new : CoreState) → i < length keys → AreAnswered o t reads × AreFinding reads × AreReadsOf (take i keys) reads → IsSoundCore o old.core old.sends.sent → IsCoreStep old (Do t (Read (get_or keys i d))) (Ok a) new → IsAnsweredWhole old.core t (Read (get_or keys i d)) a → all ≡ reads ++ (Read (get_or keys i d), a) ∷ [] → AreAnswered o t all × AreFinding all × AreReadsOf (take (i + 1) keys) all
+pub one_more : (o : Opening) (t : ℕ) (keys : List RowKey) (i : ℕ) (d : RowKey) (reads all : List (Op × Answer)) (a : Answer) (old new : CoreState) → i < length keys → AreCoreAnswers o t reads × AreFinding reads × AreReadsOf (take i keys) reads → IsSoundCore o old.core old.sends.sent → IsCoreStep old (Do t (Read (get_or keys i d))) (Ok a) new → IsAnsweredWhole old.core t (Read (get_or keys i d)) a → all ≡ reads ++ (Read (get_or keys i d), a) ∷ [] → AreCoreAnswers o t all × AreFinding all × AreReadsOf (take (i + 1) keys) all
 one_more o t keys i d reads all a old new lt before sound step answer is =
     let key = get_or keys i d in
     let was : WasAnswered o t (Read key) a = record { old = old; new = new; sound = sound; step = step; answer = answer } in
-    let answered : AreAnswered o t (reads ++ (Read key, a) ∷ []) = each_append (λ r. WasAnswered o t r.0 r.1) reads ((Read key, a) ∷ []) before.0 (was, tt) in
+    let answered : AreCoreAnswers o t (reads ++ (Read key, a) ∷ []) = each_append (λ r. WasAnswered o t r.0 r.1) reads ((Read key, a) ∷ []) before.0 (was, tt) in
     let finding : AreFinding (reads ++ (Read key, a) ∷ []) = each_append (λ r. IsFinding r.1) reads ((Read key, a) ∷ []) before.1 (answered_so t (Read key) a was, tt) in
     let ops : AreReadsOf (take (i + 1) keys) (reads ++ (Read key, a) ∷ []) = ops_more reads (take i keys) (take (i + 1) keys) key a before.2 (take_more keys i d lt) in
-    subst (λ (rs : List (Op × Answer)). AreAnswered o t rs × AreFinding rs × AreReadsOf (take (i + 1) keys) rs) (sym is) (answered, finding, ops)
+    subst (λ (rs : List (Op × Answer)). AreCoreAnswers o t rs × AreFinding rs × AreReadsOf (take (i + 1) keys) rs) (sym is) (answered, finding, ops)
 
 -- one is refused
 pub refused_at : (o : Opening) (t : ℕ) (keys : List RowKey) (i : ℕ) (d : RowKey) (reads : List (Op × Answer)) (e : Refusal) (old new : CoreState) → i < length keys → AreReadsOf (take i keys) reads → IsSoundCore o old.core old.sends.sent → IsCoreStep {A = Answer} old (Do t (Read (get_or keys i d))) (Err e) new → refuses_operation (Read (get_or keys i d)) e ≡ true → IsRefusedRead o t keys reads e
@@ -68,28 +67,14 @@ refused_at o t keys i d reads e old new lt ops sound step listed = record {
   listed = listed;
 }
 
--- what is told, and which rows were found, with one more
-pub told_more : (start told new : History) (yielded : List (Op × Answer)) (op : Op) (a : Answer) → told ≡ start ++ history_told yielded → new ≡ told ++ (op, answer_data a) ∷ [] → new ≡ start ++ history_told (yielded ++ (op, a) ∷ [])
-told_more start told new yielded op a before is =
-    is
-    ∙ ap (λ (h : History). h ++ (op, answer_data a) ∷ []) before
-    ∙ append_assoc start (history_told yielded) ((op, answer_data a) ∷ [])
-    ∙ ap (λ (h : History). start ++ h) (sym (map-append (λ t. (t.0, answer_data t.1)) yielded ((op, a) ∷ [])))
-
-pub rows_more : (rows new : List (Option RowData)) (yielded : List (Op × Answer)) (op : Op) (a : Answer) (row : Option RowData) → rows ≡ map (λ r. row_in r.1) yielded → new ≡ rows ++ row ∷ [] → row ≡ row_in a → new ≡ map (λ r. row_in r.1) (yielded ++ (op, a) ∷ [])
-rows_more rows new yielded op a row before is found =
-    is
-    ∙ ap₂ (λ (rs : List (Option RowData)) (r : Option RowData). rs ++ r ∷ []) before found
-    ∙ sym (map-append (λ r. row_in r.1) yielded ((op, a) ∷ []))
-
 -- each of them found its row
-pub all_found : (reads : List (Op × Answer)) (rows : List (Option RowData)) → AreFinding reads → rows ≡ map (λ r. row_in r.1) reads → map Found rows ≡ map (λ r. r.1) reads
+pub all_found : (reads : List (Op × Answer)) (rows : List (Option RowData)) → AreFinding reads → rows ≡ map (λ r. row_found r.1) reads → map Found rows ≡ map (λ r. r.1) reads
 all_found reads rows finding is = ap (map Found) is ∙ each_found reads finding
   where
-    found_so : (a : Answer) → IsFinding a → Found (row_in a) ≡ a
-    found_so a f = ap (λ (b : Answer). Found (row_in b)) f.1 ∙ sym f.1
+    found_so : (a : Answer) → IsFinding a → Found (row_found a) ≡ a
+    found_so a f = ap (λ (b : Answer). Found (row_found b)) f.1 ∙ sym f.1
 
-    each_found : (rs : List (Op × Answer)) → AreFinding rs → map Found (map (λ r. row_in r.1) rs) ≡ map (λ r. r.1) rs
+    each_found : (rs : List (Op × Answer)) → AreFinding rs → map Found (map (λ r. row_found r.1) rs) ≡ map (λ r. r.1) rs
     each_found [] f = refl
     each_found (r ∷ rs) f = ap₂ (λ (a : Answer) (bs : List Answer). a ∷ bs) (found_so r.1 f.0) (each_found rs f.1)
 
@@ -106,7 +91,7 @@ gone_so {o} keys old new tx x told is same gone session =
     Gone refl tx.0 here (subst (λ (y : Option ℕ). IfSome y (HasGone o)) here gone) left
 
 -- all were read
-pub read_so : {o : Opening} (keys : List RowKey) (old new : SessionState) (tx : TxId) (x : Option TxId) (reads : List (Op × Answer)) (rows : List (Option RowData)) (told : History) → x ≡ Some tx → old.tx ≡ option_map (λ (t : TxId). t.0) x → AreAnswered o tx.0 reads → AreFinding reads → AreReadsOf keys reads → rows ≡ map (λ r. row_in r.1) reads → told ≡ old.told ++ history_told reads → new ≡ record old { told = told } → HasReadAll o old keys rows new
+pub read_so : {o : Opening} (keys : List RowKey) (old new : SessionState) (tx : TxId) (x : Option TxId) (reads : List (Op × Answer)) (rows : List (Option RowData)) (told : History) → x ≡ Some tx → old.tx ≡ option_map (λ (t : TxId). t.0) x → AreCoreAnswers o tx.0 reads → AreFinding reads → AreReadsOf keys reads → rows ≡ map (λ r. row_found r.1) reads → told ≡ old.told ++ history_told reads → new ≡ record old { told = told } → HasReadAll o old keys rows new
 read_so keys old new tx x reads rows told is same answered finding ops found more session = record {
   tx = tx.0;
   there = same ∙ there x tx is;
@@ -118,7 +103,7 @@ read_so keys old new tx x reads rows told is same answered finding ops found mor
 }
 
 -- one was refused
-pub cut_so : {o : Opening} (keys : List RowKey) (old new : SessionState) (tx : TxId) (x : Option TxId) (reads : List (Op × Answer)) (e : Refusal) (told : History) → x ≡ Some tx → old.tx ≡ option_map (λ (t : TxId). t.0) x → AreAnswered o tx.0 reads → IsRefusedRead o tx.0 keys reads e → told ≡ old.told ++ history_told reads → new ≡ session_after e (record old { told = told }) → HasLeftTx o old.tx e new.tx → HasNotReadAll o old keys e new
+pub cut_so : {o : Opening} (keys : List RowKey) (old new : SessionState) (tx : TxId) (x : Option TxId) (reads : List (Op × Answer)) (e : Refusal) (told : History) → x ≡ Some tx → old.tx ≡ option_map (λ (t : TxId). t.0) x → AreCoreAnswers o tx.0 reads → IsRefusedRead o tx.0 keys reads e → told ≡ old.told ++ history_told reads → new ≡ session_after e (record old { told = told }) → HasLeftTx o old.tx e new.tx → HasNotReadAll o old keys e new
 cut_so keys old new tx x reads e told is same answered refused more session left = Refused (record {
   tx = tx.0;
   there = same ∙ there x tx is;

@@ -20,22 +20,22 @@ use Rattle.mvo_engine.specs.Refusing.{refuses_operation}
 use Rattle.mvo_engine.specs.declared.session.reading_all.TheConstants.{READ_AT_ONCE}
 
 -- what the core answered to each, in the transaction
-abbrev pub AreAnswered : Opening → ℕ → List (Op × Answer) → Type 0
-AreAnswered o t reads = AllByRecursion (λ r. WasAnswered o t r.0 r.1) reads
+abbrev pub AreCoreAnswers : Opening → ℕ → List (Op × Answer) → Type 0
+AreCoreAnswers o t reads = AllByRecursion (λ r. WasAnswered o t r.0 r.1) reads
 
 -- each found a row, or that none is shown
 abbrev pub AreFinding : List (Op × Answer) → Type 0
 AreFinding reads = AllByRecursion (λ r. IsFinding r.1) reads
 
 -- the row that was found, if one was
-abbrev pub row_in : Answer → Option RowData
-row_in (Found row) = row
-row_in (Rows rows) = None
-row_in Inserted = None
-row_in Exists = None
-row_in Updated = None
-row_in Deleted = None
-row_in Absent = None
+abbrev pub row_found : Answer → Option RowData
+row_found (Found row) = row
+row_found (Rows rows) = None
+row_found Inserted = None
+row_found Exists = None
+row_found Updated = None
+row_found Deleted = None
+row_found Absent = None
 
 -- they are reads at these keys
 abbrev pub AreReadsOf : List RowKey → List (Op × Answer) → Type 0
@@ -61,7 +61,7 @@ pub record HasReadAll (o : Opening) (old : SessionState) (keys : List RowKey)
   pub tx : ℕ
   pub there : old.tx ≡ Some tx
   pub reads : List (Op × Answer)
-  pub answered : AreAnswered o tx reads
+  pub answered : AreCoreAnswers o tx reads
   pub ops : AreReadsOf keys reads
   pub answers : map Found rows ≡ map (λ r. r.1) reads
   pub session : new ≡ record old { told = old.told ++ history_told reads }
@@ -72,7 +72,7 @@ pub record HasReadSome (o : Opening) (old : SessionState) (keys : List RowKey) (
   pub tx : ℕ
   pub there : old.tx ≡ Some tx
   pub reads : List (Op × Answer)
-  pub answered : AreAnswered o tx reads
+  pub answered : AreCoreAnswers o tx reads
   pub refused : IsRefusedRead o tx keys reads e
   pub session : new ≡ session_after e (record old { told = old.told ++ history_told reads })
   pub left : HasLeftTx o old.tx e new.tx

@@ -2,7 +2,7 @@
 
 ghost use Rattle.std.specs.Prelude.{◌≡◌, [], ◌++◌, IfOk, OnOk, map};
 ghost use Rattle.mvo_theory.specs.Told.{history_told};
-ghost use Rattle.mvo_engine.specs.Reads.{AreAnswered, AreFinding, AreReadUpTo, row_in};
+ghost use Rattle.mvo_engine.specs.Reads.{AreCoreAnswers, AreFinding, AreReadUpTo, row_found};
 
 use super::Session;
 use crate::gate::Gate;
@@ -74,7 +74,7 @@ fn read_each<L: Run>(
     reads: &mut Vec<(Op, Answer)>,
 ) -> Result<Option<Refusal>, AllocError>
     requires none { reads.old.items ≡ [] }
-    ensures answered { AreAnswered L.opening tx.0 reads.new.items }
+    ensures answered { AreCoreAnswers L.opening tx.0 reads.new.items }
     ensures finding { AreFinding reads.new.items }
     ensures upto { IfOk result (AreReadUpTo L.opening tx.0 keys.now reads.new.items) }
 {
@@ -96,7 +96,7 @@ fn keep_each(
 ) -> Result<(), AllocError>
     requires none { rows.old.items ≡ [] }
     ensures told { OnOk result (told.new ≡ told.old ++ history_told reads.items) }
-    ensures rows { OnOk result (rows.new.items ≡ map (λ r. row_in r.1) reads.items) }
+    ensures rows { OnOk result (rows.new.items ≡ map (λ r. row_found r.1) reads.items) }
 {
     for (op, answer) in reads {
         told.keep(op, &answer)?;
@@ -107,7 +107,7 @@ fn keep_each(
 
 /// The row that was found, if one was.
 fn row_in(answer: Answer) -> Option<Row>
-    ensures { result ≡ row_in answer }
+    ensures { result ≡ row_found answer }
 {
     match answer {
         Answer::Found(row) => row,
