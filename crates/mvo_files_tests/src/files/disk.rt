@@ -3,6 +3,5 @@
 mod faults;
 mod folders;
 mod guarded;
-mod openers;
 mod record;
 mod stops;

@@ -1,15 +1,18 @@
 //! A disk in a folder of the operating system.
 use crate::equal::{holds, same};
 use crate::files::disk::guarded::{cut, len, put, read, read_two, sync, write};
-use crate::files::disk::openers::{ByDescriptors, ByFiles, Opener};
-use mvo_disk::{Disk, DiskFault, FolderRefusal, ReadProgress, Silent};
+use mvo_disk::{
+    DirDisk, Disk, DiskFault, Folder, FolderRefusal, ReadProgress, Silent, Unknown, make_folder,
+};
 use std::alloc::Global;
-use std::os::unix::fs::symlink;
+use std::fs::{self, File};
 use std::process::Abort;
 use std::rt::Files;
 use std::sync::atomic::{AtomicU64, Ordering};
 use std::test::Fail;
-use std::{env, fs, process};
+use std::{env, process};
+
+type HostDisk = DirDisk<Folder<HostRuntime>, Unknown, Silent>;
 
 /// A path in the folder of temporary files that is this process's own.
 fn path_of(rt: &HostRuntime, name: &str) -> Result<String, Fail> {
@@ -19,10 +22,14 @@ fn path_of(rt: &HostRuntime, name: &str) -> Result<String, Fail> {
 }
 
 /// A folder with such a path.
-fn folder_of<O: Opener>(rt: &HostRuntime, opener: &O, name: &str) -> Result<String, Fail> {
+fn folder_of(rt: &HostRuntime, name: &str) -> Result<String, Fail> {
     let path = path_of(rt, name)?;
-    opener.make(&path)?;
+    make_folder(rt, rt.alloc(), &path)?;
     Ok(path)
+}
+
+fn open(rt: &HostRuntime, path: &str) -> Result<HostDisk, FolderRefusal> {
+    DirDisk::open(rt.clone()?, rt.alloc(), path, Unknown, Silent)
 }
 
 /// Keeps the last that was told.
@@ -40,7 +47,7 @@ impl ReadProgress for Told<'_> {
 }
 
 /// File 3 holds the bytes `axydz` then, and the last file none.
-fn fill<D: Disk>(disk: &mut D) -> Result<(), DiskFault> {
+fn fill(disk: &mut HostDisk) -> Result<(), DiskFault> {
     put(disk, 3, 0, b"abcd")?;
     put(disk, 1023, 0, b"e")?;
     put(disk, 3, 1, b"xy")?;
@@ -75,11 +82,11 @@ fn file_is_long(
     Ok(())
 }
 
-fn fills_its_files<D: Disk>(
+fn fills_its_files(
     rt: &(impl Abort + Alloc + Files),
     alloc: Global,
     path: &str,
-    disk: &mut D,
+    disk: &mut HostDisk,
 ) -> Result<(), Fail> {
     fill(disk)?;
     same(rt, &len(disk, 3), &Ok(5));
@@ -100,49 +107,40 @@ fn has_what_was_filled<D: Disk>(rt: &impl Abort, alloc: Global, disk: &mut D) ->
     Ok(())
 }
 
-fn fills<O: Opener>(
-    rt: &(impl Abort + Alloc + Files),
-    alloc: Global,
-    opener: &O,
-    path: &str,
-) -> Result<(), Fail> {
-    let mut disk = opener.open(path, Silent)?;
-    fills_its_files(rt, alloc, path, &mut disk)
+fn fills(rt: &(impl Abort + Alloc + Files), host: &HostRuntime, path: &str) -> Result<(), Fail> {
+    let mut disk = open(host, path)?;
+    fills_its_files(rt, host.alloc(), path, &mut disk)
 }
 
-fn is_filled<O: Opener>(
-    rt: &impl Abort,
-    alloc: Global,
-    opener: &O,
-    path: &str,
-) -> Result<(), Fail> {
+fn is_filled(rt: &impl Abort, host: &HostRuntime, path: &str) -> Result<(), Fail> {
     let (read, all) = (AtomicU64::new(0), AtomicU64::new(0));
     let told = Told {
         read: &read,
         all: &all,
     };
-    let mut disk = opener.open(path, told)?;
-    has_what_was_filled(rt, alloc, &mut disk)?;
+    let mut disk = DirDisk::open(host.clone()?, host.alloc(), path, Unknown, told)?;
+    has_what_was_filled(rt, host.alloc(), &mut disk)?;
     same(rt, &read.load(Ordering::SeqCst), &9);
     same(rt, &all.load(Ordering::SeqCst), &5);
     Ok(())
 }
 
-fn keeps<O: Opener>(
-    rt: &(impl Abort + Alloc + Files),
-    alloc: Global,
-    opener: &O,
-    path: &str,
-) -> Result<(), Fail> {
-    fills(rt, alloc, opener, path)?;
-    is_filled(rt, alloc, opener, path)?;
-    fs::remove_dir_all(rt, path)?;
+fn keeps(rt: &(impl Abort + Alloc + Files), host: &HostRuntime, path: &str) -> Result<(), Fail> {
+    fills(rt, host, path)?;
+    is_filled(rt, host, path)?;
+    fs::remove_dir_all(host, path)?;
     Ok(())
 }
 
+#[test]
+fn keeps_its_files(rt: HostRuntime) -> Result<(), Fail> {
+    let path = folder_of(&rt, "keeps")?;
+    keeps(&rt, &rt, path.as_str())
+}
+
 /// How opening the folder ends. The system may refuse to open it as a folder of files.
-fn opening<O: Opener>(opener: &O, path: &str) -> &'static str {
-    match opener.open(path, Silent) {
+fn opening(host: &HostRuntime, path: &str) -> &'static str {
+    match open(host, path) {
         Ok(_) => "open",
         Err(FolderRefusal::InUse) => "in use",
         Err(FolderRefusal::Missing) => "missing",
@@ -152,91 +150,58 @@ fn opening<O: Opener>(opener: &O, path: &str) -> &'static str {
 }
 
 /// How opening the folder ends while it is used.
-fn opening_again<O: Opener, U: Opener>(
-    opener: &O,
-    user: &U,
-    path: &str,
-) -> Result<&'static str, FolderRefusal> {
-    let _disk = user.open(path, Silent)?;
-    Ok(opening(opener, path))
+fn opening_again(host: &HostRuntime, path: &str) -> Result<&'static str, FolderRefusal> {
+    let _disk = open(host, path)?;
+    Ok(opening(host, path))
 }
 
-/// Either way to open it finds that the other one has it open.
-fn is_used_alone<O: Opener, U: Opener>(
-    rt: &(impl Abort + Files + Alloc),
-    opener: &O,
-    user: &U,
-    path: &str,
-) -> Result<(), Fail> {
-    same(rt, &opening_again(opener, user, path)?, &"in use");
-    same(rt, &opening_again(user, opener, path)?, &"in use");
-    same(rt, &opening_again(opener, opener, path)?, &"in use");
-    same(rt, &opening_again(user, user, path)?, &"in use");
-    same(rt, &opening(opener, path), &"open");
-    fs::remove_dir_all(rt, path)?;
+fn is_used_alone(rt: &impl Abort, host: &HostRuntime, path: &str) -> Result<(), Fail> {
+    same(rt, &opening_again(host, path)?, &"in use");
+    same(rt, &opening(host, path), &"open");
+    fs::remove_dir_all(host, path)?;
     Ok(())
 }
 
 #[test]
 fn is_used_by_one_at_a_time(rt: HostRuntime) -> Result<(), Fail> {
-    let (opener, user) = (ByFiles { host: &rt }, ByDescriptors { host: &rt });
-    let path = folder_of(&rt, &opener, "one")?;
-    is_used_alone(&rt, &opener, &user, path.as_str())
+    let path = folder_of(&rt, "one")?;
+    is_used_alone(&rt, &rt, path.as_str())
 }
 
 /// Neither the folder nor the inner one is there at first.
-fn refuses<O: Opener>(
-    rt: &(impl Abort + Files + Alloc),
-    opener: &O,
-    path: &str,
-    inner: &str,
-) -> Result<(), Fail> {
-    same(rt, &opening(opener, path), &"missing");
+fn refuses(rt: &impl Abort, host: &HostRuntime, path: &str, inner: &str) -> Result<(), Fail> {
+    let alloc = host.alloc();
+    same(rt, &opening(host, path), &"missing");
     holds(
         rt,
-        matches!(opener.make(inner), Err(FolderRefusal::Missing)),
+        matches!(make_folder(host, alloc, inner), Err(FolderRefusal::Missing)),
     );
-    opener.make(path)?;
-    opener.make(path)?;
+    make_folder(host, alloc, path)?;
+    make_folder(host, alloc, path)?;
     // A folder where a file should be.
-    opener.make(inner)?;
-    same(rt, &opening(opener, path), &"io");
-    fs::remove_dir_all(rt, path)?;
+    make_folder(host, alloc, inner)?;
+    same(rt, &opening(host, path), &"io");
+    fs::remove_dir_all(host, path)?;
     // A file where the folder should be.
-    fs::write(rt, path, "text")?;
-    same(rt, &opening(opener, path), &"io");
-    fs::remove_file(rt, path)?;
+    fs::write(host, path, "text")?;
+    same(rt, &opening(host, path), &"io");
+    fs::remove_file(host, path)?;
     Ok(())
 }
 
-/// A file elsewhere stands under a name of the folder, by a link and as its second name. The folder
-/// isn't there at first.
-fn refuses_others<O: Opener>(
-    rt: &(impl Abort + Files + Alloc),
-    opener: &O,
-    path: &str,
-    inner: &str,
-) -> Result<(), Fail> {
-    let other = format!(in rt.alloc(); "{path}/other")?;
-    opener.make(path)?;
-    fs::write(rt, other.as_str(), "text")?;
-    symlink(rt, "other", inner)?;
-    same(rt, &opening(opener, path), &"io");
-    fs::remove_file(rt, inner)?;
-    fs::hard_link(rt, other.as_str(), inner)?;
-    same(rt, &opening(opener, path), &"io");
-    fs::remove_file(rt, other.as_str())?;
-    same(rt, &opening(opener, path), &"open");
-    fs::remove_dir_all(rt, path)?;
-    Ok(())
+#[test]
+fn refuses_what_is_no_folder(rt: HostRuntime) -> Result<(), Fail> {
+    let path = path_of(&rt, "refuses")?;
+    let inner = format!(in rt.alloc(); "{path}/0007")?;
+    refuses(&rt, &rt, path.as_str(), inner.as_str())
 }
 
 /// A disk whose folder is removed takes nothing more, and gives nothing.
-fn outlives_its_folder<D: Disk>(
+fn outlives_its_folder(
     rt: &(impl Abort + Alloc + Files),
     alloc: Global,
     path: &str,
-    disk: &mut D,
+    disk: &mut HostDisk,
 ) -> Result<(), Fail> {
     put(disk, 2, 0, b"ab")?;
     fs::remove_dir_all(rt, path)?;
@@ -251,68 +216,9 @@ fn outlives_its_folder<D: Disk>(
     Ok(())
 }
 
-fn outlives<O: Opener>(
-    rt: &(impl Abort + Alloc + Files),
-    alloc: Global,
-    opener: &O,
-    path: &str,
-) -> Result<(), Fail> {
-    let mut disk = opener.open(path, Silent)?;
-    outlives_its_folder(rt, alloc, path, &mut disk)
-}
-
-/// No file is made where the name of one is a link by then, nor in another folder that has the
-/// path.
-fn makes_none_elsewhere<O: Opener>(
-    rt: &(impl Abort + Alloc + Files),
-    opener: &O,
-    path: &str,
-    inner: &str,
-    moved: &str,
-) -> Result<(), Fail> {
-    opener.make(path)?;
-    let mut disk = opener.open(path, Silent)?;
-    put(&mut disk, 2, 0, b"ab")?;
-    symlink(rt, "other", inner)?;
-    same(rt, &write(&mut disk, 7, 0, b"c"), &Err(DiskFault));
-    drop(disk);
-    fs::remove_file(rt, inner)?;
-    let mut disk = opener.open(path, Silent)?;
-    fs::rename(rt, path, moved)?;
-    opener.make(path)?;
-    same(rt, &write(&mut disk, 7, 0, b"c"), &Err(DiskFault));
-    // Nothing is in it.
-    fs::remove_dir(rt, path)?;
-    fs::remove_dir_all(rt, moved)?;
-    Ok(())
-}
-
-/// All of it, over one way to open a folder.
-fn is_a_folder<O: Opener>(
-    rt: &(impl Abort + Alloc + Files),
-    alloc: Global,
-    opener: &O,
-    path: &str,
-) -> Result<(), Fail> {
-    let inner = format!(in alloc; "{path}/0007")?;
-    let moved = format!(in alloc; "{path}-moved")?;
-    opener.make(path)?;
-    keeps(rt, alloc, opener, path)?;
-    refuses(rt, opener, path, &inner)?;
-    refuses_others(rt, opener, path, &inner)?;
-    makes_none_elsewhere(rt, opener, path, &inner, &moved)?;
-    opener.make(path)?;
-    outlives(rt, alloc, opener, path)
-}
-
 #[test]
-fn is_a_folder_by_files(rt: HostRuntime) -> Result<(), Fail> {
-    let path = path_of(&rt, "files")?;
-    is_a_folder(&rt, rt.alloc(), &ByFiles { host: &rt }, path.as_str())
-}
-
-#[test]
-fn is_a_folder_by_descriptors(rt: HostRuntime) -> Result<(), Fail> {
-    let path = path_of(&rt, "descriptors")?;
-    is_a_folder(&rt, rt.alloc(), &ByDescriptors { host: &rt }, path.as_str())
+fn takes_nothing_after_a_fault(rt: HostRuntime) -> Result<(), Fail> {
+    let path = folder_of(&rt, "fault")?;
+    let mut disk = open(&rt, &path)?;
+    outlives_its_folder(&rt, rt.alloc(), &path, &mut disk)
 }

@@ -1,3 +1,0 @@
-pub mod FileName
-pub mod Handles
-pub mod Status
