@@ -2,7 +2,7 @@ use crate::rows::weight;
 use mvo_types::Row;
 
 /// A number by which the rows that two programs read are compared, in their order.
-#[derive(Clone, Copy)]
+#[derive(Clone, Copy, PartialEq, Eq)]
 pub struct Checksum(pub u64);
 
 impl Checksum {

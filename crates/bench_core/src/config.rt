@@ -10,6 +10,7 @@ pub enum Work {
     Reads,
     UniformReads,
     ZipfReads,
+    ReadOnlyReads,
     Updates,
     Scans,
     Mixed,
@@ -17,16 +18,19 @@ pub enum Work {
     Crowd,
     Stalls,
     Threads,
+    BesideReader,
+    Report,
     Steady,
     Worn,
 }
 
 /// The names by which workloads are asked for.
-const NAMES: [(&str, Work); 13] = [
+const NAMES: [(&str, Work); 16] = [
     ("load", Work::Load),
     ("reads", Work::Reads),
     ("reads_uniform", Work::UniformReads),
     ("reads_zipf", Work::ZipfReads),
+    ("reads_read_only", Work::ReadOnlyReads),
     ("updates", Work::Updates),
     ("scans", Work::Scans),
     ("mixed", Work::Mixed),
@@ -34,12 +38,21 @@ const NAMES: [(&str, Work); 13] = [
     ("open", Work::Crowd),
     ("stalls", Work::Stalls),
     ("threads", Work::Threads),
+    ("beside_reader", Work::BesideReader),
+    ("report", Work::Report),
     ("steady", Work::Steady),
     ("worn", Work::Worn),
 ];
 
 /// Those that load rows of their own.
-const APART: [Work; 4] = [Work::Stalls, Work::Threads, Work::Steady, Work::Worn];
+const APART: [Work; 6] = [
+    Work::Stalls,
+    Work::Threads,
+    Work::BesideReader,
+    Work::Report,
+    Work::Steady,
+    Work::Worn,
+];
 
 /// What is run, and how much of it.
 pub struct Config {

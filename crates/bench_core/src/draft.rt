@@ -1,4 +1,4 @@
-use crate::rows::{CHANGED, ROUND, key_of, sort_of};
+use crate::rows::{CHANGED, ROUND, amount_of, key_of, sort_of};
 use mvo_types::Row;
 use std::alloc::{AllocError, Global};
 
@@ -47,7 +47,14 @@ impl Draft {
     pub fn changed_in(&mut self, row: &Row, by: u8, round: u64) -> Result<Row, AllocError> {
         self.copy(row)?;
         change(&mut self.bytes, by);
-        write_round(&mut self.bytes, round);
+        write_number(&mut self.bytes, round);
+        self.row_like(row)
+    }
+
+    /// The row with so much added to its amount.
+    pub fn moved(&mut self, row: &Row, by: u64) -> Result<Row, AllocError> {
+        self.copy(row)?;
+        write_number(&mut self.bytes, amount_of(row).wrapping_add(by));
         self.row_like(row)
     }
 
@@ -70,8 +77,8 @@ fn change(bytes: &mut [u8], by: u8) {
     }
 }
 
-fn write_round(bytes: &mut [u8], round: u64) {
+fn write_number(bytes: &mut [u8], number: u64) {
     if bytes.len() >= ROUND + 8 {
-        bytes[ROUND..ROUND + 8].copy_from_slice(&round.to_le_bytes());
+        bytes[ROUND..ROUND + 8].copy_from_slice(&number.to_le_bytes());
     }
 }

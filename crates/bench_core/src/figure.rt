@@ -83,6 +83,15 @@ impl<'a> Figure<'a> {
         Ok(())
     }
 
+    /// Prints a number of the run by its own name.
+    pub fn tell_number(&self, rt: &impl Eprint, what: &str, number: u128) -> Result<()> {
+        let (name, rows) = (self.name, self.rows);
+        eprintln!(rt;
+            "{{\"engine\":\"ravundi\",\"name\":\"{name}\",\"rows\":{rows},\"{what}\":{number}}}"
+        )?;
+        Ok(())
+    }
+
     /// How many nanoseconds one of so many operations has taken.
     pub fn nanos(&self, rt: &impl Clock, operations: u64) -> Result<u128> {
         let nanos = self.start.elapsed(rt)?.as_nanos();

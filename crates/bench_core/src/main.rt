@@ -4,20 +4,30 @@
 //! without a workload all of them run.
 #![tactic(auto)]
 
+mod adding;
+mod beside;
 mod checksum;
 mod config;
 mod crowd;
 mod draft;
 mod figure;
+mod filling;
+mod folder;
 mod hot;
 mod keeping;
 mod keys;
+mod lasting;
 mod load;
+mod meanwhile;
 mod mixed;
+mod moving;
+mod others;
 mod part;
 mod parts;
 mod power;
+mod read_only;
 mod reads;
+mod report;
 mod resident;
 mod rows;
 mod scans;
@@ -87,8 +97,15 @@ fn run_apart<R: Runtime + Threads + Wait + Sync>(
     if config.has(Work::Threads) {
         threads::run(threads, rt.alloc(), config)?;
     }
+    if config.has(Work::BesideReader) {
+        beside::run(threads, rt.alloc(), config)?;
+    }
+    if config.has(Work::Report) {
+        report::run(threads, rt.alloc(), config)?;
+    }
     if config.has(Work::Steady) {
         steady::run(rt, threads, config)?;
+        lasting::run(rt, threads, config)?;
     }
     if config.has(Work::Worn) {
         worn::run(rt, threads, config)?;
@@ -99,6 +116,9 @@ fn run_apart<R: Runtime + Threads + Wait + Sync>(
 /// One transaction at a time.
 fn run_plain(rt: &HostRuntime, config: &Config, session: &mut Session) -> Result<()> {
     reads::run(rt, config, session)?;
+    if config.has(Work::ReadOnlyReads) {
+        read_only::run(rt, config, session)?;
+    }
     if config.has(Work::Updates) {
         updates::run(rt, config, session)?;
     }

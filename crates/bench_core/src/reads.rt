@@ -5,8 +5,9 @@ use crate::keys::Keys;
 use crate::session::Session;
 use crate::stopped::Stopped;
 use anyhow::Result;
+use mvo_types::TxId;
 
-const SEED: u64 = 1;
+pub const SEED: u64 = 1;
 
 /// Reads one row or ten in a transaction, by keys that are drawn evenly, by a zipf, or by both.
 pub fn run(rt: &HostRuntime, config: &Config, session: &mut Session) -> Result<()> {
@@ -39,23 +40,23 @@ fn run_with(
     (one, ten): (&str, &str),
 ) -> Result<()> {
     let figure = Figure::start(rt, config, one)?;
-    let sum = read_all(session, keys, config.transactions, 1)?;
+    let sum = read_each(session, keys, (config.transactions, 1), false)?;
     figure.tell(rt, config.transactions, sum)?;
     let figure = Figure::start(rt, config, ten)?;
-    let sum = read_all(session, keys, config.fewer, 10)?;
+    let sum = read_each(session, keys, (config.fewer, 10), false)?;
     figure.tell(rt, config.fewer, sum)
 }
 
-/// So many transactions, each of which reads so many rows.
-fn read_all(
+/// So many transactions, each of which reads so many rows, and is read-only or may write.
+pub fn read_each(
     session: &mut Session,
     keys: &Keys,
-    count: u64,
-    each: u64,
+    (count, each): (u64, u64),
+    is_read_only: bool,
 ) -> Result<Checksum, Stopped> {
     let mut sum = Checksum(0);
     for at in 0..count {
-        let tx = session.begin()?;
+        let tx = begin(session, is_read_only)?;
         let first = at.wrapping_mul(each);
         for index in 0..each {
             let key = keys.at(first.wrapping_add(index));
@@ -64,4 +65,13 @@ fn read_all(
         session.commit(tx)?;
     }
     Ok(sum)
+}
+
+#[inline(always)]
+fn begin(session: &mut Session, is_read_only: bool) -> Result<TxId, Stopped> {
+    if is_read_only {
+        session.begin_read_only()
+    } else {
+        session.begin()
+    }
 }

@@ -54,6 +54,14 @@ impl Session {
         Ok(tx)
     }
 
+    /// Begins a read-only one.
+    #[inline(always)]
+    pub fn begin_read_only(&mut self) -> Result<TxId, Stopped> {
+        let tx = self.core.begin_read_only()?;
+        self.upkeep.begun(tx)?;
+        Ok(tx)
+    }
+
     /// The row at a key, which has one.
     #[inline(always)]
     pub fn read(&mut self, tx: TxId, key: u64) -> Result<Row, Stopped> {

@@ -1,50 +1,108 @@
 //! What one thread does through a session.
 use crate::checksum::Checksum;
 use crate::draft::Draft;
-use crate::keeping::Keeping;
 use crate::keys::Keys;
 use crate::rows::{key_of, number_of};
 use mvo_disk::Disk;
-use mvo_engine::{Engine, Gate, Run, Session};
+use mvo_engine::{Gate, Run, Session};
 use mvo_types::{Answer, Refusal, Row};
 use std::alloc::Global;
 use std::sync::Wait;
 
-/// Which of so many transactions a thread runs: every `step`th one, from the first on. Between two
-/// of them it has a turn of the upkeep after every so many rows; after none where that is 0.
+/// What a transaction does.
+#[derive(Clone, Copy, PartialEq, Eq)]
+pub enum Kind {
+    /// Reads two rows and updates both.
+    Updates,
+    /// Reads so many rows.
+    Reads(u64),
+}
+
+/// Which of so many transactions a thread runs: every `step`th one, from the first on.
 #[derive(Clone, Copy)]
 pub struct Work {
+    pub kind: Kind,
     pub first: u64,
     pub step: u64,
     pub count: u64,
-    pub upkeep: u64,
 }
 
-/// So many rows are read or put by a transaction.
-const ROWS: u64 = 4;
+impl Work {
+    /// How many the thread runs.
+    fn rounds(&self) -> u64 {
+        self.count.checked_div(self.step).unwrap_or(0)
+    }
+
+    /// The number of one of them among all.
+    fn round(&self, index: u64) -> u64 {
+        index.wrapping_mul(self.step).wrapping_add(self.first)
+    }
+}
 
 /// The transactions of one thread, and the checksum of what they read.
 pub fn transact<L: Run, D: Disk, G: Gate + Drop, R: Wait>(
     rt: &R,
     alloc: Global,
-    engine: &Engine<L, D, G>,
+    session: &mut Session<'_, L, D, G>,
+    keys: &Keys,
+    work: Work,
+) -> Result<Checksum, Refusal> {
+    match work.kind {
+        Kind::Updates => update_all(rt, alloc, session, keys, work),
+        Kind::Reads(each) => read_all(rt, session, keys, work, each),
+    }
+}
+
+fn update_all<L: Run, D: Disk, G: Gate + Drop, R: Wait>(
+    rt: &R,
+    alloc: Global,
     session: &mut Session<'_, L, D, G>,
     keys: &Keys,
     work: Work,
 ) -> Result<Checksum, Refusal> {
     let mut sum = Checksum(0);
-    let mut keeping = Keeping::new(work.upkeep);
-    for index in 0..work.count.checked_div(work.step).unwrap_or(0) {
-        let round = index.wrapping_mul(work.step).wrapping_add(work.first);
+    for index in 0..work.rounds() {
+        let round = work.round(index);
         let at = round.wrapping_mul(2);
         let (one, other) = (keys.at(at), keys.at(at.wrapping_add(1)));
         let other = if one == other { one ^ 1 } else { other };
         let read = tried(rt, alloc, session, (one, other), round)?;
         sum.add(&read.0);
         sum.add(&read.1);
-        keeping.count(rt, engine, ROWS)?;
     }
     Ok(sum)
+}
+
+fn read_all<L: Run, D: Disk, G: Gate + Drop, R: Wait>(
+    rt: &R,
+    session: &mut Session<'_, L, D, G>,
+    keys: &Keys,
+    work: Work,
+    each: u64,
+) -> Result<Checksum, Refusal> {
+    let mut sum = Checksum(0);
+    for index in 0..work.rounds() {
+        let first = work.round(index).wrapping_mul(each);
+        read_some(rt, session, keys, (first, each), &mut sum)?;
+    }
+    Ok(sum)
+}
+
+/// Reads so many rows from the key with that index on, and commits.
+fn read_some<L: Run, D: Disk, G: Gate + Drop, R: Wait>(
+    rt: &R,
+    session: &mut Session<'_, L, D, G>,
+    keys: &Keys,
+    (first, each): (u64, u64),
+    sum: &mut Checksum,
+) -> Result<(), Refusal> {
+    session.begin_tx(rt)?;
+    for at in 0..each {
+        let row = found(session.read(rt, key_of(keys.at(first.wrapping_add(at))))?)?;
+        sum.add(&row);
+    }
+    session.commit_tx(rt)?;
+    Ok(())
 }
 
 /// Whether another transaction was in the way.
@@ -110,7 +168,8 @@ pub fn number_in<L: Run, D: Disk, G: Gate + Drop, R: Wait>(
     Ok(number_of(&found(session.read(rt, key_of(key))?)?))
 }
 
-fn found(answer: Answer) -> Result<Row, Refusal> {
+/// The row that was found.
+pub fn found(answer: Answer) -> Result<Row, Refusal> {
     match answer {
         Answer::Found(Some(row)) => Ok(row),
         _ => Err(Refusal::NothingToDo),

@@ -13,7 +13,7 @@ use std::thread::Threads;
 pub const KEYS: u64 = 1_000;
 
 /// The memory is looked at so many times.
-const PARTS: u64 = 10;
+pub const PARTS: u64 = 10;
 
 /// Updates few rows again and again, and prints how much memory there is after each part: it is to
 /// stay what it was after the first.

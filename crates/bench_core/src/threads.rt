@@ -1,18 +1,19 @@
-//! Two reads and two updates a transaction, through sessions of an engine, in several threads. Each
-//! has its turns of the upkeep.
+//! Reads, and two reads and two updates a transaction, through sessions of an engine in several
+//! threads, with the upkeep in a thread of its own.
 ghost use Rattle.mvo_engine.specs.Opened.{IsNamedBy};
 
 use crate::checksum::Checksum;
 use crate::config::Config;
-use crate::draft::Draft;
 use crate::figure::Figure;
+use crate::filling::{load, total};
 use crate::keeping::Keeping;
 use crate::keys::Keys;
-use crate::shared::{Work, number_in, transact};
+use crate::others::Others;
+use crate::shared::{Kind, Work, transact};
 use crate::stopped::Stopped;
 use anyhow::{Result, bail};
 use mvo_disk::{Disk, MemDisk};
-use mvo_engine::{Engine, Fresh, Gate, OpenGate, Run, Session};
+use mvo_engine::{Engine, Fresh, OpenGate, Run, Session};
 use mvo_store::format;
 use mvo_types::Refusal;
 use std::alloc::{AllocError, Global};
@@ -25,50 +26,79 @@ use std::time::Instant;
 
 const SEED: u64 = 2;
 
-/// So many threads, with the names of the transactions' figure and of the sessions' end.
-const RUNS: [(usize, &str, &str); 3] = [
-    (1, "threads_1", "sessions_end_1"),
-    (2, "threads_2", "sessions_end_2"),
-    (4, "threads_4", "sessions_end_4"),
+/// The names of the transactions' figure and of the sessions' end.
+type Names = (&'static str, &'static str);
+
+/// So many threads, with the names for reads of ten rows, of a hundred, and for updates.
+const RUNS: [(usize, Names, Names, Names); 3] = [
+    (
+        1,
+        ("threads_read10_1", "sessions_end_read10_1"),
+        ("threads_read100_1", "sessions_end_read100_1"),
+        ("threads_1", "sessions_end_1"),
+    ),
+    (
+        2,
+        ("threads_read10_2", "sessions_end_read10_2"),
+        ("threads_read100_2", "sessions_end_read100_2"),
+        ("threads_2", "sessions_end_2"),
+    ),
+    (
+        4,
+        ("threads_read10_4", "sessions_end_read10_4"),
+        ("threads_read100_4", "sessions_end_read100_4"),
+        ("threads_4", "sessions_end_4"),
+    ),
 ];
 
-/// So many rows a transaction, where all are written or read.
-const EACH: u64 = 100;
-
-/// What the threads do: so many transactions in all.
+/// What the threads do: so many transactions in all of that kind.
 #[derive(Clone, Copy)]
-struct Task<'a> {
-    rows: u64,
-    data: u64,
-    keys: &'a Keys,
-    count: u64,
-    threads: usize,
-    upkeep: u64,
+pub struct Task<'a> {
+    pub rows: u64,
+    pub data: u64,
+    pub keys: &'a Keys,
+    pub kind: Kind,
+    pub count: u64,
+    pub threads: usize,
+    pub upkeep: u64,
+    pub trims: bool,
 }
 
-/// What came of it: the checksum, the nanoseconds of all transactions, and those in which the
-/// sessions let go of their receipts.
+/// What came of it: the number of transactions, the checksum, the nanoseconds of all transactions,
+/// and those in which the sessions let go of their receipts.
 #[derive(Clone, Copy)]
 struct Done {
+    count: u64,
     sum: Checksum,
     nanos: u128,
     end: u128,
 }
 
-/// A thread's session behind its transactions, and the checksum of what they read.
-type Ended<'e, L, D> = (Checksum, Session<'e, L, D, OpenGate>);
+/// What came of the transactions of each kind.
+#[derive(Clone, Copy)]
+struct All {
+    ten: Done,
+    hundred: Done,
+    updates: Done,
+}
 
-/// Runs the transactions of `updates` with one, two and four threads, each time over rows of its
-/// own. One thread is told the same as the core without an engine, which the checksum shows. The
-/// checksum of several is the sum of a number in all rows, which no transaction changes. A session
-/// lives as long as the threads; what its end takes is told apart.
+/// A thread's session behind its transactions, and the checksum of what they read. The one that
+/// does the upkeep has none.
+pub type Ended<'e, L, D> = (Checksum, Option<Session<'e, L, D, OpenGate>>);
+
+/// Runs reads of ten rows and of a hundred a transaction and the transactions of `updates` with
+/// one, two and four threads, each time over rows of its own, beside one thread that does the
+/// upkeep. The checksum of reads is the sum of the threads' ones. One thread that updates is told
+/// the same as the core without an engine, which the checksum shows; the checksum of several is the
+/// sum of a number in all rows, which no transaction changes. A session lives as long as the
+/// threads; what its end takes is told apart.
 pub fn run<R: Runtime + Threads + Wait + Sync>(
     rt: &R,
     alloc: Global,
     config: &Config,
 ) -> Result<()> {
-    let count = config.transactions.saturating_mul(2);
-    let keys = Keys::uniform(alloc, config.rows, SEED, count)?;
+    let most = config.transactions.max(config.fewer.saturating_mul(50));
+    let keys = Keys::uniform(alloc, config.rows, SEED, most.saturating_mul(2))?;
     run_all(rt, alloc, config, &keys)
 }
 
@@ -78,24 +108,28 @@ fn run_all<R: Runtime + Threads + Wait + Sync>(
     config: &Config,
     keys: &Keys,
 ) -> Result<()> {
-    for (threads, name, end) in RUNS {
+    for (threads, ten, hundred, updates) in RUNS {
         let task = Task {
             rows: config.rows,
             data: config.data,
             keys,
+            kind: Kind::Updates,
             count: config.transactions,
             threads,
             upkeep: config.upkeep,
+            trims: true,
         };
-        let done = on_disk(rt, alloc, formatted(alloc)?, task)?;
-        tell(rt, config, (name, end), done)?;
+        let all = on_disk(rt, alloc, formatted(alloc)?, task, config.fewer)?;
+        tell(rt, config, ten, all.ten)?;
+        tell(rt, config, hundred, all.hundred)?;
+        tell(rt, config, updates, all.updates)?;
     }
     Ok(())
 }
 
 /// Prints what came of it, for the figures with these names.
-fn tell(rt: &impl Runtime, config: &Config, (name, end): (&str, &str), done: Done) -> Result<()> {
-    let count = config.transactions;
+fn tell(rt: &impl Runtime, config: &Config, (name, end): Names, done: Done) -> Result<()> {
+    let count = done.count;
     let each = |nanos: u128| nanos.checked_div(u128::from(count)).unwrap_or(0);
     let figure = Figure::start(rt, config, name)?;
     figure.tell_sum(rt, done.sum)?;
@@ -104,7 +138,7 @@ fn tell(rt: &impl Runtime, config: &Config, (name, end): (&str, &str), done: Don
 }
 
 /// A disk in memory with a store that has no rows.
-fn formatted(alloc: Global) -> Result<MemDisk> {
+pub fn formatted(alloc: Global) -> Result<MemDisk> {
     match format(alloc, new_disk(alloc)?) {
         Ok(disk) => Ok(disk),
         Err((refusal, _)) => bail!("no store is written: {refusal}"),
@@ -121,9 +155,10 @@ fn on_disk<D: Disk + Drop + Send, R: Clock + Threads + Wait + Sync>(
     alloc: Global,
     disk: D,
     task: Task<'_>,
-) -> Result<Done, Stopped> {
+    fewer: u64,
+) -> Result<All, Stopped> {
     match Fresh::open(rt, alloc, 7, disk) {
-        Ok(fresh) => with_engine::<Brand, D, R>(rt, alloc, fresh, task),
+        Ok(fresh) => with_engine::<Brand, D, R>(rt, alloc, fresh, task, fewer),
         Err((refusal, _)) => Err(Stopped::Refused(refusal)),
     }
 }
@@ -134,189 +169,149 @@ fn with_engine<L: Run + Send + Sync, D: Disk + Drop + Send, R: Clock + Threads +
     alloc: Global,
     fresh: Fresh<D>,
     task: Task<'_>,
-) -> Result<Done, Stopped>
+    fewer: u64,
+) -> Result<All, Stopped>
     requires { IsNamedBy D.Disk L.opening L.marks L.ring L.name L.parts fresh }
 {
     let engine = Engine::<L, D, OpenGate>::new(fresh, OpenGate);
-    on_engine(rt, alloc, &engine, task)
+    on_engine(rt, alloc, &engine, task, fewer)
 }
 
-/// Loads the rows, and times the transactions of all threads.
+/// Loads the rows, and times the transactions of all threads, of each kind.
 fn on_engine<L: Run + Send + Sync, D: Disk + Send, R: Clock + Threads + Wait + Sync>(
     rt: &R,
     alloc: Global,
     engine: &Engine<L, D, OpenGate>,
     task: Task<'_>,
-) -> Result<Done, Stopped> {
+    fewer: u64,
+) -> Result<All, Stopped> {
     load(rt, alloc, engine, task)?;
+    let ten = timed(rt, alloc, engine, task.reading(10, fewer))?;
+    let hundred = timed(rt, alloc, engine, task.reading(100, fewer))?;
+    let updates = timed(rt, alloc, engine, task)?;
+    Ok(All {
+        ten,
+        hundred,
+        updates,
+    })
+}
+
+impl<'a> Task<'a> {
+    /// So many transactions that read so many rows each.
+    fn reading(self, rows: u64, count: u64) -> Task<'a> {
+        Task {
+            kind: Kind::Reads(rows),
+            count,
+            ..self
+        }
+    }
+}
+
+/// Times the transactions of all threads.
+fn timed<L: Run + Send + Sync, D: Disk + Send, R: Clock + Threads + Wait + Sync>(
+    rt: &R,
+    alloc: Global,
+    engine: &Engine<L, D, OpenGate>,
+    task: Task<'_>,
+) -> Result<Done, Stopped> {
     let start = now(rt)?;
     let told = all_threads(rt, alloc, engine, task)?;
     let nanos = nanos_since(rt, start)?;
     let start = now(rt)?;
-    let first = first_of(told)?;
+    let read = sum_of(told)?;
     let end = nanos_since(rt, start)?;
-    let sum = match first {
-        Some(sum) => sum,
-        None => total(rt, engine, task.rows)?,
+    let sum = if task.kind == Kind::Updates && task.threads > 1 {
+        total(rt, engine, task.rows)?
+    } else {
+        read
     };
-    Ok(Done { sum, nanos, end })
+    Ok(Done {
+        count: task.count,
+        sum,
+        nanos,
+        end,
+    })
 }
 
-fn now(rt: &impl Clock) -> Result<Instant, Stopped> {
+/// The time now.
+pub fn now(rt: &impl Clock) -> Result<Instant, Stopped> {
     match Instant::now(rt) {
         Ok(now) => Ok(now),
         Err(_) => Err(Stopped::Unexpected),
     }
 }
 
-fn nanos_since(rt: &impl Clock, start: Instant) -> Result<u128, Stopped> {
+/// The nanoseconds since.
+pub fn nanos_since(rt: &impl Clock, start: Instant) -> Result<u128, Stopped> {
     match start.elapsed(rt) {
         Ok(time) => Ok(time.as_nanos()),
         Err(_) => Err(Stopped::Unexpected),
     }
 }
 
-/// Ends the sessions. The checksum of the one thread, or none of several. Refused where one of them
-/// was.
-fn first_of<L: Run, D: Disk>(
+/// Ends the sessions. The sum of the checksums of all threads. Refused where one of them was.
+pub fn sum_of<L: Run, D: Disk>(
     told: Vec<Result<Ended<'_, L, D>, Refusal>>,
-) -> Result<Option<Checksum>, Refusal> {
-    let is_one = told.len() == 1;
-    let mut first = None;
+) -> Result<Checksum, Refusal> {
+    let mut all = 0u64;
     for one in told {
         let (sum, _) = one?;
-        first = Some(sum);
+        all = all.wrapping_add(sum.0);
     }
-    Ok(if is_one { first } else { None })
+    Ok(Checksum(all))
 }
 
-/// The transactions of all threads, with the session of each one and the checksum of what it read.
-fn all_threads<'e, L: Run + Send + Sync, D: Disk + Send, R: Threads + Wait + Sync>(
+/// The transactions of all threads, with the session of each one and the checksum of what it read,
+/// beside the upkeep. That is the last call, which runs in the thread that there is, so that each
+/// of the others takes memory as a thread that was made does.
+pub fn all_threads<'e, L: Run + Send + Sync, D: Disk + Send, R: Threads + Wait + Sync>(
     rt: &R,
     alloc: Global,
     engine: &'e Engine<L, D, OpenGate>,
     task: Task<'_>,
 ) -> Result<Vec<Result<Ended<'e, L, D>, Refusal>>, AllocError> {
-    let Task {
-        keys,
-        count,
-        threads,
-        upkeep,
-        ..
-    } = task;
-    let step = threads as u64;
+    let others = Others::new(task.threads);
     thread::map_indices(
         rt,
         alloc,
-        threads,
-        &|first| {
-            let work = Work {
-                first: first as u64,
-                step,
-                count,
-                upkeep,
-            };
-            one_thread(rt, alloc, engine, keys, work)
-        },
+        task.threads.saturating_add(1),
+        &|worker| { one_thread(rt, alloc, engine, task, worker, &others) },
     )
 }
 
-/// The transactions of one thread through a session, which it answers.
+/// What one thread does: the last one the upkeep, and the others the transactions.
 fn one_thread<'e, L: Run, D: Disk, R: Wait>(
     rt: &R,
     alloc: Global,
     engine: &'e Engine<L, D, OpenGate>,
-    keys: &Keys,
-    work: Work,
+    task: Task<'_>,
+    worker: usize,
+    others: &Others,
 ) -> Result<Ended<'e, L, D>, Refusal> {
-    let mut session = engine.session(rt)?;
-    let sum = transact(rt, alloc, engine, &mut session, keys, work)?;
-    Ok((sum, session))
+    if worker == task.threads {
+        Keeping::new(task.upkeep, task.trims).keep_on(rt, engine, others)?;
+        return Ok((Checksum(0), None));
+    }
+    let ended = through_session(rt, alloc, engine, task, worker);
+    others.leave();
+    ended
 }
 
-/// Puts all rows.
-fn load<L: Run, D: Disk, G: Gate + Drop, R: Wait>(
+/// The transactions of one thread through a session, which it answers.
+fn through_session<'e, L: Run, D: Disk, R: Wait>(
     rt: &R,
     alloc: Global,
-    engine: &Engine<L, D, G>,
+    engine: &'e Engine<L, D, OpenGate>,
     task: Task<'_>,
-) -> Result<(), Refusal> {
+    worker: usize,
+) -> Result<Ended<'e, L, D>, Refusal> {
+    let work = Work {
+        kind: task.kind,
+        first: worker as u64,
+        step: task.threads as u64,
+        count: task.count,
+    };
     let mut session = engine.session(rt)?;
-    load_by(rt, alloc, engine, &mut session, task)
-}
-
-/// Through this session.
-fn load_by<L: Run, D: Disk, G: Gate + Drop, R: Wait>(
-    rt: &R,
-    alloc: Global,
-    engine: &Engine<L, D, G>,
-    session: &mut Session<'_, L, D, G>,
-    task: Task<'_>,
-) -> Result<(), Refusal> {
-    let mut keeping = Keeping::new(task.upkeep);
-    for batch in 0..task.rows.saturating_add(EACH - 1) / EACH {
-        let from = batch.saturating_mul(EACH);
-        let to = from.saturating_add(EACH).min(task.rows);
-        put(rt, alloc, session, (from, to), task.data)?;
-        keeping.count(rt, engine, EACH)?;
-    }
-    Ok(())
-}
-
-/// Puts the rows of these keys.
-fn put<L: Run, D: Disk, G: Gate + Drop, R: Wait>(
-    rt: &R,
-    alloc: Global,
-    session: &mut Session<'_, L, D, G>,
-    (from, to): (u64, u64),
-    data: u64,
-) -> Result<(), Refusal> {
-    let mut draft = Draft::new(alloc);
-    session.begin_tx(rt)?;
-    for key in from..to {
-        session.insert(rt, draft.loaded(key, data)?)?;
-    }
-    session.commit_tx(rt)?;
-    Ok(())
-}
-
-/// The sum of the number that updates change, over all rows: what one row gets another gives.
-fn total<L: Run, D: Disk, G: Gate + Drop, R: Wait>(
-    rt: &R,
-    engine: &Engine<L, D, G>,
-    rows: u64,
-) -> Result<Checksum, Refusal> {
-    let mut session = engine.session(rt)?;
-    total_by(rt, &mut session, rows)
-}
-
-/// Through this session.
-fn total_by<L: Run, D: Disk, G: Gate + Drop, R: Wait>(
-    rt: &R,
-    session: &mut Session<'_, L, D, G>,
-    rows: u64,
-) -> Result<Checksum, Refusal> {
-    let mut sum = 0u8;
-    for batch in 0..rows.saturating_add(EACH - 1) / EACH {
-        let from = batch.saturating_mul(EACH);
-        let to = from.saturating_add(EACH).min(rows);
-        sum = sum.wrapping_add(total_of(rt, session, from, to)?);
-    }
-    Ok(Checksum(u64::from(sum)))
-}
-
-/// The sum over the rows of these keys.
-fn total_of<L: Run, D: Disk, G: Gate + Drop, R: Wait>(
-    rt: &R,
-    session: &mut Session<'_, L, D, G>,
-    from: u64,
-    to: u64,
-) -> Result<u8, Refusal> {
-    session.begin_tx(rt)?;
-    let mut sum = 0u8;
-    for key in from..to {
-        sum = sum.wrapping_add(number_in(rt, session, key)?);
-    }
-    session.commit_tx(rt)?;
-    Ok(sum)
+    let sum = transact(rt, alloc, &mut session, task.keys, work)?;
+    Ok((sum, Some(session)))
 }

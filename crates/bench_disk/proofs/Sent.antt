@@ -1,4 +1,4 @@
--- A disk in a folder may go to another thread, where what reads its files and what is told of it may.
+-- A disk in a folder may go to another thread, where what has its files and what is told of it may.
 use denote.RattleType.{RattleType}
 use denote.Param.Send.{IsSend, sendable, recorded_send, struct_send}
 use denote.Struct.Declared.{shape}
@@ -18,9 +18,10 @@ file_send = search (sendable, crosses) depth 40
 record_send : IsSend Record.the_row
 record_send = search (sendable, crosses) depth 40
 
-module _ (R S P T : RattleType) (n : Read.Ghosts T.Denot) (is : IsSend R) (shown : IsSend P) where
-  folder_send : IsSend (Folder.the_field R T reads.ghosts writes.ghosts seeks.ghosts n).row
+module _ (R T : RattleType) (n : Read.Ghosts T.Denot) (is : IsSend R) where
+  pub folder_send : IsSend (Folder.the_field R T reads.ghosts writes.ghosts seeks.ghosts n).row
   folder_send = let f = file_send in search (sendable, crosses) depth 40
 
-  pub disk_send : IsSend (DirDisk.the_row R S P T n)
-  disk_send = recorded_send _ _ _ (DirDisk.the_type R S P T n).to_one (struct_send (shape (DirDisk.the_type R S P T n)) (folder_send, (record_send, (search (sendable, crosses) depth 40, (shown, (search sendable, (search sendable, (search sendable, (search sendable, tt)))))))))
+module _ (F S P : RattleType) (is : IsSend F) (shown : IsSend P) where
+  pub disk_send : IsSend (DirDisk.the_row F S P)
+  disk_send = recorded_send _ _ _ (DirDisk.the_type F S P).to_one (struct_send (shape (DirDisk.the_type F S P)) (is, (record_send, (search (sendable, crosses) depth 40, (shown, (search sendable, (search sendable, (search sendable, (search sendable, tt)))))))))

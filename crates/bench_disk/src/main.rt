@@ -11,17 +11,26 @@
 //!
 //! With `sessions N COMMITS FOLDER`: the durable commits a second of N sessions of an engine, each
 //! of which commits so many small transactions one after another and makes each durable.
+//!
+//! With `kept N SECONDS FOLDER` and with `unkept N SECONDS FOLDER`: the same of N sessions that
+//! replace 1,000,000 rows for a time, while one more thread keeps the engine, or none does.
+//!
+//! With `through MEBIBYTES FOLDER`: about so many of log through a world over a folder that is kept
+//! by a policy of small numbers; its rows are compared at the end.
 #![tactic(auto)]
 
 mod folder;
 mod groups;
+mod kept;
 mod opening;
 mod raw;
 mod sessions;
+mod through;
 mod times;
 
 use anyhow::{Context, Result, bail};
 use folder::Scratch;
+use kept::{Service, Told};
 use mvo_store::format;
 use opening::{WORKS, Work};
 use std::env;
@@ -33,6 +42,9 @@ use std::time::Instant;
 const ROUNDS: u64 = 20;
 
 const ROWS: u64 = 10_000;
+
+/// How many rows a service has.
+const SERVED_ROWS: u64 = 1_000_000;
 
 fn main(rt: HostRuntime) -> Result<()> {
     let mut words = env::args(&rt)?.skip(1);
@@ -67,6 +79,16 @@ where
         "groups" => run_groups(rt, threads, first, number_or(second, ROUNDS)?),
         "open" => run_open(threads, number_or(first, ROWS)?, second),
         "sessions" => run_sessions(rt, threads, third, number(first)?, number(second)?),
+        "through" => run_through(rt, threads, second, number(first)?),
+        "kept" | "unkept" => {
+            let service = Service {
+                sessions: number(first)?,
+                seconds: number(second)?,
+                rows: SERVED_ROWS,
+                keeps: kind == "kept",
+            };
+            run_service(rt, threads, third, service)
+        }
         _ => bail!("nothing that is timed has this name"),
     }
 }
@@ -173,5 +195,82 @@ fn time_sessions(
     let all = u128::from(count.saturating_mul(commits)).saturating_mul(1_000_000_000);
     let rate = all.checked_div(nanos).unwrap_or(0);
     eprintln!(rt; "{count} sessions: {rate} durable commits a second")?;
+    Ok(())
+}
+
+/// The durable commits of a service.
+fn run_service(
+    rt: &HostRuntime,
+    threads: &(impl Threads + Wait + Sync),
+    folder: &Option<String>,
+    service: Service,
+) -> Result<()> {
+    let scratch = scratch_in(rt, folder)?;
+    let ran = time_service(rt, threads, &scratch, service);
+    scratch.remove(rt)?;
+    ran
+}
+
+fn time_service(
+    rt: &HostRuntime,
+    threads: &(impl Threads + Wait + Sync),
+    scratch: &Scratch,
+    service: Service,
+) -> Result<()> {
+    let Ok(disk) = format(rt.alloc(), scratch.disk(rt, "service")?) else {
+        bail!("the store isn't made");
+    };
+    kept::load(threads, rt.alloc(), disk, service.rows)?;
+    eprintln!(rt; "loaded")?;
+    let disk = scratch.disk(rt, "service")?;
+    let told = kept::serve(threads, rt.alloc(), disk, service)?;
+    tell_service(rt, service, &told)
+}
+
+fn tell_service(rt: &HostRuntime, service: Service, told: &Told) -> Result<()> {
+    let (served, totals, store) = (&told.served, &told.totals, &told.stats.store);
+    let rate = served.commits.checked_div(service.seconds).unwrap_or(0);
+    println!(rt;
+        "{} sessions: {rate} durable commits a second",
+        service.sessions
+    )?;
+    println!(rt;
+        "{} commits in {} groups, {} bytes of log",
+        store.grouped, totals.groups, store.log_bytes
+    )?;
+    println!(rt;
+        "{} rotations, {} checkpoints, {} merges; {} segments and {} pairs at most",
+        totals.rotations, totals.checkpoints, totals.merges, served.segments, served.pairs
+    )?;
+    Ok(())
+}
+
+/// Brings so much log through a kept world, and says what that came to.
+fn run_through(
+    rt: &HostRuntime,
+    threads: &(impl Threads + Sync),
+    folder: &Option<String>,
+    mebibytes: u64,
+) -> Result<()> {
+    let scratch = scratch_in(rt, folder)?;
+    let ran = bring_through(rt, threads, &scratch, mebibytes);
+    scratch.remove(rt)?;
+    ran
+}
+
+fn bring_through(
+    rt: &HostRuntime,
+    threads: &(impl Threads + Sync),
+    scratch: &Scratch,
+    mebibytes: u64,
+) -> Result<()> {
+    let Ok(disk) = format(rt.alloc(), scratch.disk(rt, "through")?) else {
+        bail!("the store isn't made");
+    };
+    let through = through::run(threads, rt.alloc(), disk, mebibytes)?;
+    println!(rt;
+        "{} bytes of log, {} segments and {} pairs at most, {} checkpoints, {} merges",
+        through.bytes, through.segments, through.pairs, through.checkpoints, through.merges
+    )?;
     Ok(())
 }
