@@ -1,8 +1,8 @@
 //! The files of a disk in a folder of the operating system.
 //!
-//! Each call of the system that a `DirDisk` over a `Folder` makes stands in this file. No clause can
-//! say what the system answers, so none here speaks of bytes: that a call does what its name says is
-//! a premise.
+//! Each call of the system that a `DirDisk` over a `Folder` makes stands in this file. No clause
+//! can say what the system answers, so none here speaks of bytes: that a call does what its name
+//! says is a premise.
 ghost use Rattle.std.specs.Prelude.{◌≡◌, ◌<◌, length, IfOk};
 ghost use Rattle.mvo_disk.specs.declared.limits.TheConstants.{FILE_COUNT};
 

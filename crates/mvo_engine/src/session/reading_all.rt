@@ -22,7 +22,7 @@ impl<'e, L: Run, D: Disk, G: Gate + Drop> Session<'e, L, D, G> {
 
     /// The rows at up to 64 keys, each where one is shown, in the order of the keys. They are read
     /// one after another, as by `get`, while the lock of the core is held once: where many threads
-    /// read, ten rows so cost little more than one.
+    /// read, the lock changes hands less often.
     ///
     /// Refused: NoSuchTransaction without a transaction, and where it was rolled back meanwhile
     /// (Ended, where that comes in between); TooManyReads for more keys, which changes nothing; as
