@@ -1,11 +1,12 @@
-//! Sessions make commits durable between the steps of jobs, over a disk whose syncs take a while.
+//! Each of several sessions makes a commit durable between any two steps of a job, which waits
+//! there for them, over a disk whose syncs take a while.
 ghost use Rattle.mvo_engine.specs.Opened.{IsNamedBy};
 
 use super::turns::has_come;
 use super::{SEED, formatted};
 use crate::equal::holds;
 use mvo_disk::{Disk, DiskFault};
-use mvo_engine::{Engine, Fresh, OpenGate, Run, Session};
+use mvo_engine::{Engine, Fresh, Gate, Place, Run, Session};
 use mvo_types::{Refusal, Row, RowKey, Stamp};
 use std::alloc::{AllocError, Global};
 use std::marker::Brand;
@@ -18,26 +19,20 @@ use std::thread::{Threads, map_indices, yield_now};
 /// So many sessions commit, each in a thread.
 const SESSIONS: usize = 4;
 
-/// So many rotations and checkpoints are made beside them.
-const JOBS: u64 = 10;
+/// So many rotations and checkpoints are made beside them: at least ten steps each time.
+const JOBS: u64 = 1;
 
 /// How often a sync yields.
-const YIELDS: u32 = 300;
+const YIELDS: u32 = 10;
 
-/// The manifest lies in the files below this.
-const SLOTS: u16 = 2;
-
-/// What the sessions and the disk tell one another.
+/// What the sessions and the thread of the jobs tell one another.
 #[derive(Drop)]
 struct Notes {
-    /// How many commits were made durable.
-    made: AtomicU64,
-    /// How many had been at the last sync of a manifest.
-    before: AtomicU64,
-    /// How many syncs of a manifest there were beside the sessions, and behind how many of them no
-    /// commit was made durable before the next.
+    /// How many commits of each session were made durable.
+    made: [AtomicU64; SESSIONS],
+    /// Before how many steps of jobs the thread waited for the sessions, and how often in vain.
     steps: AtomicU64,
-    silent: AtomicU64,
+    vain: AtomicU64,
     /// 1 once all jobs are made.
     ended: AtomicU64,
 }
@@ -45,35 +40,61 @@ struct Notes {
 impl Notes {
     fn new() -> Notes {
         Notes {
-            made: AtomicU64::new(0),
-            before: AtomicU64::new(0),
+            made: [
+                AtomicU64::new(0),
+                AtomicU64::new(0),
+                AtomicU64::new(0),
+                AtomicU64::new(0),
+            ],
             steps: AtomicU64::new(0),
-            silent: AtomicU64::new(0),
+            vain: AtomicU64::new(0),
             ended: AtomicU64::new(0),
         }
     }
 
-    // A step of a job syncs a manifest.
-    fn step(&self) {
-        let made = self.made.load(Ordering::SeqCst);
-        if made == 0 {
-            return;
+    /// A commit of this session is durable.
+    fn count(&self, worker: usize) {
+        if let Some(made) = self.made.get(worker) {
+            made.fetch_add(1, Ordering::SeqCst);
         }
+    }
+
+    /// Waits until each session has made another two of its commits durable: the second one, from
+    /// its begin on, while this waits. Where one doesn't come, nothing is waited for any more.
+    fn await_all(&self) {
         self.steps.fetch_add(1, Ordering::SeqCst);
-        if self.before.swap(made, Ordering::SeqCst) == made {
-            self.silent.fetch_add(1, Ordering::SeqCst);
+        for made in &self.made {
+            if self.vain.load(Ordering::SeqCst) == 0 {
+                let wanted = made.load(Ordering::SeqCst).saturating_add(2);
+                if !has_come(made, wanted) {
+                    self.vain.fetch_add(1, Ordering::SeqCst);
+                }
+            }
         }
     }
 }
 
-/// A disk whose syncs take a while, and which tells of those of a manifest.
+/// Holds the thread of a job before each step until all sessions have committed.
 #[derive(Drop)]
-struct Slow<'n, D: Disk> {
-    disk: D,
+struct Holding<'n> {
     notes: &'n Notes,
 }
 
-impl<'n, D: Disk> Disk for Slow<'n, D> {
+impl<'n> Gate for Holding<'n> {
+    fn pass(&self, place: Place) {
+        if place == Place::Turn {
+            self.notes.await_all();
+        }
+    }
+}
+
+/// A disk whose syncs take a while, so that sessions sleep while another flushes.
+#[derive(Drop)]
+struct Slow<D: Disk> {
+    disk: D,
+}
+
+impl<D: Disk> Disk for Slow<D> {
     ghost content = { λ d. D.content d.disk };
 
     ghost may_leave = { λ d. D.may_leave d.disk };
@@ -112,9 +133,6 @@ impl<'n, D: Disk> Disk for Slow<'n, D> {
         for _ in 0..YIELDS {
             yield_now();
         }
-        if file < SLOTS {
-            self.notes.step();
-        }
         self.disk.sync(file)
     }
 
@@ -131,10 +149,10 @@ fn row(alloc: Global, number: u64) -> Result<Row, AllocError> {
     Row::new(key, number, Vec::new(alloc))
 }
 
-fn commit<L: Run, D: Disk, R: Wait>(
+fn commit<L: Run, D: Disk, G: Gate + Drop, R: Wait>(
     rt: &R,
     alloc: Global,
-    session: &mut Session<'_, L, D, OpenGate>,
+    session: &mut Session<'_, L, D, G>,
     number: u64,
 ) -> Result<Stamp, Refusal> {
     session.begin_tx(rt)?;
@@ -143,41 +161,30 @@ fn commit<L: Run, D: Disk, R: Wait>(
 }
 
 /// Commits, and makes each commit durable, until all jobs are made.
-fn commit_all<L: Run, D: Disk, R: Wait>(
+fn commit_all<L: Run, D: Disk, G: Gate + Drop, R: Wait>(
     rt: &R,
     alloc: Global,
-    session: &mut Session<'_, L, D, OpenGate>,
-    worker: u64,
+    session: &mut Session<'_, L, D, G>,
+    worker: usize,
     notes: &Notes,
 ) -> Result<(), Refusal> {
-    let first = worker << 32;
+    let first = (worker as u64) << 32;
     for number in 0..u64::MAX {
         if notes.ended.load(Ordering::SeqCst) != 0 {
             return Ok(());
         }
         let end = commit(rt, alloc, session, first.wrapping_add(number))?;
         session.make_durable(rt, end)?;
-        notes.made.fetch_add(1, Ordering::SeqCst);
+        notes.count(worker);
     }
     Ok(())
 }
 
-/// Waits until as many commits are durable as there are sessions.
-fn await_first(notes: &Notes) {
-    for _ in 0..100 {
-        if has_come(&notes.made, SESSIONS as u64) {
-            return;
-        }
-    }
-}
-
 /// Rotates and makes checkpoints beside the sessions.
-fn make_jobs<L: Run, D: Disk, R: Wait>(
+fn make_jobs<L: Run, D: Disk, G: Gate + Drop, R: Wait>(
     rt: &R,
-    engine: &Engine<L, D, OpenGate>,
-    notes: &Notes,
+    engine: &Engine<L, D, G>,
 ) -> Result<(), Refusal> {
-    await_first(notes);
     for _ in 0..JOBS {
         engine.rotate(rt)?;
         engine.checkpoint(rt)?;
@@ -186,18 +193,18 @@ fn make_jobs<L: Run, D: Disk, R: Wait>(
 }
 
 /// What one thread does: the last one makes the jobs.
-fn work<L: Run, D: Disk, R: Wait>(
+fn work<L: Run, D: Disk, G: Gate + Drop, R: Wait>(
     rt: &R,
     alloc: Global,
-    engine: &Engine<L, D, OpenGate>,
+    engine: &Engine<L, D, G>,
     worker: usize,
     notes: &Notes,
 ) -> Result<(), Refusal> {
     if worker < SESSIONS {
         let mut session = engine.session(rt)?;
-        return commit_all(rt, alloc, &mut session, worker as u64, notes);
+        return commit_all(rt, alloc, &mut session, worker, notes);
     }
-    let made = make_jobs(rt, engine, notes);
+    let made = make_jobs(rt, engine);
     notes.ended.store(1, Ordering::SeqCst);
     made
 }
@@ -210,7 +217,7 @@ fn run_beside<L: Run + Send + Sync, D: Disk + Drop + Send, R: Threads + Wait + S
 ) -> Result<(), Refusal>
     requires { IsNamedBy D.Disk L.opening L.marks L.ring L.name L.parts fresh }
 {
-    let engine = Engine::<L, D, OpenGate>::new(fresh, OpenGate);
+    let engine = Engine::<L, D, Holding<'_>>::new(fresh, Holding { notes });
     for came in map_indices(
         rt,
         alloc,
@@ -235,18 +242,15 @@ fn beside<D: Disk + Drop + Send, R: Threads + Wait + Sync>(
     }
 }
 
-// A thread that was woken may come too late on a machine that is busy: it is let by for a moment.
+// A step that kept the turn, or the store, would be waited for in vain.
 #[test]
 fn commits_come_between_the_steps_of_jobs(rt: HostRuntime) -> Result<(), Fail> {
     let notes = Notes::new();
     let disk = Slow {
         disk: formatted(rt.alloc())?,
-        notes: &notes,
     };
     beside(&rt, rt.alloc(), disk, &notes)?;
-    let steps = notes.steps.load(Ordering::SeqCst);
-    let silent = notes.silent.load(Ordering::SeqCst);
-    holds(&rt, steps > 5 * JOBS);
-    holds(&rt, silent <= steps / 2);
+    holds(&rt, notes.steps.load(Ordering::SeqCst) >= 10 * JOBS);
+    holds(&rt, notes.vain.load(Ordering::SeqCst) == 0);
     Ok(())
 }
