@@ -78,6 +78,7 @@ fn policy() -> Policy {
         most_live: 4_194_304,
         many_dead: 64,
         collected: 1_024,
+        in_a_row: 16,
     }
 }
 

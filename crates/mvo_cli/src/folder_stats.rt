@@ -199,21 +199,20 @@ fn unused_on<D: Disk>(disk: &mut D, unnamed: &[u16]) -> Result<usize, DiskFault>
     requires few { D.fault_count disk.old < MAX_FAULTS }
 {
     let mut count = 0usize;
-    for file in FIRST_FILE..FILE_COUNT {
-        if is_unused(disk, unnamed, file)? {
+    for file in unnamed {
+        if is_unused(disk, *file)? {
             count = count.saturating_add(1);
         }
     }
     Ok(count)
 }
 
-/// Whether a file is one of these, and holds bytes.
-fn is_unused<D: Disk>(disk: &mut D, unnamed: &[u16], file: u16) -> Result<bool, DiskFault>
-    requires file { file < FILE_COUNT }
+/// Whether a file that nobody names holds bytes.
+fn is_unused<D: Disk>(disk: &mut D, file: u16) -> Result<bool, DiskFault>
     requires few { D.fault_count disk.old < MAX_FAULTS }
     ensures count { OnOk result (D.fault_count disk.new ≡ D.fault_count disk.old) }
 {
-    if !unnamed.contains(&file) {
+    if file >= FILE_COUNT {
         return Ok(false);
     }
     let len = disk.len(file)?;

@@ -5,7 +5,7 @@ use crate::folder::{Holdings, held_of, open_disk};
 use crate::seed::draw_seed;
 use mvo_disk::Disk;
 use mvo_format::HEADER_LEN;
-use mvo_keep::{Policy, Standing, due};
+use mvo_keep::{Policy, Served, Standing, due};
 use mvo_store::{Done, Reclaimed, Store, StoreCall};
 use mvo_types::{Refusal, Rows, Stamp};
 use std::alloc::{AllocError, Global};
@@ -116,6 +116,7 @@ fn standing_of<D: Disk>(
         earlier_mark: mark,
         oldest_begin: mark,
         may_collect: false,
+        served: Served::Files,
     })
 }
 

@@ -1,7 +1,7 @@
 -- What the layers above see of a core.
 use Rattle.std.specs.Prelude.{◌≡◌, ℕ, List, Option}
 use Rattle.mvo_tale.specs.declared.tale_place.TalePlace.{TalePlace}
-use Rattle.mvo_tale.specs.Slots.{last_end}
+use Rattle.mvo_tale.specs.Slots.{end_at_back}
 use Rattle.mvo_core.specs.Data.{CoreData}
 
 -- the timestamp that was drawn last, or the opening mark
@@ -18,7 +18,7 @@ tale_of c = c.tale
 
 -- the end at the back of the tale
 abbrev pub last_end_of : CoreData → Option ℕ
-last_end_of c = last_end c.tale
+last_end_of c = end_at_back c.tale
 
 -- nothing but the versions is another
 abbrev pub HasNewVersions : CoreData → CoreData → Type 0

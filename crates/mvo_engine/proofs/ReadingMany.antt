@@ -1,5 +1,5 @@
 -- Reads at many keys: one more of them, and one that is refused.
-use Rattle.std.proofs.Common.{◌≡◌, ℕ, ◌+◌, ◌<◌, length, true, List, [], ◌∷◌, ◌++◌, Option, None, Some, Ok, Err, map, take, drop, get_or, refl, sym, ap, ap₂, ◌∙◌, subst}
+use Rattle.std.proofs.Common.{◌≡◌, ℕ, ◌+◌, ◌<◌, ◌≤◌, length, true, List, [], ◌∷◌, ◌++◌, Option, None, Some, Ok, Err, map, take, drop, get_or, refl, sym, ap, ap₂, ◌∙◌, subst}
 use Rattle.std.specs.Prelude.{IfSome}
 use Rattle.std.specs.Option.{option_map}
 use Rattle.std.proofs.lemmas.List.{append_assoc, map-append, take-append-drop, take_more}
@@ -24,8 +24,9 @@ use Rattle.mvo_engine.specs.Calls.{IsCoreStep, session_after}
 use Rattle.mvo_engine.specs.Asked.{WasAnswered, HasGone, HasLeftTx}
 use Rattle.mvo_engine.specs.Asking.{IsFinding}
 use Rattle.mvo_engine.specs.Refusing.{refuses_operation}
-use Rattle.mvo_engine.specs.Reads.{AreCoreAnswers, AreFinding, AreReadsOf, IsRefusedRead, HasReadAll, HasNotReadAll, row_found}
+use Rattle.mvo_engine.specs.Reads.{AreCoreAnswers, AreFinding, AreReadsOf, IsRefusedRead, MayReadAll, HasReadAll, HasNotReadAll, row_found}
 use Rattle.mvo_engine.specs.Reads.HasNotReadAll.{Gone, Refused}
+use Rattle.mvo_engine.specs.declared.session.reading_all.TheConstants.{READ_AT_ONCE}
 use Rattle.mvo_engine.proofs.Asking.{answered_so}
 
 -- a read behind the others
@@ -83,18 +84,21 @@ all_found reads rows finding is = ap (map Found) is ∙ each_found reads finding
 there : (x : Option TxId) (tx : TxId) → x ≡ Some tx → option_map (λ (t : TxId). t.0) x ≡ Some tx.0
 there x tx is = ap (option_map (λ (t : TxId). t.0)) is
 
+-- and there are few keys
+may_so : (keys : List RowKey) (old : SessionState) (tx : TxId) (x : Option TxId) → x ≡ Some tx → old.tx ≡ option_map (λ (t : TxId). t.0) x → length keys ≤ READ_AT_ONCE → MayReadAll old keys
+may_so keys old tx x is same few = record { tx = tx.0; there = same ∙ there x tx is; few = few }
+
 -- it was rolled back, since memory was refused
-pub gone_so : {o : Opening} (keys : List RowKey) (old new : SessionState) (tx : TxId) (x : Option TxId) (told : History) → x ≡ Some tx → old.tx ≡ option_map (λ (t : TxId). t.0) x → IfSome old.tx (HasGone o) → new ≡ record old { tx = None; told = told } → HasNotReadAll o old keys OutOfMemory new
-gone_so {o} keys old new tx x told is same gone session =
-    let here : old.tx ≡ Some tx.0 = same ∙ there x tx is in
+pub gone_so : {o : Opening} (keys : List RowKey) (old new : SessionState) (tx : TxId) (x : Option TxId) (told : History) → x ≡ Some tx → old.tx ≡ option_map (λ (t : TxId). t.0) x → length keys ≤ READ_AT_ONCE → IfSome old.tx (HasGone o) → new ≡ record old { tx = None; told = told } → HasNotReadAll o old keys OutOfMemory new
+gone_so {o} keys old new tx x told is same few gone session =
+    let may : MayReadAll old keys = may_so keys old tx x is same few in
     let left : new ≡ record old { tx = None; told = new.told } = session ∙ ap (λ (h : History). record old { tx = None; told = h }) (sym (ap (λ (s : SessionState). s.told) session)) in
-    Gone refl tx.0 here (subst (λ (y : Option ℕ). IfSome y (HasGone o)) here gone) left
+    Gone may refl (subst (λ (y : Option ℕ). IfSome y (HasGone o)) may.there gone) left
 
 -- all were read
-pub read_so : {o : Opening} (keys : List RowKey) (old new : SessionState) (tx : TxId) (x : Option TxId) (reads : List (Op × Answer)) (rows : List (Option RowData)) (told : History) → x ≡ Some tx → old.tx ≡ option_map (λ (t : TxId). t.0) x → AreCoreAnswers o tx.0 reads → AreFinding reads → AreReadsOf keys reads → rows ≡ map (λ r. row_found r.1) reads → told ≡ old.told ++ history_told reads → new ≡ record old { told = told } → HasReadAll o old keys rows new
-read_so keys old new tx x reads rows told is same answered finding ops found more session = record {
-  tx = tx.0;
-  there = same ∙ there x tx is;
+pub read_so : {o : Opening} (keys : List RowKey) (old new : SessionState) (tx : TxId) (x : Option TxId) (reads : List (Op × Answer)) (rows : List (Option RowData)) (told : History) → x ≡ Some tx → old.tx ≡ option_map (λ (t : TxId). t.0) x → length keys ≤ READ_AT_ONCE → AreCoreAnswers o tx.0 reads → AreFinding reads → AreReadsOf keys reads → rows ≡ map (λ r. row_found r.1) reads → told ≡ old.told ++ history_told reads → new ≡ record old { told = told } → HasReadAll o old keys rows new
+read_so keys old new tx x reads rows told is same few answered finding ops found more session = record {
+  may = may_so keys old tx x is same few;
   reads = reads;
   answered = answered;
   ops = ops;
@@ -103,10 +107,9 @@ read_so keys old new tx x reads rows told is same answered finding ops found mor
 }
 
 -- one was refused
-pub cut_so : {o : Opening} (keys : List RowKey) (old new : SessionState) (tx : TxId) (x : Option TxId) (reads : List (Op × Answer)) (e : Refusal) (told : History) → x ≡ Some tx → old.tx ≡ option_map (λ (t : TxId). t.0) x → AreCoreAnswers o tx.0 reads → IsRefusedRead o tx.0 keys reads e → told ≡ old.told ++ history_told reads → new ≡ session_after e (record old { told = told }) → HasLeftTx o old.tx e new.tx → HasNotReadAll o old keys e new
-cut_so keys old new tx x reads e told is same answered refused more session left = Refused (record {
-  tx = tx.0;
-  there = same ∙ there x tx is;
+pub cut_so : {o : Opening} (keys : List RowKey) (old new : SessionState) (tx : TxId) (x : Option TxId) (reads : List (Op × Answer)) (e : Refusal) (told : History) → x ≡ Some tx → old.tx ≡ option_map (λ (t : TxId). t.0) x → length keys ≤ READ_AT_ONCE → AreCoreAnswers o tx.0 reads → IsRefusedRead o tx.0 keys reads e → told ≡ old.told ++ history_told reads → new ≡ session_after e (record old { told = told }) → HasLeftTx o old.tx e new.tx → HasNotReadAll o old keys e new
+cut_so keys old new tx x reads e told is same few answered refused more session left = Refused (record {
+  may = may_so keys old tx x is same few;
   reads = reads;
   answered = answered;
   refused = refused;

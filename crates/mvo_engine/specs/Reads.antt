@@ -1,5 +1,5 @@
 -- Reads at many keys, one after another under one hold of the lock of the core.
-use Rattle.std.specs.Prelude.{◌≡◌, ◌<◌, ◌++◌, ◌∷◌, ℕ, List, length, map, true, Option, None, Some, Err}
+use Rattle.std.specs.Prelude.{◌≡◌, ◌<◌, ◌≤◌, ◌++◌, ◌∷◌, ℕ, List, length, map, true, Option, None, Some, Err}
 use Rattle.std.specs.List.{AllByRecursion}
 use Rattle.mvo_types.specs.declared.answer.Answer.{Answer}
 use Rattle.mvo_types.specs.declared.answer.Answer.TheVariants.{Found, Rows, Inserted, Exists, Updated, Deleted, Absent}
@@ -55,13 +55,18 @@ abbrev pub AreReadUpTo : Opening → ℕ → List RowKey → List (Op × Answer)
 AreReadUpTo o t keys reads None = AreReadsOf keys reads
 AreReadUpTo o t keys reads (Some e) = IsRefusedRead o t keys reads e
 
+-- It is in a transaction, and there are no more keys than may be.
+pub record MayReadAll (old : SessionState) (keys : List RowKey) : Type 0 where
+  pub tx : ℕ
+  pub there : old.tx ≡ Some tx
+  pub few : length keys ≤ READ_AT_ONCE
+
 -- All were read in the transaction: the answers are the rows, and are what it was told besides.
 pub record HasReadAll (o : Opening) (old : SessionState) (keys : List RowKey)
     (rows : List (Option RowData)) (new : SessionState) : Type 0 where
-  pub tx : ℕ
-  pub there : old.tx ≡ Some tx
+  pub may : MayReadAll old keys
   pub reads : List (Op × Answer)
-  pub answered : AreCoreAnswers o tx reads
+  pub answered : AreCoreAnswers o may.tx reads
   pub ops : AreReadsOf keys reads
   pub answers : map Found rows ≡ map (λ r. r.1) reads
   pub session : new ≡ record old { told = old.told ++ history_told reads }
@@ -69,22 +74,21 @@ pub record HasReadAll (o : Opening) (old : SessionState) (keys : List RowKey)
 -- The read behind these was refused; what they were answered counts.
 pub record HasReadSome (o : Opening) (old : SessionState) (keys : List RowKey) (e : Refusal)
     (new : SessionState) : Type 0 where
-  pub tx : ℕ
-  pub there : old.tx ≡ Some tx
+  pub may : MayReadAll old keys
   pub reads : List (Op × Answer)
-  pub answered : AreCoreAnswers o tx reads
-  pub refused : IsRefusedRead o tx keys reads e
+  pub answered : AreCoreAnswers o may.tx reads
+  pub refused : IsRefusedRead o may.tx keys reads e
   pub session : new ≡ session_after e (record old { told = old.told ++ history_told reads })
   pub left : HasLeftTx o old.tx e new.tx
 
--- It is refused without a transaction, for too many keys, for want of memory, before any read or
--- with the transaction rolled back, or as one of the reads.
+-- It is refused without a transaction; else for too many keys; else for want of memory, before any
+-- read or with the transaction rolled back; or as one of the reads.
 pub data HasNotReadAll (o : Opening) (old : SessionState) (keys : List RowKey) (e : Refusal)
     (new : SessionState) : Type 0 where
   NoTx : old.tx ≡ None → e ≡ NoSuchTransaction → new ≡ old → HasNotReadAll o old keys e new
-  TooMany : READ_AT_ONCE < length keys → e ≡ TooManyReads → new ≡ old
-      → HasNotReadAll o old keys e new
-  NoMemory : e ≡ OutOfMemory → new ≡ old → HasNotReadAll o old keys e new
-  Gone : e ≡ OutOfMemory → (tx : ℕ) → old.tx ≡ Some tx → HasGone o tx
+  TooMany : (tx : ℕ) → old.tx ≡ Some tx → READ_AT_ONCE < length keys → e ≡ TooManyReads
+      → new ≡ old → HasNotReadAll o old keys e new
+  NoMemory : MayReadAll old keys → e ≡ OutOfMemory → new ≡ old → HasNotReadAll o old keys e new
+  Gone : (may : MayReadAll old keys) → e ≡ OutOfMemory → HasGone o may.tx
       → new ≡ record old { tx = None; told = new.told } → HasNotReadAll o old keys e new
   Refused : HasReadSome o old keys e new → HasNotReadAll o old keys e new

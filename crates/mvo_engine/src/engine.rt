@@ -159,7 +159,10 @@ impl<L: Run, D: Disk, G: Gate + Drop> Engine<L, D, G> {
         }
         for _ in rt.forever() {
             let mut store = self.lock_store(rt);
-            match store.flush_one() {
+            let since = self.nanos();
+            let came = store.flush_one();
+            self.count_hold(since);
+            match came {
                 Ok(true) => {}
                 Ok(false) => return Ok(store.mark()),
                 Err(refusal) => return Err(refusal),
@@ -318,6 +321,16 @@ impl<L: Run, D: Disk, G: Gate + Drop> Engine<L, D, G> {
     /// is promised: no clause speaks of these numbers.
     pub fn totals(&self) -> Totals {
         self.counting.totals()
+    }
+
+    // How many nanoseconds have gone by.
+    pub(crate) fn nanos(&self) -> u64 {
+        self.gate.nanos()
+    }
+
+    // The lock of the store was held from that moment on.
+    pub(crate) fn count_hold(&self, since: u64) {
+        self.counting.count_hold(since, self.gate.nanos());
     }
 
     // Where it is counted.

@@ -37,7 +37,7 @@ pub use core_guard::CoreGuard;
 pub use counts::add_known;
 pub use engine::Engine;
 pub use fresh::Fresh;
-pub use gate::{Gate, OpenGate};
+pub use gate::{Gate, OpenGate, TimedGate};
 pub use gathering::{Gathered, gather};
 pub use kept::Kept;
 pub use one_call::with_engine;

@@ -23,6 +23,9 @@ pub struct Totals {
     pub checkpoints: u64,
     /// How many merges were begun by `merge` and `keep`.
     pub merges: u64,
+    /// For how many nanoseconds the lock of the store was held at most, by a step of a flush or of
+    /// a job; not where it was taken by name (`lock_store`). 0 where the gate has no clock.
+    pub longest_hold: u64,
 }
 
 /// Where it is counted.
@@ -36,6 +39,7 @@ pub struct Counting {
     rotations: AtomicU64,
     checkpoints: AtomicU64,
     merges: AtomicU64,
+    longest_hold: AtomicU64,
 }
 
 impl Counting {
@@ -50,6 +54,7 @@ impl Counting {
             rotations: AtomicU64::new(0),
             checkpoints: AtomicU64::new(0),
             merges: AtomicU64::new(0),
+            longest_hold: AtomicU64::new(0),
         }
     }
 
@@ -64,12 +69,22 @@ impl Counting {
             rotations: self.rotations.load(Ordering::SeqCst),
             checkpoints: self.checkpoints.load(Ordering::SeqCst),
             merges: self.merges.load(Ordering::SeqCst),
+            longest_hold: self.longest_hold.load(Ordering::SeqCst),
         }
     }
 
     /// A session has committed.
     pub fn count_commit(&self) {
         one_more(&self.commits);
+    }
+
+    /// The lock of the store was held from one moment to another, in nanoseconds. It is counted
+    /// before it is given back, so nobody else does so meanwhile.
+    pub fn count_hold(&self, since: u64, until: u64) {
+        let hold = until.saturating_sub(since);
+        if hold > self.longest_hold.load(Ordering::SeqCst) {
+            self.longest_hold.store(hold, Ordering::SeqCst);
+        }
     }
 
     /// A group was closed.

@@ -1,7 +1,7 @@
 //! What is due, over counts alone: of a store that writes its log, checkpoints and merges.
 
 use crate::equal::same;
-use mvo_keep::{Chore, Policy, Standing, due};
+use mvo_keep::{Chore, Policy, Served, Standing, due};
 use mvo_pair::Pair;
 use mvo_store::{Due, StoreCall};
 use mvo_types::Stamp;
@@ -23,6 +23,7 @@ fn idle(alloc: Global) -> Standing {
         earlier_mark: Stamp(7),
         oldest_begin: Stamp(9),
         may_collect: false,
+        served: Served::Files,
     }
 }
 
@@ -183,14 +184,9 @@ fn drawn_sizes_fill_no_store(rt: HostRuntime) -> Result<(), Fail> {
     Ok(())
 }
 
-// Everything is due; what comes first is done, and then what comes next.
-#[test]
-fn what_is_due_comes_in_turn(rt: HostRuntime) -> Result<(), Fail> {
-    let alloc = rt.alloc();
-    let policy = Policy::standard();
-    let call = StoreCall::Step(Due::Data);
+/// All is due, and the files come before the memory.
+fn all_due(alloc: Global, call: StoreCall) -> Result<Standing, AllocError> {
     let mut standing = idle(alloc);
-    same(&rt, &due(&policy, &standing), &None);
     for number in 0..48u64 {
         standing.pairs.push(pair_of(1_000 + number, 0))?;
     }
@@ -204,6 +200,19 @@ fn what_is_due_comes_in_turn(rt: HostRuntime) -> Result<(), Fail> {
     standing.earlier_mark = Stamp(5);
     standing.oldest_begin = Stamp(6);
     standing.may_collect = true;
+    standing.served = Served::Memory(16);
+    Ok(standing)
+}
+
+// Everything is due, and the files come first; what is first of them is done, and then what comes
+// next.
+#[test]
+fn what_is_due_comes_in_turn(rt: HostRuntime) -> Result<(), Fail> {
+    let alloc = rt.alloc();
+    let policy = Policy::standard();
+    let call = StoreCall::Step(Due::Data);
+    same(&rt, &due(&policy, &idle(alloc)), &None);
+    let mut standing = all_due(alloc, call)?;
     same(&rt, &due(&policy, &standing), &Some(Chore::Flush));
     standing.has_group = false;
     same(&rt, &due(&policy, &standing), &Some(Chore::Step(call)));
@@ -223,6 +232,47 @@ fn what_is_due_comes_in_turn(rt: HostRuntime) -> Result<(), Fail> {
     same(&rt, &due(&policy, &standing), &Some(Chore::Collect(1_024)));
     standing.may_collect = false;
     same(&rt, &due(&policy, &standing), &None);
+    Ok(())
+}
+
+/// With a file to be emptied: what was served last, whether a trim and a collection are due, and
+/// what is done.
+const TURNS: [(Served, bool, bool, Chore); 12] = [
+    (Served::Files, true, true, Chore::Trim(Stamp(5))),
+    (Served::Files, false, true, Chore::Collect(1_024)),
+    (Served::Files, true, false, Chore::Trim(Stamp(5))),
+    (Served::Files, false, false, Chore::Reclaim),
+    (Served::Memory(0), true, true, Chore::Collect(1_024)),
+    (Served::Memory(0), true, false, Chore::Reclaim),
+    (Served::Memory(15), true, true, Chore::Collect(1_024)),
+    (Served::Memory(15), false, false, Chore::Reclaim),
+    (Served::Memory(16), true, true, Chore::Reclaim),
+    (Served::Memory(16), false, true, Chore::Reclaim),
+    (Served::Memory(17), true, true, Chore::Reclaim),
+    (Served::Memory(17), false, false, Chore::Reclaim),
+];
+
+// Neither the files nor the memory wait for ever where the others always have something to do.
+#[test]
+fn files_and_memory_are_served_by_turns(rt: HostRuntime) -> Result<(), Fail> {
+    let policy = Policy::standard();
+    let mut standing = idle(rt.alloc());
+    standing.may_reclaim = true;
+    standing.tale_length = 1;
+    standing.tale_start = Stamp(3);
+    standing.earlier_mark = Stamp(5);
+    for (last, may_trim, may_collect, chore) in TURNS {
+        standing.served = last;
+        standing.oldest_begin = if may_trim { Stamp(6) } else { Stamp(5) };
+        standing.may_collect = may_collect;
+        same(&rt, &due(&policy, &standing), &Some(chore));
+    }
+    standing.may_reclaim = false;
+    standing.may_collect = true;
+    standing.served = Served::Memory(16);
+    same(&rt, &due(&policy, &standing), &Some(Chore::Collect(1_024)));
+    standing.oldest_begin = Stamp(6);
+    same(&rt, &due(&policy, &standing), &Some(Chore::Trim(Stamp(5))));
     Ok(())
 }
 

@@ -10,6 +10,7 @@ mod durable;
 mod ending;
 mod gathering;
 mod held_disk;
+mod holds;
 mod jobs;
 mod kept;
 mod kinds;

@@ -8,6 +8,8 @@ use Rattle.mvo_keep.specs.declared.policy.Policy.{Policy}
 use Rattle.mvo_keep.specs.declared.standing.Standing.{Standing}
 use Rattle.mvo_keep.specs.declared.chore.Chore.{Chore}
 use Rattle.mvo_keep.specs.declared.chore.Chore.TheVariants.{Flush, Step, Reclaim, Merge, Checkpoint, Rotate, Trim, Collect}
+use Rattle.mvo_keep.specs.declared.served.Served.{Served}
+use Rattle.mvo_keep.specs.declared.served.Served.TheVariants.{Files, Memory}
 use Rattle.mvo_keep.specs.declared.choice.Choice.{Choice}
 use Rattle.mvo_keep.specs.declared.choice.Choice.TheVariants.{LeastLive, LastSmall, MostDead}
 use Rattle.mvo_pair.specs.declared.pair.Pair.{Pair}
@@ -20,6 +22,7 @@ standard_policy = record {
   most_live = 4194304;
   many_dead = 65536;
   collected = 1024;
+  in_a_row = 16;
 }
 
 -- ---- the conditions
@@ -80,23 +83,44 @@ merge_if test chore = if test then chore else None
 abbrev pub tidying : Policy → Standing → Option Chore
 tidying p s = first_chore (merge_chosen_by p LastSmall s ∷ merge_chosen_by p MostDead s ∷ [])
 
--- of the memory
-abbrev pub forgetting : Policy → Standing → Option Chore
-forgetting p s = first_chore (
-    chore_when (may_trim s) (Trim s.earlier_mark)
-    ∷ chore_when s.may_collect (Collect p.collected) ∷ [])
-
-abbrev pub due_chore : Policy → Standing → Option Chore
-due_chore p s = first_chore (
-    chore_when (has_to_flush s) Flush
-    ∷ step_chore s.step
+-- of the files
+abbrev pub of_files : Policy → Standing → Option Chore
+of_files p s = first_chore (
+    step_chore s.step
     ∷ chore_when s.may_reclaim Reclaim
     ∷ merge_if (has_to_merge p s) (merge_chosen_by p LeastLive s)
     ∷ chore_when (may_checkpoint s) Checkpoint
     ∷ chore_when (has_to_rotate p s) Rotate
     ∷ tidying p s
-    ∷ forgetting p s
     ∷ [])
+
+-- of the stored commits
+abbrev pub trimming : Standing → Option Chore
+trimming s = chore_when (may_trim s) (Trim s.earlier_mark)
+
+-- of the versions
+abbrev pub collecting : Policy → Standing → Option Chore
+collecting p s = chore_when s.may_collect (Collect p.collected)
+
+-- Files, stored commits and versions are served by turns, so that none waits where another always
+-- has something to do. A collection may be repeated a few times before the files come.
+abbrev pub trim_first : Policy → Standing → Option Chore
+trim_first p s = first_chore (trimming s ∷ collecting p s ∷ of_files p s ∷ [])
+
+abbrev pub collection_first : Policy → Standing → Option Chore
+collection_first p s = first_chore (collecting p s ∷ of_files p s ∷ trimming s ∷ [])
+
+abbrev pub files_first : Policy → Standing → Option Chore
+files_first p s = first_chore (of_files p s ∷ trimming s ∷ collecting p s ∷ [])
+
+abbrev pub next_served : Policy → Standing → Served → Option Chore
+next_served p s Files = trim_first p s
+next_served p s (Memory times) =
+    if nat_lt times p.in_a_row then collection_first p s else files_first p s
+
+abbrev pub due_chore : Policy → Standing → Option Chore
+due_chore p s = first_chore (
+    chore_when (has_to_flush s) Flush ∷ next_served p s s.served ∷ [])
 
 -- ---- of the store
 

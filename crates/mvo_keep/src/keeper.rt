@@ -1,6 +1,7 @@
 use crate::chore::Chore;
 use crate::remains::Remains;
-use crate::seen::{begin_or_above, is_above, step_of};
+use crate::seen::{begin_or_above, is_end_above, step_of};
+use crate::served::Served;
 use crate::sight::Sight;
 use crate::standing::Standing;
 use mvo_pair::Pair;
@@ -16,6 +17,8 @@ pub struct Keeper {
     mark: Stamp,
     /// Whether its last chore was a flush, whatever came of it.
     has_flushed: bool,
+    /// What the last chore but for flushes was for.
+    served: Served,
     /// The generation of the manifest at which no file was left to be emptied, if one is known.
     reclaimed: Option<u64>,
     /// Where the tale started when no garbage was left, if that is known.
@@ -35,6 +38,7 @@ impl Keeper {
             last_end: None,
             mark: Stamp(0),
             has_flushed: false,
+            served: Served::Files,
             reclaimed: None,
             collected: None,
         }
@@ -48,7 +52,7 @@ impl Keeper {
         let is_due = !self.has_flushed;
         Standing {
             has_group: is_due && (sight.has_group || sight.durable < sight.closed),
-            has_commits: is_due && is_above(self.last_end, sight.closed),
+            has_commits: is_due && is_end_above(self.last_end, sight.closed),
             step: step_of(sight.step),
             may_reclaim: self.reclaimed != Some(sight.generation),
             pairs,
@@ -59,6 +63,7 @@ impl Keeper {
             earlier_mark: self.mark,
             oldest_begin: begin_or_above(sight.oldest),
             may_collect: self.collected != Some(sight.tale_start),
+            served: self.served,
         }
     }
 
@@ -70,6 +75,7 @@ impl Keeper {
             last_end: sight.last_end,
             mark: sight.durable,
             has_flushed: false,
+            served: self.served,
             reclaimed: self.reclaimed,
             collected: self.collected,
         }
@@ -81,6 +87,7 @@ impl Keeper {
     {
         let mut keeper = self.after_look(sight);
         keeper.has_flushed = matches!(chore, Chore::Flush);
+        keeper.served = self.served.after(chore);
         match came {
             Ok(Remains::NoFile) => keeper.reclaimed = Some(sight.generation),
             Ok(Remains::NoGarbage) => keeper.collected = Some(sight.tale_start),

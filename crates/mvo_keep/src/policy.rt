@@ -11,6 +11,8 @@ pub struct Policy {
     pub many_dead: u64,
     /// How many versions are collected in one turn, at most.
     pub collected: u64,
+    /// So many collections come in a row, at most, where something is due of the files.
+    pub in_a_row: u64,
 }
 
 impl Policy {
@@ -18,7 +20,7 @@ impl Policy {
     ghost use Rattle.mvo_keep.specs.Due.{standard_policy};
 
     /// The one that serves: 48 pairs, segments of 16 MiB, 4,194,304 live records, 65,536 dead ones,
-    /// 1,024 versions.
+    /// 1,024 versions, 16 collections in a row.
     pub fn standard() -> Policy
         ensures { result ≡ standard_policy }
     {
@@ -28,6 +30,7 @@ impl Policy {
             most_live: 4_194_304,
             many_dead: 65_536,
             collected: 1_024,
+            in_a_row: 16,
         }
     }
 }

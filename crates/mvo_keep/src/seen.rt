@@ -2,7 +2,7 @@
 ghost use Rattle.std.specs.Prelude.{◌≡◌};
 ghost use Rattle.std.specs.Option.{option_map};
 ghost use Rattle.mvo_store.specs.declared.call.StoreCall.TheVariants.{Step as step_call};
-ghost use Rattle.mvo_keep.specs.Keeping.{begin_or_above, is_above};
+ghost use Rattle.mvo_keep.specs.Keeping.{begin_or_above, is_end_above};
 
 use mvo_store::{Due, StoreCall};
 use mvo_types::{MAX_STAMP, Stamp, TxId};
@@ -28,8 +28,8 @@ pub fn begin_or_above(oldest: Option<TxId>) -> Stamp
 }
 
 /// Whether there is such an end, and it is above the mark.
-pub fn is_above(end: Option<Stamp>, mark: Stamp) -> bool
-    ensures { result ≡ is_above end mark }
+pub fn is_end_above(end: Option<Stamp>, mark: Stamp) -> bool
+    ensures { result ≡ is_end_above end mark }
 {
     match end {
         Some(end) => mark < end,

@@ -1,3 +1,4 @@
+use crate::served::Served;
 use mvo_pair::Pair;
 use mvo_store::StoreCall;
 use mvo_types::Stamp;
@@ -29,4 +30,6 @@ pub struct Standing {
     pub oldest_begin: Stamp,
     /// Whether a version may be garbage: it isn't known that there is none.
     pub may_collect: bool,
+    /// What the last chore but for flushes was for.
+    pub served: Served,
 }

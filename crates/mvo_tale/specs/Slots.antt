@@ -58,11 +58,11 @@ reading_begin_of (Settled x) = None
 reading_begin_of Empty = None
 
 -- where it ends, or would end; of a read-only one that is its begin
-abbrev pub end_of : TalePlace → Option ℕ
-end_of (Open e) = Some e.0
-end_of (Reading b) = Some b.0
-end_of (Settled x) = Some x.end
-end_of Empty = None
+abbrev pub place_end : TalePlace → Option ℕ
+place_end (Open e) = Some e.0
+place_end (Reading b) = Some b.0
+place_end (Settled x) = Some x.end
+place_end Empty = None
 
 -- where it ends, if it does
 abbrev pub pending_end_of : TalePlace → Option ℕ
@@ -78,8 +78,8 @@ stored_of (Settled x) = Some x
 stored_of Empty = None
 
 -- the end at the back, if that place isn't empty
-abbrev pub last_end : List TalePlace → Option ℕ
-last_end slots = option_and_then end_of (slice_get slots (length slots - 1))
+abbrev pub end_at_back : List TalePlace → Option ℕ
+end_at_back slots = option_and_then place_end (slice_get slots (length slots - 1))
 
 -- the end of the Preparing transaction at the place, if one is there
 abbrev pub open_end_at : List TalePlace → ℕ → Option ℕ

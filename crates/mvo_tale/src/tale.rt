@@ -62,7 +62,7 @@ impl Tale {
     ghost use Rattle.mvo_tale.specs.declared.tale_place.TalePlace.TheVariants.{Open, Reading};
     ghost use Rattle.mvo_tale.specs.declared.tale_place.TalePlace.TheVariants.{Settled, Empty};
     ghost use Rattle.mvo_tale.specs.Slots.{AreRising, ends, open_ends};
-    ghost use Rattle.mvo_tale.specs.Slots.{pending_end_at, stored_at, closed_up, last_end};
+    ghost use Rattle.mvo_tale.specs.Slots.{pending_end_at, stored_at, closed_up, end_at_back};
     ghost use Rattle.mvo_tale.specs.Forgetting.{forgotten, slot_or_empty};
     ghost use Rattle.mvo_tale.specs.Next.{AreGroupedTo, AreNextRecords};
 
@@ -159,7 +159,7 @@ impl Tale {
 
     /// The end at the back, if that place isn't empty.
     pub fn last_end(&self) -> Option<Stamp>
-        ensures { option_map (λ e. e.0) result ≡ last_end self.now }
+        ensures { option_map (λ e. e.0) result ≡ end_at_back self.now }
     {
         let count = self.len();
         if count == 0 {

@@ -17,12 +17,12 @@ pub enum TalePlace {
 impl TalePlace {
     ghost use Rattle.std.specs.Prelude.{◌≡◌};
     ghost use Rattle.std.specs.Option.{option_copied, option_map};
-    ghost use Rattle.mvo_tale.specs.Slots.{end_of, is_empty, stored_of};
+    ghost use Rattle.mvo_tale.specs.Slots.{place_end, is_empty, stored_of};
     ghost use Rattle.mvo_tale.specs.Forgetting.{may_go};
 
     /// Where the transaction ends, or would end; of an empty place nothing.
     pub fn end(&self) -> Option<Stamp>
-        ensures { option_map (λ e. e.0) result ≡ end_of self.now }
+        ensures { option_map (λ e. e.0) result ≡ place_end self.now }
     {
         match self {
             TalePlace::Open(end) => Some(*end),

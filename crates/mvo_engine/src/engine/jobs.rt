@@ -67,7 +67,11 @@ impl<L: Run, D: Disk, G: Gate + Drop> Engine<L, D, G> {
     {
         self.gate.pass(Place::Turn);
         let turn = self.turns.take(rt);
-        let done = self.guard_store(rt).call(call);
+        let mut store = self.guard_store(rt);
+        let since = self.nanos();
+        let done = store.call(call);
+        self.count_hold(since);
+        drop(store);
         drop(turn);
         self.counting.count_call(call, &done);
         done

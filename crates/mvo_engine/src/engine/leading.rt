@@ -42,7 +42,10 @@ impl<L: Run, D: Disk, G: Gate + Drop> Engine<L, D, G> {
         ensures { IfErr result (WasNotFlushed D.Disk) }
     {
         let mut store = self.guard_store(rt);
-        match store.flush_one() {
+        let since = self.nanos();
+        let came = store.flush_one();
+        self.count_hold(since);
+        match came {
             Ok(is_flushed) => Ok(is_flushed),
             Err(refusal) => Err(refusal),
         }

@@ -14,7 +14,7 @@ use std::alloc::AllocError;
 use std::sync::Wait;
 
 /// So many keys are read at most at once.
-pub const READ_AT_ONCE: usize = 64;
+const READ_AT_ONCE: usize = 64;
 
 impl<'e, L: Run, D: Disk, G: Gate + Drop> Session<'e, L, D, G> {
     ghost use Rattle.std.specs.Prelude.{◌≡◌, IfOk, IfErr};

@@ -33,6 +33,7 @@ fn policy() -> Policy {
         most_live: 4_194_304,
         many_dead: 4,
         collected: 200,
+        in_a_row: 16,
     }
 }
 
@@ -43,18 +44,20 @@ const FLUSH: Kept = Kept::Did(Chore::Flush);
 const COLLECT: Kept = Kept::Did(Chore::Collect(200));
 
 /// In a new store there is nothing to do, once it has looked.
-const NEW: [Kept; 4] = [RECLAIM, COLLECT, Kept::Idle, Kept::Idle];
+const NEW: [Kept; 4] = [COLLECT, RECLAIM, Kept::Idle, Kept::Idle];
 
 /// The row is put by 2.
 const PUT: [Line; 1] = [(One(Put(1)), Number(2))];
 
 /// It isn't in a group at the first look, and still isn't at the second. Then its segment is full:
-/// a fresh one is installed, and the sealed one goes into a pair. Its file is emptied, the commit
-/// goes from memory, and there is no garbage.
+/// a fresh one is installed, and the sealed one goes into a pair. Its file is emptied. Behind the
+/// first step of these the commit goes from memory, and there is no garbage.
 const PUT_AWAY: [Kept; 19] = [
     Kept::Idle,
     FLUSH,
     Kept::Did(Chore::Rotate),
+    Kept::Did(Chore::Trim(Stamp(2))),
+    COLLECT,
     Kept::Did(Chore::Step(CLOSE)),
     Kept::Did(Chore::Step(BODY)),
     Kept::Did(Chore::Step(OPEN)),
@@ -67,8 +70,6 @@ const PUT_AWAY: [Kept; 19] = [
     Kept::Did(Chore::Step(OPEN)),
     RECLAIM,
     RECLAIM,
-    Kept::Did(Chore::Trim(Stamp(2))),
-    COLLECT,
     Kept::Idle,
     Kept::Idle,
 ];
@@ -116,6 +117,7 @@ fn counted() -> Totals {
         rotations: 1,
         checkpoints: 1,
         merges: 0,
+        longest_hold: 0,
     }
 }
 
@@ -167,9 +169,11 @@ const HALF_WAY: [Line; 3] = [
     (Store(Call(RotateWrite)), Ready),
 ];
 
-/// It is brought to its end first.
-const BROUGHT_ON: [Kept; 5] = [
+/// It is brought to its end first; meanwhile the commit goes from memory, and what it replaced.
+const BROUGHT_ON: [Kept; 7] = [
     Kept::Did(Chore::Step(CLOSE)),
+    Kept::Did(Chore::Trim(Stamp(4))),
+    COLLECT,
     Kept::Did(Chore::Step(BODY)),
     Kept::Did(Chore::Step(OPEN)),
     RECLAIM,

@@ -7,6 +7,7 @@ use super::depending::{Passes, depend};
 use super::down::go_down;
 use super::gathering::gather_all;
 use super::held_disk::Hold;
+use super::holds::{hold, hold_timed};
 use super::jobs::do_jobs;
 use super::kept::{keep_alone, keep_beside};
 use super::lasting::{last_a_day, make_many, stay};
@@ -57,6 +58,10 @@ pub enum Alone<'t> {
     Staying,
     /// Old transactions are rolled back.
     Older,
+    /// The lock of the store is held, by a clock that says what it is to say.
+    Held,
+    /// The same, by the system's clock.
+    Timed,
 }
 
 /// What several threads do, and the words between them.
@@ -106,6 +111,8 @@ fn go_alone<L: Run, D: Disk, G: Gate + Drop, R: Abort + Wait>(
         Alone::Retiring => make_many(rt, engine),
         Alone::Staying => stay(rt, alloc, engine),
         Alone::Older => give_way(rt, alloc, engine),
+        Alone::Held => hold(rt, alloc, engine),
+        Alone::Timed => hold_timed(rt, alloc, engine),
     }
 }
 

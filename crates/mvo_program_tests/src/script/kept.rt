@@ -18,6 +18,7 @@ fn policy() -> Policy {
         most_live: 4_194_304,
         many_dead: 4,
         collected: 200,
+        in_a_row: 16,
     }
 }
 
@@ -36,15 +37,17 @@ const RECLAIM: Option<Chore> = Some(Chore::Reclaim);
 const COLLECT: Option<Chore> = Some(Chore::Collect(200));
 
 /// In a new store there is nothing to do, once it has looked.
-const NEW: [Option<Chore>; 4] = [RECLAIM, COLLECT, None, None];
+const NEW: [Option<Chore>; 4] = [COLLECT, RECLAIM, None, None];
 
 /// A commit isn't in a group at the first look, and still isn't at the second. Then its segment is
-/// full: a fresh one is installed, and the sealed one goes into a pair. Its file is emptied, the
-/// commit goes from memory, and there is no garbage.
+/// full: a fresh one is installed, and the sealed one goes into a pair. Its file is emptied. Behind
+/// the first step of these the commit goes from memory, and there is no garbage.
 const PUT_AWAY: [Option<Chore>; 19] = [
     None,
     Some(Chore::Flush),
     Some(Chore::Rotate),
+    Some(Chore::Trim(Stamp(2))),
+    COLLECT,
     CLOSE,
     BODY,
     OPEN,
@@ -57,8 +60,6 @@ const PUT_AWAY: [Option<Chore>; 19] = [
     OPEN,
     RECLAIM,
     RECLAIM,
-    Some(Chore::Trim(Stamp(2))),
-    COLLECT,
     None,
     None,
 ];

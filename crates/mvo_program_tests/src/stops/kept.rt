@@ -20,6 +20,7 @@ fn policy() -> Policy {
         most_live: 4_194_304,
         many_dead: 65_536,
         collected: 2,
+        in_a_row: 16,
     }
 }
 
