@@ -54,6 +54,8 @@ pub struct StoreStats {
     pub dead: u64,
     /// The next step of a job that runs (`Store::next_step`).
     pub step: Option<Due>,
+    /// How many closed groups are seen to wait in the ring. No clause says so.
+    pub waiting: usize,
     /// How many commits that wrote came to it in groups since the opening. No clause says so.
     pub grouped: u64,
     /// How many bytes of log these groups have, without the frames round them. No clause says so.

@@ -52,7 +52,7 @@ impl<L: Run, D: Disk, G: Gate + Drop> Engine<L, D, G> {
         ensures ok { IfOk result (λ seen. WasLookedAt D.Disk L.opening seen.0 seen.1.items) }
         ensures err { IfErr result (λ e. e ≡ Refusal.OutOfMemory) }
     {
-        let store = self.enter_store(rt);
+        let mut store = self.enter_store(rt);
         match store.pairs(self.alloc) {
             Ok(pairs) => Ok((store.stats(), pairs)),
             Err(_) => Err(Refusal::OutOfMemory),

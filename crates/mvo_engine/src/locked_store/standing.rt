@@ -15,11 +15,13 @@ impl<L: Run, D: Disk> LockedStore<L, D> {
     ghost use Rattle.mvo_engine.specs.Sound.{IsSoundStore};
     ghost use Rattle.mvo_engine.specs.Stats.{IsStoreStatsOf};
 
-    /// How it stands.
-    pub fn stats(&self) -> StoreStats
-        ensures stats { IsStoreStatsOf self.now result }
-        ensures sound { IsSoundStore D.Disk L.opening self.now.store self.now.received }
+    /// How it stands. It changes nothing.
+    pub fn stats(&mut self) -> StoreStats
+        ensures stats { IsStoreStatsOf self.old result }
+        ensures sound { IsSoundStore D.Disk L.opening self.old.store self.old.received }
+        ensures same { self.new ≡ self.old }
     {
+        let waiting = self.ring.slots();
         let manifest = self.store.manifest();
         StoreStats {
             durable: self.store.mark(),
@@ -31,6 +33,7 @@ impl<L: Run, D: Disk> LockedStore<L, D> {
             records: records_in(manifest.pairs()),
             dead: dead_in(manifest.pairs()),
             step: self.store.next_step(),
+            waiting,
             grouped: self.taken.commits,
             log_bytes: self.taken.bytes,
         }

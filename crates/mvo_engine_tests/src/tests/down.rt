@@ -10,7 +10,7 @@ use super::steps::{Line, follow_new};
 use super::told::Told::{Done, Is, Number};
 use super::told::{DISK_FAULT, DOWN, stamped};
 use super::trial::{Alone, Trial, tried};
-use crate::equal::{holds, same_at};
+use crate::equal::{holds, same, same_at};
 use mvo_disk::{Disk, MemDisk};
 use mvo_engine::{Engine, Gate, OpenGate, Run, Session};
 use mvo_store::StoreCall::Reclaim;
@@ -54,7 +54,9 @@ pub fn go_down<L: Run, D: Disk, G: Gate + Drop, R: Abort + Wait>(
 ) -> Result<(), Refusal> {
     follow_new(rt, alloc, engine, &GONE_DOWN)?;
     fill_the_ring(rt, alloc, engine)?;
-    follow_new(rt, alloc, engine, &RING_IS_FULL)
+    follow_new(rt, alloc, engine, &RING_IS_FULL)?;
+    same(rt, &engine.stats(rt).store.waiting, &64);
+    Ok(())
 }
 
 fn fill_the_ring<L: Run, D: Disk, G: Gate + Drop, R: Abort + Wait>(

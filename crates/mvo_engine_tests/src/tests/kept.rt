@@ -100,6 +100,7 @@ fn put_away() -> Stats {
             records: 1,
             dead: 0,
             step: None,
+            waiting: 0,
             grouped: 1,
             log_bytes: 49,
         },
