@@ -157,8 +157,9 @@ const OF_KIND: [Line; 30] = [
     (One(Commit), Number(8)),
 ];
 
-const OF_MANY: [Line; 16] = [
+const OF_MANY: [Line; 17] = [
     (One(Of(Kind::All(1))), NO_TRANSACTION),
+    (One(Of(Kind::All(65))), NO_TRANSACTION),
     (One(Begin), Number(1)),
     (One(Of(Kind::All(0))), Number(0)),
     (One(Of(Kind::All(3))), Number(0)),
