@@ -9,7 +9,7 @@ use Rattle.mvo_types.specs.declared.op.Op.TheVariants.{Read}
 use Rattle.mvo_types.specs.declared.answer.Answer.TheVariants.{Found}
 use Rattle.mvo_types.specs.declared.ids.TxId.{TxId}
 use Rattle.mvo_types.specs.declared.refusal.Refusal.{Refusal}
-use Rattle.mvo_types.specs.declared.refusal.Refusal.TheVariants.{OutOfMemory}
+use Rattle.mvo_types.specs.declared.refusal.Refusal.TheVariants.{OutOfMemory, TooManyReads}
 use Rattle.mvo_types.specs.declared.row.RowKey.{RowKey}
 use Rattle.mvo_types.specs.RowData.{RowData}
 use Rattle.mvo_model.specs.History.{History}
@@ -25,7 +25,7 @@ use Rattle.mvo_engine.specs.Asked.{WasAnswered, HasGone, HasLeftTx}
 use Rattle.mvo_engine.specs.Asking.{IsFinding}
 use Rattle.mvo_engine.specs.Refusing.{refuses_operation}
 use Rattle.mvo_engine.specs.Reads.{AreCoreAnswers, AreFinding, AreReadsOf, IsRefusedRead, MayReadAll, HasReadAll, HasNotReadAll, row_found}
-use Rattle.mvo_engine.specs.Reads.HasNotReadAll.{Gone, Refused}
+use Rattle.mvo_engine.specs.Reads.HasNotReadAll.{TooMany, Gone, Refused}
 use Rattle.mvo_engine.specs.declared.session.reading_all.TheConstants.{READ_AT_ONCE}
 use Rattle.mvo_engine.proofs.Asking.{answered_so}
 
@@ -85,7 +85,7 @@ there : (x : Option TxId) (tx : TxId) → x ≡ Some tx → option_map (λ (t : 
 there x tx is = ap (option_map (λ (t : TxId). t.0)) is
 
 -- and there are few keys
-may_so : (keys : List RowKey) (old : SessionState) (tx : TxId) (x : Option TxId) → x ≡ Some tx → old.tx ≡ option_map (λ (t : TxId). t.0) x → length keys ≤ READ_AT_ONCE → MayReadAll old keys
+abbrev may_so : (keys : List RowKey) (old : SessionState) (tx : TxId) (x : Option TxId) → x ≡ Some tx → old.tx ≡ option_map (λ (t : TxId). t.0) x → length keys ≤ READ_AT_ONCE → MayReadAll old keys
 may_so keys old tx x is same few = record { tx = tx.0; there = same ∙ there x tx is; few = few }
 
 -- it was rolled back, since memory was refused
@@ -94,6 +94,10 @@ gone_so {o} keys old new tx x told is same few gone session =
     let may : MayReadAll old keys = may_so keys old tx x is same few in
     let left : new ≡ record old { tx = None; told = new.told } = session ∙ ap (λ (h : History). record old { tx = None; told = h }) (sym (ap (λ (s : SessionState). s.told) session)) in
     Gone may refl (subst (λ (y : Option ℕ). IfSome y (HasGone o)) may.there gone) left
+
+-- there are too many keys
+pub many_so : {o : Opening} (keys : List RowKey) (old : SessionState) (tx : TxId) (x : Option TxId) → x ≡ Some tx → old.tx ≡ option_map (λ (t : TxId). t.0) x → READ_AT_ONCE < length keys → HasNotReadAll o old keys TooManyReads old
+many_so keys old tx x is same many = TooMany tx.0 (same ∙ there x tx is) many refl refl
 
 -- all were read
 pub read_so : {o : Opening} (keys : List RowKey) (old new : SessionState) (tx : TxId) (x : Option TxId) (reads : List (Op × Answer)) (rows : List (Option RowData)) (told : History) → x ≡ Some tx → old.tx ≡ option_map (λ (t : TxId). t.0) x → length keys ≤ READ_AT_ONCE → AreCoreAnswers o tx.0 reads → AreFinding reads → AreReadsOf keys reads → rows ≡ map (λ r. row_found r.1) reads → told ≡ old.told ++ history_told reads → new ≡ record old { told = told } → HasReadAll o old keys rows new

@@ -2,8 +2,8 @@ use Rattle.mvo_engine.proofs.engine.Engine.stats.Goals as goal
 
 pub returns : goal.returns
 returns g c = (
+  _,
   c.deref.result.now,
-  c.deref-2.result.now,
   record {
     store_sound = c.stats-store.ensures.sound;
     store_stats = c.stats-store.ensures.stats;

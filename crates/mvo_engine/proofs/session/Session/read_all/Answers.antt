@@ -1,9 +1,14 @@
-use Rattle.std.proofs.Common.{◌≤◌, length, arith, refl, sym, ap, subst}
+use Rattle.std.proofs.Common.{◌<◌, ◌≤◌, length, arith, refl, sym, ap, subst}
 use Rattle.mvo_engine.specs.Reads.{AreReadUpTo}
 use Rattle.mvo_engine.specs.States.{SessionState}
 use Rattle.mvo_engine.specs.declared.session.reading_all.TheConstants.{READ_AT_ONCE}
-use Rattle.mvo_engine.proofs.ReadingMany.{gone_so, read_so, cut_so}
+use Rattle.mvo_engine.proofs.ReadingMany.{many_so, gone_so, read_so, cut_so}
 use Rattle.mvo_engine.proofs.session.Session.read_all.Goals as goal
+
+pub returns-then-keys-gt-READ_AT_ONCE-clause-err : goal.returns-then-keys-gt-READ_AT_ONCE-clause-err
+returns-then-keys-gt-READ_AT_ONCE-clause-err g c =
+    let many : READ_AT_ONCE < length c.args.keys.now = grind arith in
+    many_so c.args.keys.now c.args.self.now c.in-Some.tx c.self.inside.tx c.in-Some.is (sym (ap (λ (s : SessionState). s.tx) c.self.view_is)) many
 
 pub returns-in_default-read_each-clause-err : goal.returns-in_default-read_each-clause-err
 returns-in_default-read_each-clause-err g c =
