@@ -7,6 +7,8 @@ use Rattle.mvo_types.specs.AnswerData.{AnswerData, answer_data}
 use Rattle.mvo_types.specs.AnswerData.AnswerData.{Inserted, Updated}
 use Rattle.mvo_types.specs.Keys.{Map}
 use Rattle.mvo_representation.specs.Indexes.{all_versions}
+use Rattle.mvo_txn.specs.Txns.{state_of}
+use Rattle.mvo_collect.specs.Waiting.{WaitingData, AreWaiting}
 use Rattle.mvo_collect.specs.declared.collection.Collection.{Collection}
 use Rattle.mvo_collect.specs.declared.collection.Collection.TheVariants.{Collected, Nothing}
 use Rattle.mvo_core.specs.Data.{CoreData}
@@ -18,6 +20,14 @@ version_count c = length (all_versions c.versions.slots)
 -- the places in the order of sorts
 abbrev pub place_count : CoreData → ℕ
 place_count c = fin.len c.versions.places
+
+-- Dead versions and those that were ended wait, so many of each: all that are garbage are among
+-- them, or may come to be.
+pub record AreWaitingCounts (c : CoreData) (counts : ℕ × ℕ) : Type 0 where
+  pub waiting : WaitingData
+  pub all : AreWaiting c.table.clock (state_of c.table) c.versions.slots waiting
+  pub dead : counts.0 ≡ length waiting.dead
+  pub ended : counts.1 ≡ length waiting.ended
 
 -- one for each of these rows
 abbrev pub HasOneEach : Map → CoreData → Type 0

@@ -14,7 +14,7 @@ impl Core {
     ghost use Rattle.std.specs.FinMap as map;
     ghost use Rattle.mvo_txn.specs.Next.{IsNextBegin};
     ghost use Rattle.std.specs.Option.{option_map};
-    ghost use Rattle.mvo_core.specs.Counting.{place_count, version_count};
+    ghost use Rattle.mvo_core.specs.Counting.{AreWaitingCounts, place_count, version_count};
     ghost use Rattle.mvo_core.specs.Seen.{last_end_of};
     ghost use Rattle.mvo_core.specs.Unfinished.{IsNextActive, IsNextActiveWhole};
 
@@ -34,9 +34,11 @@ impl Core {
     }
 
     /// How many versions wait to be collected: first of those that aborted transactions put, then
-    /// of those that committed ones replaced or deleted, which readers may see still. No clause
-    /// says so: contracts don't see what waits.
-    pub fn waiting_counts(&self) -> (usize, usize) {
+    /// of those that committed ones replaced or deleted, which readers may see still. Some that
+    /// wait may be gone from their keys already.
+    pub fn waiting_counts(&self) -> (usize, usize)
+        ensures { AreWaitingCounts self.now result }
+    {
         (self.waiting.dead_count(), self.waiting.ended_count())
     }
 

@@ -5,7 +5,7 @@ use Rattle.std.specs.Option.{option_map}
 use Rattle.std.specs.FinMap as map
 use Rattle.mvo_disk.specs.declared.disk.Disk.{Ghosts}
 use Rattle.mvo_txn.specs.Next.{IsNextBegin}
-use Rattle.mvo_core.specs.Counting.{place_count, version_count}
+use Rattle.mvo_core.specs.Counting.{AreWaitingCounts, place_count, version_count}
 use Rattle.mvo_core.specs.Seen.{clock_of, closed_mark_of, last_end_of, tale_of}
 use Rattle.mvo_store.specs.Causes.{has_group}
 use Rattle.mvo_store.specs.Jobs.{next_due}
@@ -27,6 +27,7 @@ pub record IsCoreStatsOf (c : CoreState) (s : CoreStats) : Type 0 where
   pub places : s.places ≡ length (tale_of c.core)
   pub versions : s.versions ≡ version_count c.core
   pub sorted_keys : s.sorted_keys ≡ place_count c.core
+  pub waiting : AreWaitingCounts c.core (s.aborted, s.replaced)
   pub sessions : s.sessions ≡ c.made
 
 pub record IsStoreStatsOf {D : Type 0} (t : StoreState D) (s : StoreStats) : Type 0 where

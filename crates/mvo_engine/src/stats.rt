@@ -24,10 +24,10 @@ pub struct CoreStats {
     /// How many keys have versions, where each key keeps its sort: one more for each further sort
     /// that versions of a key have.
     pub sorted_keys: usize,
-    /// How many versions that aborted transactions put wait to be collected. No clause says so.
+    /// How many versions that aborted transactions put wait to be collected.
     pub aborted: usize,
     /// How many versions that committed transactions replaced or deleted wait to be collected,
-    /// those among them that readers may see still. No clause says so.
+    /// those among them that readers may see still.
     pub replaced: usize,
     /// How many sessions there are: made, and not retired.
     pub sessions: u32,
