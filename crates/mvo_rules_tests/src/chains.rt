@@ -1,4 +1,4 @@
-use crate::equal::{same, same_at};
+use crate::equal::{holds, same, same_at};
 use crate::numbers::Numbers;
 use mvo_chain::{Chains, Pieces, Version, VersionNo};
 use mvo_types::{Row, RowKey, Stamp, TxId};
@@ -21,7 +21,7 @@ fn number_of(numbers: &mut Numbers) -> VersionNo {
 }
 
 fn row(alloc: Global, key: u64) -> Result<Row, AllocError> {
-    Row::new(RowKey { table: 3, key }, key / 2, [7, 8].to_vec(alloc)?)
+    Row::from_slice(alloc, RowKey { table: 3, key }, key / 2, &[7, 8])
 }
 
 fn plain_of(version: &Version) -> Plain {
@@ -41,6 +41,39 @@ fn add_in_chains(chains: &mut Chains, row: Row, begin: Word) -> Result<VersionNo
     Ok(chains.fill(row, begin))
 }
 
+fn has_hole(list: &[Option<Plain>]) -> bool {
+    for slot in list {
+        if slot.is_none() {
+            return true;
+        }
+    }
+    false
+}
+
+/// Whether the list has a version at the place.
+fn has_one(list: &[Option<Plain>], at: usize) -> bool {
+    matches!(list.get(at), Some(Some(_)))
+}
+
+/// Adds to the list, at the place of a hole where there is one.
+fn add_to_list(
+    rt: &impl Abort,
+    list: &mut Vec<Option<Plain>>,
+    at: usize,
+    plain: Plain,
+) -> Result<(), AllocError> {
+    if !has_hole(list) {
+        same(rt, &at, &list.len());
+        list.push(Some(plain))?;
+        return Ok(());
+    }
+    holds(rt, at < list.len() && !has_one(list, at));
+    if let Some(slot) = list.get_mut(at) {
+        *slot = Some(plain);
+    }
+    Ok(())
+}
+
 /// Adds to both, and looks whether the number is that of a hole, where there is one.
 fn add(
     rt: &impl Abort,
@@ -56,16 +89,44 @@ fn add(
         begin: Held::At(begin),
         end: Held::Infinity,
     };
-    if list.iter().any(|slot| slot.is_none()) {
-        assert!(rt; list.get(number.index()).is_some_and(|slot| slot.is_none()));
-        if let Some(slot) = list.get_mut(number.index()) {
-            *slot = Some(plain);
-        }
-    } else {
-        same(rt, &number.index(), &list.len());
-        list.push(Some(plain))?;
+    add_to_list(rt, list, number.index(), plain)
+}
+
+/// One of the calls that change a version, if there is one, and what it is then.
+fn change_in_chains(
+    numbers: &mut Numbers,
+    chains: &mut Chains,
+    number: VersionNo,
+    plain: Plain,
+) -> Plain {
+    if chains.get(number).is_none() {
+        return plain;
     }
-    Ok(())
+    match numbers.below(3) {
+        0 => {
+            let by = TxId(numbers.below(1000).min(1000));
+            chains.claim_end(number, by);
+            Plain {
+                end: Held::By(by),
+                ..plain
+            }
+        }
+        1 => {
+            chains.set_begin(number, Word::INFINITY);
+            Plain {
+                begin: Held::Infinity,
+                ..plain
+            }
+        }
+        _ => {
+            let stamp = Stamp(numbers.below(1000).min(1000));
+            chains.set_end(number, Word::stamp(stamp));
+            Plain {
+                end: Held::At(stamp),
+                ..plain
+            }
+        }
+    }
 }
 
 /// One of the calls that change a version, on both.
@@ -76,30 +137,22 @@ fn change(
     list: &mut Vec<Option<Plain>>,
     number: VersionNo,
 ) {
-    if chains.get(number).is_none() {
-        assert!(rt; list.get(number.index()).is_none_or(|slot| slot.is_none()));
-        return;
+    let is_there = chains.get(number).is_some();
+    same_at(
+        rt,
+        &is_there,
+        &has_one(list, number.index()),
+        u64::from(number.0),
+    );
+    if let Some(Some(plain)) = list.get_mut(number.index()) {
+        *plain = change_in_chains(numbers, chains, number, *plain);
     }
-    let Some(Some(plain)) = list.get_mut(number.index()) else {
-        assert!(rt; false, "the list lacks {number:?}");
-        return;
-    };
-    match numbers.below(3) {
-        0 => {
-            let by = TxId(numbers.below(1000).min(1000));
-            chains.claim_end(number, by);
-            plain.end = Held::By(by);
-        }
-        1 => {
-            chains.set_begin(number, Word::INFINITY);
-            plain.begin = Held::Infinity;
-        }
-        _ => {
-            let stamp = Stamp(numbers.below(1000).min(1000));
-            chains.set_end(number, Word::stamp(stamp));
-            plain.end = Held::At(stamp);
-        }
-    }
+}
+
+/// The row is that of the version.
+fn was_of(rt: &impl Abort, row: &Row, plain: Plain) {
+    same(rt, &plain.key, &row.key.key);
+    same(rt, &row.bytes(), &[7, 8].as_slice());
 }
 
 fn take_out(
@@ -111,39 +164,76 @@ fn take_out(
     if chains.get(number).is_none() {
         return;
     }
+    same_at(
+        rt,
+        &has_one(list, number.index()),
+        &true,
+        u64::from(number.0),
+    );
     let row = chains.take_out(number);
-    let Some(slot) = list.get_mut(number.index()) else {
-        assert!(rt; false, "the list lacks {number:?}");
-        return;
-    };
-    same(rt, &slot.map(|plain| plain.key), &Some(row.key.key));
-    same(rt, &row.bytes(), &[7, 8].as_slice());
-    *slot = None;
+    if let Some(slot) = list.get_mut(number.index()) {
+        if let Some(plain) = *slot {
+            was_of(rt, &row, plain);
+        }
+        *slot = None;
+    }
+}
+
+/// A call of both.
+fn call(
+    rt: &impl Abort,
+    alloc: Global,
+    numbers: &mut Numbers,
+    chains: &mut Chains,
+    list: &mut Vec<Option<Plain>>,
+    step: u64,
+) -> Result<(), AllocError> {
+    let number = number_of(numbers);
+    match numbers.below(4) {
+        0 if list.len() < 30 || has_hole(list) => add(rt, alloc, chains, list, step)?,
+        1 => take_out(rt, chains, list, number),
+        _ => change(rt, numbers, chains, list, number),
+    }
+    Ok(())
+}
+
+/// Both have the same at each place, and nothing behind.
+fn compare(rt: &impl Abort, chains: &Chains, list: &[Option<Plain>], step: u64) {
+    same(rt, &chains.slot_count(), &list.len());
+    for number in 0..42 {
+        let version = chains.get(VersionNo(number)).map(plain_of);
+        let plain = list.get(number as usize).copied().flatten();
+        same_at(rt, &version, &plain, step);
+    }
+}
+
+/// Many calls of both.
+fn agree(
+    rt: &impl Abort,
+    alloc: Global,
+    chains: &mut Chains,
+    list: &mut Vec<Option<Plain>>,
+    seed: u64,
+) -> Result<(), AllocError> {
+    let mut numbers = Numbers::of(seed);
+    for step in 0..3000 {
+        call(rt, alloc, &mut numbers, chains, list, step)?;
+        compare(rt, chains, list, step);
+    }
+    Ok(())
 }
 
 #[test]
 fn random_calls_do_what_they_do_to_a_plain_list(rt: HostRuntime) -> Result<(), Fail> {
-    let alloc = rt.alloc();
     for seed in 1..6 {
-        let mut numbers = Numbers::of(seed);
-        let mut chains = Chains::new(alloc);
-        let mut list = Vec::new(alloc);
-        for step in 0..3000 {
-            let number = number_of(&mut numbers);
-            match numbers.below(4) {
-                0 if list.len() < 30 || list.iter().any(|slot: &Option<Plain>| slot.is_none()) => {
-                    add(&rt, alloc, &mut chains, &mut list, step)?;
-                }
-                1 => take_out(&rt, &mut chains, &mut list, number),
-                _ => change(&rt, &mut numbers, &mut chains, &mut list, number),
-            }
-            same(&rt, &chains.slot_count(), &list.len());
-            for number in 0..42 {
-                let version = chains.get(VersionNo(number)).map(plain_of);
-                let plain = list.get(number as usize).copied().flatten();
-                same_at(&rt, &version, &plain, step);
-            }
-        }
+        let mut list = Vec::new(rt.alloc());
+        agree(
+            &rt,
+            rt.alloc(),
+            &mut Chains::new(rt.alloc()),
+            &mut list,
+            seed,
+        )?;
     }
     Ok(())
 }
@@ -159,30 +249,45 @@ fn compare_near(rt: &impl Abort, pieces: &Pieces<u64>, list: &Vec<u64>, at: usiz
     }
 }
 
-/// More than two pieces have, changed while they grow.
-#[test]
-fn pieces_do_what_a_plain_list_does(rt: HostRuntime) -> Result<(), Fail> {
-    let alloc = rt.alloc();
+/// Adds an item to both, and then changes one of both.
+fn grow(
+    rt: &impl Abort,
+    pieces: &mut Pieces<u64>,
+    list: &mut Vec<u64>,
+    numbers: &mut Numbers,
+    item: u64,
+) -> Result<(), AllocError> {
+    compare_near(rt, pieces, list, list.len());
+    pieces.push(item)?;
+    list.push(item)?;
+    same(rt, &pieces.len(), &list.len());
+    let at = numbers.below(list.len() as u64) as usize;
+    change_item(pieces, list, at, item.saturating_add(5000));
+    compare_near(rt, pieces, list, at);
+    Ok(())
+}
+
+fn change_item(pieces: &mut Pieces<u64>, list: &mut Vec<u64>, at: usize, item: u64) {
+    if at < pieces.len() {
+        pieces[at] = item;
+    }
+    if let Some(place) = list.get_mut(at) {
+        *place = item;
+    }
+}
+
+fn grow_and_compare(
+    rt: &impl Abort,
+    pieces: &mut Pieces<u64>,
+    list: &mut Vec<u64>,
+) -> Result<(), AllocError> {
     let mut numbers = Numbers::of(9);
-    let mut pieces = Pieces::new(alloc);
-    let mut list = Vec::new(alloc);
     for item in 0..2500 {
-        compare_near(&rt, &pieces, &list, list.len());
-        pieces.push(item)?;
-        list.push(item)?;
-        same(&rt, &pieces.len(), &list.len());
-        let at = numbers.below(list.len() as u64) as usize;
-        if at < pieces.len() {
-            pieces[at] = item + 5000;
-        }
-        if let Some(place) = list.get_mut(at) {
-            *place = item + 5000;
-        }
-        compare_near(&rt, &pieces, &list, at);
+        grow(rt, pieces, list, &mut numbers, item)?;
     }
     for at in 0..2503 {
         same_at(
-            &rt,
+            rt,
             &pieces.get(at).copied(),
             &list.get(at).copied(),
             at as u64,
@@ -191,9 +296,20 @@ fn pieces_do_what_a_plain_list_does(rt: HostRuntime) -> Result<(), Fail> {
     Ok(())
 }
 
+/// More than two pieces have, changed while they grow.
+#[test]
+fn pieces_do_what_a_plain_list_does(rt: HostRuntime) -> Result<(), Fail> {
+    let mut list = Vec::new(rt.alloc());
+    grow_and_compare(&rt, &mut Pieces::new(rt.alloc()), &mut list)?;
+    Ok(())
+}
+
 #[test]
 fn a_version_takes_at_most_88_bytes(rt: HostRuntime) {
-    assert!(rt; size_of::<Option<Version>>() + size_of::<VersionNo>() <= 88);
+    holds(
+        &rt,
+        size_of::<Option<Version>>() + size_of::<VersionNo>() <= 88,
+    );
 }
 
 fn shared<T: Send + Sync>(value: T) -> T {

@@ -26,7 +26,7 @@ impl Drop for Kept {
 }
 
 fn row(alloc: Global, key: u64) -> Result<Row, AllocError> {
-    Row::new(RowKey { table: 0, key }, key, [97].to_vec(alloc)?)
+    Row::from_slice(alloc, RowKey { table: 0, key }, key, &[97])
 }
 
 /// Rows with the keys 1 and 2, put at the mark 2: the versions 0 and 1.

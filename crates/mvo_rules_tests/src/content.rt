@@ -10,7 +10,7 @@ ghost use Rattle.mvo_shared.specs.Kept.{rows_shown};
 ghost use Rattle.mvo_work.specs.Limits.{MayFollow};
 ghost use Rattle.mvo_content.specs.Shown.{rows_in};
 
-use crate::equal::{holds, same, same_at};
+use crate::equal::{same, same_at};
 use crate::numbers::Numbers;
 use mvo_content::{RowsShown, WorkContent};
 use mvo_model::Serial;
@@ -85,28 +85,32 @@ fn told(content: &mut WorkContent, others: &Serial, op: Op) -> Result<Option<Ans
     }
 }
 
-fn some_row(alloc: Global, numbers: &mut Numbers) -> Result<Row, AllocError> {
-    let key = RowKey {
-        table: 3,
-        key: numbers.below(12),
-    };
-    Row::from_slice(
-        alloc,
-        key,
-        numbers.below(5),
-        &[(numbers.draw() % 200) as u8],
-    )
+/// The key, the sort and the only byte of a row of table 3.
+type Plain = (u64, u64, u8);
+
+fn some_row(numbers: &mut Numbers) -> Plain {
+    let key = numbers.below(12);
+    let sort = numbers.below(5);
+    (key, sort, (numbers.draw() % 200) as u8)
+}
+
+fn key_of(key: u64) -> RowKey {
+    RowKey { table: 3, key }
+}
+
+fn row(alloc: Global, (key, sort, byte): Plain) -> Result<Row, AllocError> {
+    Row::from_slice(alloc, key_of(key), sort, &[byte])
 }
 
 fn some_op(alloc: Global, numbers: &mut Numbers) -> Result<Op, AllocError> {
-    let row = some_row(alloc, numbers)?;
+    let plain = some_row(numbers);
     let lo = numbers.below(5);
     match numbers.below(5) {
-        0 => Ok(Op::Read(row.row_key())),
+        0 => Ok(Op::Read(key_of(plain.0))),
         1 => Ok(Op::Scan(3, lo, numbers.below(5))),
-        2 => Ok(Op::Insert(row)),
-        3 => Ok(Op::Update(row)),
-        _ => Ok(Op::Delete(row.row_key())),
+        2 => Ok(Op::Insert(row(alloc, plain)?)),
+        3 => Ok(Op::Update(row(alloc, plain)?)),
+        _ => Ok(Op::Delete(key_of(plain.0))),
     }
 }
 
@@ -115,12 +119,16 @@ fn some_rows(alloc: Global, seed: u64) -> Result<Serial, AllocError> {
     let mut numbers = Numbers::of(seed);
     let mut rows = Rows::new(alloc);
     for _ in 0..8 {
-        rows.put(some_row(alloc, &mut numbers)?)?;
+        rows.put(row(alloc, some_row(&mut numbers))?)?;
     }
     Ok(Serial::new(alloc, rows))
 }
 
-/// The operation is told what it is on a map that has the own writes.
+fn text_of(alloc: Global, answer: Option<Answer>) -> Result<String, AllocError> {
+    format!(in alloc; "{answer:?}")
+}
+
+/// The operation keeps the limits, and is told what it is on a map that has the own writes.
 fn agrees(
     rt: &impl Abort,
     alloc: Global,
@@ -129,27 +137,34 @@ fn agrees(
     own: &mut Serial,
     op: Op,
 ) -> Result<(), Fail> {
-    let wanted = own.apply(&op)?;
-    let Some(answer) = told(content, others, op)? else {
-        panic!(rt; "beyond the limits");
-    };
-    let wanted = format!(in alloc; "{wanted:?}")?;
-    let answer = format!(in alloc; "{answer:?}")?;
+    let wanted = text_of(alloc, Some(own.apply(&op)?))?;
+    let answer = text_of(alloc, told(content, others, op)?)?;
     same(rt, &answer, &wanted);
+    Ok(())
+}
+
+fn agree_on(
+    rt: &impl Abort,
+    alloc: Global,
+    content: &mut WorkContent,
+    others: &Serial,
+    own: &mut Serial,
+    seed: u64,
+) -> Result<(), Fail> {
+    let mut numbers = Numbers::of(seed);
+    for count in 0..100 {
+        same_at(rt, &content.operation_count(), &count, seed);
+        let op = some_op(alloc, &mut numbers)?;
+        agrees(rt, alloc, content, others, own, op)?;
+    }
     Ok(())
 }
 
 fn agree(rt: &impl Abort, alloc: Global, seed: u64) -> Result<(), Fail> {
     let others = some_rows(alloc, seed)?;
     let mut own = some_rows(alloc, seed)?;
-    let mut content = WorkContent::new(alloc);
-    let mut numbers = Numbers::of(seed);
-    for count in 0..100 {
-        same_at(rt, &content.operation_count(), &count, seed);
-        let op = some_op(alloc, &mut numbers)?;
-        agrees(rt, alloc, &mut content, &others, &mut own, op)?;
-    }
-    Ok(())
+    let content = &mut WorkContent::new(alloc);
+    agree_on(rt, alloc, content, &others, &mut own, seed)
 }
 
 #[test]
@@ -171,17 +186,42 @@ fn read(content: &mut WorkContent, others: &Serial) -> Result<bool, AllocError> 
     }
 }
 
+fn reads(
+    rt: &impl Abort,
+    content: &mut WorkContent,
+    others: &Serial,
+    is_there: bool,
+) -> Result<(), AllocError> {
+    let is_told = read(content, others)?;
+    same(rt, &is_told, &is_there);
+    Ok(())
+}
+
+/// Others put the row.
+fn put(alloc: Global, others: &mut Serial) -> Result<(), AllocError> {
+    others.apply(&Op::Insert(row(alloc, (1, 0, 7))?))?;
+    Ok(())
+}
+
+fn read_again(
+    rt: &impl Abort,
+    alloc: Global,
+    content: &mut WorkContent,
+    others: &mut Serial,
+) -> Result<(), AllocError> {
+    reads(rt, content, others, false)?;
+    put(alloc, others)?;
+    reads(rt, content, others, false)?;
+    reads(rt, &mut WorkContent::new(alloc), others, true)?;
+    same(rt, &content.operation_count(), &2);
+    same(rt, &content.looks().len(), &1);
+    Ok(())
+}
+
 #[test]
 fn a_read_is_told_again_what_it_was_told_first(rt: HostRuntime) -> Result<(), Fail> {
-    let alloc = rt.alloc();
-    let mut content = WorkContent::new(alloc);
-    let mut others = Serial::new(alloc, Rows::new(alloc));
-    holds(&rt, !read(&mut content, &others)?);
-    let row = Row::from_slice(alloc, RowKey { table: 3, key: 1 }, 0, &[7])?;
-    others.apply(&Op::Insert(row))?;
-    holds(&rt, !read(&mut content, &others)?);
-    holds(&rt, read(&mut WorkContent::new(alloc), &others)?);
-    same(&rt, &content.operation_count(), &2);
-    same(&rt, &content.looks().len(), &1);
+    let mut others = Serial::new(rt.alloc(), Rows::new(rt.alloc()));
+    let content = &mut WorkContent::new(rt.alloc());
+    read_again(&rt, rt.alloc(), content, &mut others)?;
     Ok(())
 }

@@ -218,48 +218,58 @@ fn old_readers_are_shown_the_same_as_versions_come(rt: HostRuntime) -> Result<()
     Ok(())
 }
 
+fn end(rt: &impl Abort, alloc: Global, both: &mut Both) -> Result<(), Fail> {
+    come(rt, alloc, both, 4, 300)?;
+    end_last(both, 610);
+    agree(rt, both);
+    last_goes_on(both);
+    agree(rt, both);
+    end_last(both, 620);
+    let number = put(alloc, both, 630)?;
+    commit(both, number, 630)?;
+    agree(rt, both);
+    Ok(())
+}
+
 #[test]
 fn old_readers_are_shown_the_same_as_versions_end(rt: HostRuntime) -> Result<(), Fail> {
     let mut both = begin(&rt, rt.alloc())?;
-    come(&rt, rt.alloc(), &mut both, 4, 300)?;
-    end_last(&mut both, 610);
-    agree(&rt, &both);
-    last_goes_on(&mut both);
-    agree(&rt, &both);
-    end_last(&mut both, 620);
-    let number = put(rt.alloc(), &mut both, 630)?;
-    commit(&mut both, number, 630)?;
-    agree(&rt, &both);
+    end(&rt, rt.alloc(), &mut both)
+}
+
+fn come_to_the_front(rt: &impl Abort, alloc: Global, both: &mut Both) -> Result<(), Fail> {
+    come(rt, alloc, both, 4, 270)?;
+    for step in 0..20u32 {
+        update_twice(alloc, both, step.saturating_mul(4).saturating_add(600))?;
+        agree(rt, both);
+    }
+    front_and_out(both, 200);
+    agree(rt, both);
     Ok(())
 }
 
 #[test]
 fn old_readers_are_shown_the_same_as_one_comes_to_the_front(rt: HostRuntime) -> Result<(), Fail> {
     let mut both = begin(&rt, rt.alloc())?;
-    come(&rt, rt.alloc(), &mut both, 4, 270)?;
-    for step in 0..20u32 {
-        update_twice(
-            rt.alloc(),
-            &mut both,
-            step.saturating_mul(4).saturating_add(600),
-        )?;
-        agree(&rt, &both);
+    come_to_the_front(&rt, rt.alloc(), &mut both)
+}
+
+/// From which place, how far apart and how many go.
+const GOING: [(usize, usize, usize); 4] = [(260, 0, 4), (120, 0, 20), (0, 0, 4), (3, 5, 30)];
+
+/// The numbers of those that went are given again, to the newest ones.
+fn go_and_come(rt: &impl Abort, alloc: Global, both: &mut Both) -> Result<(), Fail> {
+    come(rt, alloc, both, 4, 300)?;
+    for (from, apart, count) in GOING {
+        go(rt, both, from, apart, count);
     }
-    front_and_out(&mut both, 200);
-    agree(&rt, &both);
+    come(rt, alloc, both, 610, 150)?;
+    go(rt, both, 0, 0, 60);
     Ok(())
 }
 
-/// The numbers of those that went are given again, to the newest ones.
 #[test]
 fn old_readers_are_shown_the_same_as_versions_go(rt: HostRuntime) -> Result<(), Fail> {
     let mut both = begin(&rt, rt.alloc())?;
-    come(&rt, rt.alloc(), &mut both, 4, 300)?;
-    go(&rt, &mut both, 260, 0, 4);
-    go(&rt, &mut both, 120, 0, 20);
-    go(&rt, &mut both, 0, 0, 4);
-    go(&rt, &mut both, 3, 5, 30);
-    come(&rt, rt.alloc(), &mut both, 610, 150)?;
-    go(&rt, &mut both, 0, 0, 60);
-    Ok(())
+    go_and_come(&rt, rt.alloc(), &mut both)
 }

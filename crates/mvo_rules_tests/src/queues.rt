@@ -68,16 +68,25 @@ fn replace(queue: &mut Queue<u64>, list: &mut VecDeque<u64>, count: usize) {
 fn fill_and_empty(rt: &impl Abort, alloc: Global, count: u64) -> Result<(), AllocError> {
     let mut queue = Queue::new(alloc);
     let mut list = VecDeque::new(alloc);
+    fill_and_empty_twice(rt, &mut queue, &mut list, count)
+}
+
+fn fill_and_empty_twice(
+    rt: &impl Abort,
+    queue: &mut Queue<u64>,
+    list: &mut VecDeque<u64>,
+    count: u64,
+) -> Result<(), AllocError> {
     for _ in 0..2 {
-        push(&mut queue, &mut list, count)?;
-        compare(rt, &queue, &list);
+        push(queue, list, count)?;
+        compare(rt, queue, list);
         let half = list.len() / 2;
-        pop_front(rt, &mut queue, &mut list, half);
-        compare(rt, &queue, &list);
-        pop_back(rt, &mut queue, &mut list, half);
-        compare(rt, &queue, &list);
-        pop_front(rt, &mut queue, &mut list, 3);
-        compare(rt, &queue, &list);
+        pop_front(rt, queue, list, half);
+        compare(rt, queue, list);
+        pop_back(rt, queue, list, half);
+        compare(rt, queue, list);
+        pop_front(rt, queue, list, 3);
+        compare(rt, queue, list);
     }
     Ok(())
 }
@@ -90,22 +99,44 @@ fn a_piece_less_one_and_one_and_one_more(rt: HostRuntime) -> Result<(), Fail> {
     Ok(())
 }
 
+fn wander(
+    rt: &impl Abort,
+    queue: &mut Queue<u64>,
+    list: &mut VecDeque<u64>,
+) -> Result<(), AllocError> {
+    push(queue, list, 1500)?;
+    for step in 0..1300 {
+        push(queue, list, 3)?;
+        pop_front(rt, queue, list, 2);
+        pop_back(rt, queue, list, 1);
+        compare_at(rt, queue, list, step);
+        compare_at(rt, queue, list, list.len().saturating_sub(1));
+    }
+    replace(queue, list, 1100);
+    compare(rt, queue, list);
+    Ok(())
+}
+
 /// The first piece begins at each of its places in turn.
 #[test]
 fn a_queue_wanders_through_its_pieces(rt: HostRuntime) -> Result<(), Fail> {
     let mut queue = Queue::new(rt.alloc());
     let mut list = VecDeque::new(rt.alloc());
-    push(&mut queue, &mut list, 1500)?;
-    for step in 0..1300 {
-        push(&mut queue, &mut list, 3)?;
-        pop_front(&rt, &mut queue, &mut list, 2);
-        pop_back(&rt, &mut queue, &mut list, 1);
-        compare_at(&rt, &queue, &list, step);
-        compare_at(&rt, &queue, &list, list.len().saturating_sub(1));
-    }
-    replace(&mut queue, &mut list, 1100);
-    compare(&rt, &queue, &list);
+    wander(&rt, &mut queue, &mut list)?;
     Ok(())
+}
+
+/// Adds so many items, for which room is made first.
+fn reserve_and_push(
+    queue: &mut Queue<u64>,
+    list: &mut VecDeque<u64>,
+    count: u64,
+    more: usize,
+) -> Result<(), AllocError>
+    requires { count ≤ more }
+{
+    queue.reserve(more)?;
+    push_reserved(queue, list, count)
 }
 
 /// Adds so many items, for which there is room.
@@ -123,19 +154,26 @@ fn push_reserved(
     Ok(())
 }
 
+fn fill_reserved(
+    rt: &impl Abort,
+    queue: &mut Queue<u64>,
+    list: &mut VecDeque<u64>,
+) -> Result<(), AllocError> {
+    push(queue, list, 700)?;
+    pop_front(rt, queue, list, 600);
+    reserve_and_push(queue, list, 3000, 3000)?;
+    compare(rt, queue, list);
+    pop_back(rt, queue, list, 2000);
+    reserve_and_push(queue, list, 5000, 5000)?;
+    compare(rt, queue, list);
+    Ok(())
+}
+
 #[test]
 fn room_for_several_pieces(rt: HostRuntime) -> Result<(), Fail> {
     let mut queue = Queue::new(rt.alloc());
     let mut list = VecDeque::new(rt.alloc());
-    push(&mut queue, &mut list, 700)?;
-    pop_front(&rt, &mut queue, &mut list, 600);
-    queue.reserve(3000)?;
-    push_reserved(&mut queue, &mut list, 3000)?;
-    compare(&rt, &queue, &list);
-    pop_back(&rt, &mut queue, &mut list, 2000);
-    queue.reserve(5000)?;
-    push_reserved(&mut queue, &mut list, 5000)?;
-    compare(&rt, &queue, &list);
+    fill_reserved(&rt, &mut queue, &mut list)?;
     Ok(())
 }
 

@@ -22,14 +22,19 @@ const LINES: [(Refusal, &str); 6] = [
 #[test]
 fn refusals_print_their_reply_lines(rt: HostRuntime) -> Result<(), Fail> {
     for (refusal, line) in LINES {
-        same(&rt, &refusal.to_string(rt.alloc())?.as_str(), &line);
+        prints(&rt, rt.alloc(), refusal, line)?;
     }
     Ok(())
 }
 
-fn put(alloc: Global, rows: &mut Rows, key: RowKey, sort: u64, byte: u8) -> Result<(), AllocError> {
-    rows.put(Row::new(key, sort, [byte].to_vec(alloc)?)?)?;
+fn prints(rt: &impl Abort, alloc: Global, refusal: Refusal, line: &str) -> Result<(), AllocError> {
+    let printed = refusal.to_string(alloc)?;
+    same(rt, &printed.as_str(), &line);
     Ok(())
+}
+
+fn put(alloc: Global, rows: &mut Rows, key: RowKey, sort: u64, byte: u8) -> Result<(), AllocError> {
+    rows.put(Row::from_slice(alloc, key, sort, &[byte])?)
 }
 
 /// The row of this key has that sort and that byte.

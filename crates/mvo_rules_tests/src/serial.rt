@@ -18,7 +18,7 @@ fn key_of(key: u64) -> RowKey {
 }
 
 fn row(alloc: Global, (key, sort, byte): Plain) -> Result<Row, AllocError> {
-    Row::new(key_of(key), sort, [byte].to_vec(alloc)?)
+    Row::from_slice(alloc, key_of(key), sort, &[byte])
 }
 
 fn two_rows(alloc: Global) -> Result<Serial, AllocError> {
@@ -85,14 +85,38 @@ fn a_scan_goes_by_sort_and_then_by_key(rt: HostRuntime) -> Result<(), Fail> {
     scans_four(&rt, rt.alloc(), &mut store)
 }
 
+/// An operation on a plain row, or on a key.
+#[derive(Clone, Copy)]
+enum PlainOp {
+    Insert(Plain),
+    Update(Plain),
+    Delete(u64),
+    Read(u64),
+}
+
+const WRITES: [PlainOp; 6] = [
+    PlainOp::Insert((1, 30, 0x63)),
+    PlainOp::Update((9, 30, 0x63)),
+    PlainOp::Update((2, 30, 0x63)),
+    PlainOp::Delete(1),
+    PlainOp::Read(1),
+    PlainOp::Delete(1),
+];
+
+fn op_of(alloc: Global, plain: PlainOp) -> Result<Op, AllocError> {
+    match plain {
+        PlainOp::Insert(plain) => Ok(Op::Insert(row(alloc, plain)?)),
+        PlainOp::Update(plain) => Ok(Op::Update(row(alloc, plain)?)),
+        PlainOp::Delete(key) => Ok(Op::Delete(key_of(key))),
+        PlainOp::Read(key) => Ok(Op::Read(key_of(key))),
+    }
+}
+
 fn writes(alloc: Global) -> Result<Vec<Op>, AllocError> {
     let mut ops = Vec::new(alloc);
-    ops.push(Op::Insert(row(alloc, (1, 30, 0x63))?))?;
-    ops.push(Op::Update(row(alloc, (9, 30, 0x63))?))?;
-    ops.push(Op::Update(row(alloc, (2, 30, 0x63))?))?;
-    ops.push(Op::Delete(key_of(1)))?;
-    ops.push(Op::Read(key_of(1)))?;
-    ops.push(Op::Delete(key_of(1)))?;
+    for plain in WRITES {
+        ops.push(op_of(alloc, plain)?)?;
+    }
     Ok(ops)
 }
 
@@ -115,6 +139,11 @@ fn tells(rt: &impl Abort, alloc: Global, store: &mut Serial) -> Result<(), Fail>
     Ok(())
 }
 
+fn tells_and_leaves(rt: &impl Abort, alloc: Global, store: &mut Serial) -> Result<(), Fail> {
+    tells(rt, alloc, store)?;
+    assert_left(rt, store.rows())
+}
+
 /// What the writes leave.
 fn assert_left(rt: &impl Abort, rows: &Rows) -> Result<(), Fail> {
     same(rt, &rows.len(), &1);
@@ -125,7 +154,6 @@ fn assert_left(rt: &impl Abort, rows: &Rows) -> Result<(), Fail> {
 #[test]
 fn writes_are_told_what_stood_at_the_key(rt: HostRuntime) -> Result<(), Fail> {
     let mut store = two_rows(rt.alloc())?;
-    tells(&rt, rt.alloc(), &mut store)?;
-    assert_left(&rt, store.rows())?;
+    tells_and_leaves(&rt, rt.alloc(), &mut store)?;
     assert_left(&rt, &store.into_rows())
 }

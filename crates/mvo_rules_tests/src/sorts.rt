@@ -164,12 +164,16 @@ fn take_all(rt: &impl Abort, alloc: Global, both: &mut Both, count: u64) -> Resu
     Ok(())
 }
 
+fn put_and_take_all(rt: &impl Abort, alloc: Global, both: &mut Both) -> Result<(), Fail> {
+    put_many(alloc, both, 400)?;
+    agree(rt, alloc, both, 400)?;
+    take_all(rt, alloc, both, 401)?;
+    holds(rt, both.list.is_empty());
+    Ok(())
+}
+
 #[test]
 fn many_sorts_of_a_hot_key_go_oldest_first(rt: HostRuntime) -> Result<(), Fail> {
     let mut both = begin(&rt, rt.alloc())?;
-    put_many(rt.alloc(), &mut both, 400)?;
-    agree(&rt, rt.alloc(), &both, 400)?;
-    take_all(&rt, rt.alloc(), &mut both, 401)?;
-    holds(&rt, both.list.is_empty());
-    Ok(())
+    put_and_take_all(&rt, rt.alloc(), &mut both)
 }

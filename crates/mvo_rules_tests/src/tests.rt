@@ -296,10 +296,14 @@ fn many_stand_in_order(rt: &impl Abort, entries: &Entries) {
 fn many_keys_are_noted_once_in_each_order(rt: HostRuntime) -> Result<(), Fail> {
     let mut entries = Entries::new(rt.alloc());
     holds(&rt, !entries.has_room());
-    note_many(&rt, &mut entries)?;
-    many_stand_in_order(&rt, &entries);
+    note_and_clear(&rt, &mut entries)
+}
+
+fn note_and_clear(rt: &impl Abort, entries: &mut Entries) -> Result<(), Fail> {
+    note_many(rt, entries)?;
+    many_stand_in_order(rt, entries);
     entries.clear();
-    note_many(&rt, &mut entries)?;
-    many_stand_in_order(&rt, &entries);
+    note_many(rt, entries)?;
+    many_stand_in_order(rt, entries);
     Ok(())
 }

@@ -6,8 +6,8 @@ use crate::tale::checked::{leave_at, next_group, open_at, open_reading_at, settl
 use crate::tale::entries::entry_of;
 use crate::tale::plain::{Place, State, is_record, some_operations, some_reads};
 use mvo_tale::{NextRecords, Tale};
-use mvo_types::{Stamp, TxId};
-use std::alloc::Global;
+use mvo_types::{Answer, Op, Stamp, TxId};
+use std::alloc::{AllocError, Global};
 use std::process::Abort;
 use std::test::Fail;
 
@@ -38,6 +38,19 @@ struct Course {
     closed: u64,
     from: usize,
     counts: Counts,
+}
+
+/// The operations of the transaction at a place of the list.
+fn operations_at(
+    alloc: Global,
+    numbers: &mut Numbers,
+    at: &mut Place,
+    reads: bool,
+) -> Result<Vec<(Op, Answer)>, AllocError> {
+    if reads {
+        return some_reads(alloc, numbers);
+    }
+    some_operations(alloc, numbers, &mut at.wrote)
 }
 
 /// Whether a transaction may end there.
@@ -147,25 +160,28 @@ impl Course {
         let Some(at) = self.list.get_mut(place) else {
             return Ok(false);
         };
-        let reads = at.state == State::Reading;
-        let operations = if reads {
-            some_reads(self.alloc, &mut self.numbers)?
-        } else {
-            some_operations(self.alloc, &mut self.numbers, &mut at.wrote)?
-        };
+        let (reads, end) = (at.state == State::Reading, Stamp(at.end));
         at.state = State::Settled;
-        let end = Stamp(at.end);
-        let id = TxId(if reads {
-            end.0
-        } else {
-            end.0.saturating_sub(1)
-        });
-        let Some(entry) = entry_of(self.alloc, id, end, operations)? else {
-            return Ok(false);
-        };
+        let operations = operations_at(self.alloc, &mut self.numbers, at, reads)?;
         self.count_read(reads, end);
         count(&mut self.counts.settled, 1);
-        Ok(settle_at(&mut self.tale, place, entry))
+        self.settle_with(place, end, reads, operations)
+    }
+
+    /// Stores a commit of these operations at the place.
+    fn settle_with(
+        &mut self,
+        place: usize,
+        end: Stamp,
+        reads: bool,
+        operations: Vec<(Op, Answer)>,
+    ) -> Result<bool, Fail> {
+        let before = if reads { 0 } else { 1 };
+        let id = TxId(end.0.saturating_sub(before));
+        match entry_of(self.alloc, id, end, operations)? {
+            Some(entry) => Ok(settle_at(&mut self.tale, place, entry)),
+            None => Ok(false),
+        }
     }
 
     /// Of a read-only one: that it was stored, and whether it came below the last mark.
@@ -247,11 +263,15 @@ impl Course {
             return Ok(true);
         }
         let prev = Stamp(self.closed);
-        let found = next_group(&self.tale, self.alloc, self.from, prev, Stamp(low))?;
-        let Some(next) = found else {
-            return Ok(false);
-        };
-        let is_due = self.is_due(&next, low);
+        match next_group(&self.tale, self.alloc, self.from, prev, Stamp(low))? {
+            Some(next) => Ok(self.close_with(&next, low)),
+            None => Ok(false),
+        }
+    }
+
+    /// The next group has these records. Whether they are due.
+    fn close_with(&mut self, next: &NextRecords, low: u64) -> bool {
+        let is_due = self.is_due(next, low);
         if self.reads_below(low) {
             count(&mut self.counts.beside, 1);
         }
@@ -262,7 +282,7 @@ impl Course {
         }
         self.from = next.next;
         self.closed = next.mark.0;
-        Ok(is_due)
+        is_due
     }
 
     /// Whether the records are those of all that wrote above the last mark and up to this one.

@@ -98,7 +98,7 @@ impl Plain {
 }
 
 fn row(alloc: Global, key: RowKey) -> Result<Row, AllocError> {
-    Row::new(key, key.key / 2, [7, 8].to_vec(alloc)?)
+    Row::from_slice(alloc, key, key.key / 2, &[7, 8])
 }
 
 fn some_number(numbers: &mut Numbers) -> VersionNo {
@@ -132,57 +132,44 @@ fn scan(alloc: Global, numbers: &mut Numbers) -> Asked {
     looking(Op::Scan(3, lo, hi), answer, Entry::Range(3, lo, hi), alloc)
 }
 
+/// A write of the key, with the words that it writes.
+fn writing(op: Op, answer: Answer, key: RowKey, words: Vec<WordPlace>) -> Asked {
+    Asked {
+        op,
+        answer,
+        entry: Entry::Key(key),
+        written: Some(key),
+        words,
+    }
+}
+
 fn insert(alloc: Global, numbers: &mut Numbers, key: RowKey) -> Result<Asked, AllocError> {
     let op = Op::Insert(row(alloc, key)?);
-    let entry = Entry::Key(key);
     if numbers.below(3) == 0 {
-        return Ok(looking(op, Answer::Exists, entry, alloc));
+        return Ok(looking(op, Answer::Exists, Entry::Key(key), alloc));
     }
     let words = [WordPlace::Begin(some_number(numbers))].to_vec(alloc)?;
-    let written = Some(key);
-    Ok(Asked {
-        op,
-        answer: Answer::Inserted,
-        entry,
-        written,
-        words,
-    })
+    Ok(writing(op, Answer::Inserted, key, words))
 }
 
 fn update(alloc: Global, numbers: &mut Numbers, key: RowKey) -> Result<Asked, AllocError> {
     let op = Op::Update(row(alloc, key)?);
-    let entry = Entry::Key(key);
     if numbers.below(3) == 0 {
-        return Ok(looking(op, Answer::Absent, entry, alloc));
+        return Ok(looking(op, Answer::Absent, Entry::Key(key), alloc));
     }
     let ended = WordPlace::End(some_number(numbers));
     let put = WordPlace::Begin(some_number(numbers));
     let words = [ended, put].to_vec(alloc)?;
-    let written = Some(key);
-    Ok(Asked {
-        op,
-        answer: Answer::Updated,
-        entry,
-        written,
-        words,
-    })
+    Ok(writing(op, Answer::Updated, key, words))
 }
 
 fn delete(alloc: Global, numbers: &mut Numbers, key: RowKey) -> Result<Asked, AllocError> {
-    let op = Op::Delete(key);
-    let entry = Entry::Key(key);
     if numbers.below(3) == 0 {
+        let (op, entry) = (Op::Delete(key), Entry::Key(key));
         return Ok(looking(op, Answer::Absent, entry, alloc));
     }
     let words = [WordPlace::End(some_number(numbers))].to_vec(alloc)?;
-    let written = Some(key);
-    Ok(Asked {
-        op,
-        answer: Answer::Deleted,
-        entry,
-        written,
-        words,
-    })
+    Ok(writing(Op::Delete(key), Answer::Deleted, key, words))
 }
 
 /// An operation on one of so many keys.
