@@ -2,6 +2,8 @@
 #![tactic(auto)]
 
 #[cfg(test)]
+mod disks;
+#[cfg(test)]
 mod equal;
 #[cfg(test)]
 mod jobs;

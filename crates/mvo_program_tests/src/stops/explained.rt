@@ -1,8 +1,10 @@
 //! What is said of a call.
 use crate::equal::same;
 use crate::stops::looked_at::{FLUSHED, recorded};
-use mvo_stops::{StopsError, explain_call, line_of};
+use mvo_stops::{Recorded, StopsError, explain_call, line_of};
+use std::process::Abort;
 use std::test::Fail;
+use std::thread::Threads;
 
 /// The gate at 8 is opened. Each value of it but a5 is closed, and the group counts only behind an
 /// open one.
@@ -23,13 +25,22 @@ failed, at the script's end: mark 0 rows 0
 #[test]
 fn a_call_is_explained(rt: HostRuntime) -> Result<(), Fail> {
     let recorded = recorded(&rt, rt.alloc(), FLUSHED)?;
-    let text = explain_call(&rt, &recorded, 3)?;
-    same(&rt, &text.as_str(), &OPENS_THE_GATE);
+    explains(&rt, &recorded)?;
     for number in [0, 5] {
         let refused = explain_call(&rt, &recorded, number).err();
         same(&rt, &refused, &Some(StopsError::NoSuchCall(4)));
     }
-    same(&rt, &line_of(&rt, &recorded, 1)?, &Some((4, Some("body"))));
-    same(&rt, &line_of(&rt, &recorded, 5)?, &None);
+    has_lines(&rt, &recorded)
+}
+
+fn explains(rt: &(impl Abort + Threads + Sync), recorded: &Recorded) -> Result<(), Fail> {
+    let text = explain_call(rt, recorded, 3)?;
+    same(rt, &text.as_str(), &OPENS_THE_GATE);
+    Ok(())
+}
+
+fn has_lines(rt: &(impl Abort + Threads + Sync), recorded: &Recorded) -> Result<(), Fail> {
+    same(rt, &line_of(rt, recorded, 1)?, &Some((4, Some("body"))));
+    same(rt, &line_of(rt, recorded, 5)?, &None);
     Ok(())
 }

@@ -34,26 +34,39 @@ fn syncs_of(
 ) -> Result<Vec<SyncAt>, Fail> {
     let mut syncs: Vec<SyncAt> = Vec::new(alloc);
     for (at, call) in recorded.calls().iter().enumerate() {
-        if !matches!(&call.work, DeviceWork::Sync) {
-            continue;
-        }
-        let number = at.saturating_add(1);
-        if let Some((line, step)) = line_of(rt, recorded, number)? {
-            let step = step.unwrap_or("reclaim");
-            let place = match syncs.last() {
-                Some(last) if last.line == line && last.step == step => last.place,
-                _ => 0,
-            };
-            let place = place.saturating_add(1);
-            syncs.push(SyncAt {
-                number,
-                line,
-                step,
-                place,
-            })?;
+        if matches!(&call.work, DeviceWork::Sync) {
+            push_sync(rt, recorded, at.saturating_add(1), &mut syncs)?;
         }
     }
     Ok(syncs)
+}
+
+/// Adds the sync that is the call of this number.
+fn push_sync(
+    rt: &(impl Threads + Sync),
+    recorded: &Recorded,
+    number: usize,
+    syncs: &mut Vec<SyncAt>,
+) -> Result<(), Fail> {
+    if let Some((line, step)) = line_of(rt, recorded, number)? {
+        let step = step.unwrap_or("reclaim");
+        let place = place_behind(syncs.last(), line, step);
+        syncs.push(SyncAt {
+            number,
+            line,
+            step,
+            place,
+        })?;
+    }
+    Ok(())
+}
+
+/// Which sync of its step one is behind another.
+fn place_behind(last: Option<&SyncAt>, line: usize, step: &str) -> usize {
+    match last {
+        Some(last) if last.line == line && last.step == step => last.place.saturating_add(1),
+        _ => 1,
+    }
 }
 
 /// Writes what is found where a store forgets a sync.
@@ -64,16 +77,21 @@ fn write_one(
     sync: SyncAt,
     found: &mut String,
 ) -> Result<(), Fail> {
+    forget(recorded, syncs, sync)?;
+    let report = check_stops(rt, recorded, &mut Quiet)?;
+    let (step, place) = (sync.step, sync.place);
+    write!(found, "without sync {place} of {step}: ")?;
+    Ok(write_found(report, found)?)
+}
+
+fn forget(recorded: &mut Recorded, syncs: &[SyncAt], sync: SyncAt) -> Result<(), Fail> {
     recorded.forget_none();
     for other in syncs {
         if is_same(other, &sync) {
             recorded.forget_sync(other.number)?;
         }
     }
-    let report = check_stops(rt, recorded, &mut Quiet)?;
-    let (step, place) = (sync.step, sync.place);
-    write!(found, "without sync {place} of {step}: ")?;
-    Ok(write_found(report, found)?)
+    Ok(())
 }
 
 /// Writes whether something is wrong, and what.
@@ -113,11 +131,22 @@ fn assert_found(
     expected: &str,
 ) -> Result<(), Fail> {
     let mut recorded = recorded(rt, alloc, script.as_bytes())?;
-    let syncs = syncs_of(rt, alloc, &recorded)?;
     let mut found = String::new(alloc);
-    write_each(rt, &mut recorded, &syncs, steps, &mut found)?;
+    write_all(rt, alloc, &mut recorded, steps, &mut found)?;
     same(rt, &found.as_str(), &expected);
     Ok(())
+}
+
+/// The same of all syncs that a script makes.
+fn write_all(
+    rt: &(impl Threads + Sync),
+    alloc: Global,
+    recorded: &mut Recorded,
+    steps: &[&str],
+    found: &mut String,
+) -> Result<(), Fail> {
+    let syncs = syncs_of(rt, alloc, recorded)?;
+    write_each(rt, recorded, syncs.as_slice(), steps, found)
 }
 
 /// The steps of an append, of a rotation and of an install.

@@ -94,10 +94,19 @@ fn an_opening_that_forgets_its_syncs_is_found(rt: HostRuntime) -> Result<(), Fai
             acknowledged: Stamp(2),
         },
     };
-    let found = check_stops(&rt, &recorded, &mut Quiet)?.failed;
-    same(&rt, &found, &Some(trusted));
+    is_found(&rt, &mut recorded, trusted)
+}
+
+/// What was made of the calls is found so, and nothing is wrong without it.
+fn is_found(
+    rt: &(impl Abort + Threads + Sync),
+    recorded: &mut Recorded,
+    failed: Failed,
+) -> Result<(), Fail> {
+    let found = check_stops(rt, recorded, &mut Quiet)?.failed;
+    same(rt, &found, &Some(failed));
     recorded.forget_none();
-    is_ok(&rt, &recorded, 4)?;
+    is_ok(rt, recorded, 4)?;
     Ok(())
 }
 
@@ -111,11 +120,7 @@ fn a_store_that_goes_on_after_a_fault_is_found(rt: HostRuntime) -> Result<(), Fa
         call: 1,
         wrong: Wrong::NotOpened(Refusal::Corrupt(2)),
     };
-    let found = check_stops(&rt, &recorded, &mut Quiet)?.failed;
-    same(&rt, &found, &Some(opened));
-    recorded.forget_none();
-    is_ok(&rt, &recorded, 4)?;
-    Ok(())
+    is_found(&rt, &mut recorded, opened)
 }
 
 // Without the body's sync a stop within the gate's write may leave an open gate before no group.
@@ -123,14 +128,12 @@ fn a_store_that_goes_on_after_a_fault_is_found(rt: HostRuntime) -> Result<(), Fa
 #[test]
 fn a_forgotten_sync_is_found(rt: HostRuntime) -> Result<(), Fail> {
     let mut recorded = recorded(&rt, rt.alloc(), FLUSHED)?;
-    for number in [0, 1, 9] {
-        holds(&rt, !recorded.forget_sync(number)?);
-    }
+    forgets_no_other(&rt, &mut recorded)?;
     let body = Failed {
         call: 3,
         wrong: Wrong::NotOpened(Refusal::Corrupt(2)),
     };
-    same(&rt, &without(&rt, &mut recorded, 2)?, &Some(body));
+    is_found_without(&rt, &mut recorded, 2, body)?;
     let gate = Failed {
         call: 4,
         wrong: Wrong::MarkTooLow {
@@ -138,6 +141,25 @@ fn a_forgotten_sync_is_found(rt: HostRuntime) -> Result<(), Fail> {
             acknowledged: Stamp(2),
         },
     };
-    same(&rt, &without(&rt, &mut recorded, 4)?, &Some(gate));
+    is_found_without(&rt, &mut recorded, 4, gate)
+}
+
+/// What is no sync isn't forgotten.
+fn forgets_no_other(rt: &impl Abort, recorded: &mut Recorded) -> Result<(), Fail> {
+    for number in [0, 1, 9] {
+        let is_sync = recorded.forget_sync(number)?;
+        holds(rt, !is_sync);
+    }
+    Ok(())
+}
+
+fn is_found_without(
+    rt: &(impl Abort + Threads + Sync),
+    recorded: &mut Recorded,
+    number: usize,
+    failed: Failed,
+) -> Result<(), Fail> {
+    let found = without(rt, recorded, number)?;
+    same(rt, &found, &Some(failed));
     Ok(())
 }

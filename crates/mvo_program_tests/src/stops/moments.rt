@@ -1,4 +1,5 @@
 //! Each moment is looked at where a store goes on behind a fault, and each opening there is judged.
+use crate::disks::opened;
 use crate::equal::same;
 use crate::stops::looked_at::is_ok;
 use mvo_disk::MemDisk;
@@ -8,8 +9,7 @@ use mvo_stops::{
 };
 use mvo_store::Store;
 use mvo_types::Refusal;
-use mvo_world::World;
-use std::alloc::Global;
+use std::alloc::{AllocError, Global};
 use std::test::Fail;
 use std::thread::Threads;
 
@@ -20,12 +20,21 @@ const LEAVES_A_FILE: &[u8] =
 /// The disk behind a script over a new store.
 fn disk_behind(rt: &(impl Threads + Sync), alloc: Global, script: &[u8]) -> Result<MemDisk, Fail> {
     let disk = ScriptStart::formatted(alloc)?.disk()?;
-    let world = World::open(rt, alloc, 7, disk).map_err(|refused| refused.0)?;
-    let mut driver = Driver::over(alloc, world);
-    for line in lines_of(alloc, script)? {
-        driver.answer(&line);
-    }
+    let mut driver = Driver::over(alloc, opened(rt, alloc, 7, disk)?);
+    answer_all(alloc, &mut driver, script)?;
     Ok(driver.into_world().into_disk())
+}
+
+fn answer_all(
+    alloc: Global,
+    driver: &mut Driver<MemDisk>,
+    script: &[u8],
+) -> Result<(), AllocError> {
+    let lines = lines_of(alloc, script)?;
+    for line in lines.iter() {
+        driver.answer(line);
+    }
+    Ok(())
 }
 
 /// How many calls an opening makes.
@@ -34,8 +43,10 @@ fn opening_calls(
     alloc: Global,
     start: &ScriptStart,
 ) -> Result<u64, Fail> {
-    let (store, _, _) = Store::open(rt, alloc, 7, start.disk()?).map_err(|refused| refused.0)?;
-    Ok(store.into_disk().calls().len() as u64)
+    match Store::open(rt, alloc, 7, start.disk()?) {
+        Ok((store, _, _)) => Ok(store.into_disk().calls().len() as u64),
+        Err((refusal, _)) => Err(Fail::from(refusal)),
+    }
 }
 
 /// What that script leaves.
@@ -112,21 +123,42 @@ fn an_opening_that_is_refused_is_found_at_each_moment(rt: HostRuntime) -> Result
     let alloc = rt.alloc();
     let mut recorded = reclaimed(&rt, alloc, left(&rt, alloc)?)?;
     let mut other = String::new(alloc);
-    for when in When::ALL {
-        for which in Which::ALL {
-            recorded.refuse(Look(when, which));
-            let refused = Failed {
-                call: first_call(when),
-                wrong: Wrong::NotOpened(Refusal::NotFormatted),
-            };
-            let found = check_stops(&rt, &recorded, &mut Quiet)?.failed;
-            if found != has(when, which).then_some(refused) {
-                writeln!(other, "{when:?} {which:?}")?;
-            }
-        }
-    }
+    refuse_all(&rt, &mut recorded, &mut other)?;
     same(&rt, &other.as_str(), &"");
     recorded.forget_none();
     is_ok(&rt, &recorded, 3)?;
+    Ok(())
+}
+
+/// Writes each look whose refused openings aren't found as they are to be.
+fn refuse_all(
+    rt: &(impl Threads + Sync),
+    recorded: &mut Recorded,
+    other: &mut String,
+) -> Result<(), Fail> {
+    for when in When::ALL {
+        for which in Which::ALL {
+            refuse(rt, recorded, when, which, other)?;
+        }
+    }
+    Ok(())
+}
+
+fn refuse(
+    rt: &(impl Threads + Sync),
+    recorded: &mut Recorded,
+    when: When,
+    which: Which,
+    other: &mut String,
+) -> Result<(), Fail> {
+    recorded.refuse(Look(when, which));
+    let refused = Failed {
+        call: first_call(when),
+        wrong: Wrong::NotOpened(Refusal::NotFormatted),
+    };
+    let found = check_stops(rt, recorded, &mut Quiet)?.failed;
+    if found != has(when, which).then_some(refused) {
+        writeln!(other, "{when:?} {which:?}")?;
+    }
     Ok(())
 }

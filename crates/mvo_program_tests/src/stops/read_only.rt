@@ -2,9 +2,11 @@
 use crate::equal::{holds, same};
 use crate::numbers::Numbers;
 use crate::stops::looked_at::{is_ok, recorded};
-use mvo_stops::{Quiet, check_stops};
+use mvo_stops::{Quiet, Recorded, check_stops};
 use std::alloc::{AllocError, Global};
+use std::process::Abort;
 use std::test::Fail;
+use std::thread::Threads;
 
 /// One commits at its begin, behind a later commit that is durable. Each flush of the others makes
 /// four calls; behind its own there is nothing to close.
@@ -152,10 +154,15 @@ fn a_commit_at_its_begin_is_ok(rt: HostRuntime) -> Result<(), Fail> {
 fn scripts_with_read_only_transactions_are_ok(rt: HostRuntime) -> Result<(), Fail> {
     for seed in SEEDS {
         let text = script(rt.alloc(), seed)?;
-        let recorded = recorded(&rt, rt.alloc(), text.as_bytes())?;
-        let report = check_stops(&rt, &recorded, &mut Quiet)?;
-        same(&rt, &report.failed, &None);
-        holds(&rt, report.counts.calls >= LEAST_CALLS);
+        are_ok(&rt, &recorded(&rt, rt.alloc(), text.as_bytes())?)?;
     }
+    Ok(())
+}
+
+/// Stops and faults of the calls leave what was promised, and there are enough of them.
+fn are_ok(rt: &(impl Abort + Threads + Sync), recorded: &Recorded) -> Result<(), Fail> {
+    let report = check_stops(rt, recorded, &mut Quiet)?;
+    same(rt, &report.failed, &None);
+    holds(rt, report.counts.calls >= LEAST_CALLS);
     Ok(())
 }

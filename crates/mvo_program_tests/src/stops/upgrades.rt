@@ -1,10 +1,11 @@
 //! Stops and faults of scripts that carry a folder of version 1 over.
+use crate::disks::opened;
 use crate::equal::{holds, same};
 use mvo_disk::{Disk, FILE_COUNT, MemDisk, rewrite_synced};
 use mvo_script::{Driver, LineReply};
 use mvo_stops::{Quiet, Recorded, ScriptStart, check_stops, lines_of};
-use mvo_world::{Reply, World};
-use std::alloc::Global;
+use mvo_world::Reply;
+use std::alloc::{AllocError, Global};
 use std::process::Abort;
 use std::test::Fail;
 use std::thread::Threads;
@@ -92,10 +93,15 @@ fn put(alloc: Global, disk: &mut MemDisk, file: u16, text: &str) -> Result<(), F
         return Err(Fail::from("no such file, or a fault"));
     }
     let mut bytes = Vec::new(alloc);
+    push_decoded(alloc, &mut bytes, text)?;
+    rewrite_synced(disk, file, &bytes)?;
+    Ok(())
+}
+
+fn push_decoded(alloc: Global, bytes: &mut Vec<u8>, text: &str) -> Result<(), Fail> {
     for word in text.split(' ') {
         bytes.extend_from_slice(&hex::decode(alloc, word)?)?;
     }
-    rewrite_synced(disk, file, &bytes)?;
     Ok(())
 }
 
@@ -122,16 +128,26 @@ fn behind(
     start: &ScriptStart,
     script: &str,
 ) -> Result<(ScriptStart, u64), Fail> {
-    let world = World::open(rt, alloc, 7, start.disk()?).map_err(|refused| refused.0)?;
-    let mut driver = Driver::over(alloc, world);
+    let mut driver = Driver::over(alloc, opened(rt, alloc, 7, start.disk()?)?);
+    let refused = count_refused(alloc, &mut driver, script)?;
+    let disk = driver.into_world().into_disk();
+    Ok((ScriptStart::of(alloc, &disk)?, refused))
+}
+
+/// Answers the lines, and counts those that are refused.
+fn count_refused(
+    alloc: Global,
+    driver: &mut Driver<MemDisk>,
+    script: &str,
+) -> Result<u64, AllocError> {
+    let lines = lines_of(alloc, script.as_bytes())?;
     let mut refused = 0u64;
-    for line in lines_of(alloc, script.as_bytes())? {
-        if is_refused(&driver.answer(&line)) {
+    for line in lines.iter() {
+        if is_refused(&driver.answer(line)) {
             refused = refused.saturating_add(1);
         }
     }
-    let disk = driver.into_world().into_disk();
-    Ok((ScriptStart::of(alloc, &disk)?, refused))
+    Ok(refused)
 }
 
 /// Looks whether stops and faults leave of a script over a start what was promised, and whether so
@@ -145,12 +161,23 @@ fn is_ok_over(
 ) -> Result<ScriptStart, Fail> {
     let (left, were_refused) = behind(rt, alloc, &start, script)?;
     same(rt, &were_refused, &refused);
+    are_ok(rt, alloc, start, script)?;
+    Ok(left)
+}
+
+/// Stops and faults of the script leave what was promised.
+fn are_ok(
+    rt: &(impl Abort + Threads + Sync),
+    alloc: Global,
+    start: ScriptStart,
+    script: &str,
+) -> Result<(), Fail> {
     let lines = lines_of(alloc, script.as_bytes())?;
     let recorded = Recorded::of(rt, alloc, 7, start, lines)?;
     let report = check_stops(rt, &recorded, &mut Quiet)?;
     same(rt, &report.failed, &None);
     same(rt, &report.counts.calls, &(recorded.calls().len() as u64));
-    Ok(left)
+    Ok(())
 }
 
 /// Each script over what the one before it leaves, with how many of its lines are refused; and what
@@ -182,8 +209,7 @@ fn are_new(start: &ScriptStart) -> bool {
 
 /// The mark that a start is opened with.
 fn mark_of(rt: &(impl Threads + Sync), alloc: Global, start: &ScriptStart) -> Result<u64, Fail> {
-    let world = World::open(rt, alloc, 7, start.disk()?).map_err(|refused| refused.0)?;
-    Ok(world.mark().0)
+    Ok(opened(rt, alloc, 7, start.disk()?)?.mark().0)
 }
 
 // The empty segment 2 of version 1 makes room for segment 3 of version 2.
@@ -221,15 +247,22 @@ const AT_WORK: [(&str, u64); 9] = [
 // Each step from a new store, from a pair and from a folder at work, until no file is old.
 #[test]
 fn the_steps_of_old_folders_are_ok(rt: HostRuntime) -> Result<(), Fail> {
-    let alloc = rt.alloc();
-    let left = steps_are_ok(&rt, alloc, &FRESH, &FROM_NEW)?;
-    holds(&rt, are_new(&left));
-    same(&rt, &mark_of(&rt, alloc, &left)?, &2);
-    let left = steps_are_ok(&rt, alloc, &CHECKPOINTED, &FROM_A_PAIR)?;
-    holds(&rt, are_new(&left));
-    same(&rt, &mark_of(&rt, alloc, &left)?, &4);
-    let left = steps_are_ok(&rt, alloc, &WORKED, &AT_WORK)?;
-    holds(&rt, are_new(&left));
-    same(&rt, &mark_of(&rt, alloc, &left)?, &10);
+    carry_over(&rt, rt.alloc(), &FRESH, &FROM_NEW, 2)?;
+    carry_over(&rt, rt.alloc(), &CHECKPOINTED, &FROM_A_PAIR, 4)?;
+    carry_over(&rt, rt.alloc(), &WORKED, &AT_WORK, 10)
+}
+
+/// The steps are ok, and leave no old file, and the mark.
+fn carry_over(
+    rt: &(impl Abort + Threads + Sync),
+    alloc: Global,
+    files: &[(u16, &str)],
+    scripts: &[(&str, u64)],
+    mark: u64,
+) -> Result<(), Fail> {
+    let left = steps_are_ok(rt, alloc, files, scripts)?;
+    holds(rt, are_new(&left));
+    let left_mark = mark_of(rt, alloc, &left)?;
+    same(rt, &left_mark, &mark);
     Ok(())
 }
