@@ -13,6 +13,7 @@ import subprocess
 import tempfile
 import threading
 
+import libraries
 from sources import blanked, closing, read
 
 # How many edits one check tries.
@@ -144,9 +145,10 @@ class Edit:
 
 
 class Room:
-    """A copy of a crate and of what is built below it, in which its edits are tried."""
+    """A copy of a crate and of what is built below it, in which its edits are tried. `is_built` says
+    that one run of `rt ci` built all of that, of these files."""
 
-    def __init__(self, crate, under):
+    def __init__(self, crate, under, is_built):
         self.top = tempfile.mkdtemp(prefix="mvo-edits-")
         self.folder = f"{self.top}/crates/{crate}"
         for name in [*under, crate]:
@@ -159,6 +161,8 @@ class Room:
         # The toolchain wants to find each crate that is listed.
         here = [it for it in read("crates.txt").split("\n") if it.split(":")[0] in [*under, crate]]
         self.write("../../crates.txt", "\n".join(here) + "\n")
+        if is_built:
+            libraries.take(self.top)
 
     def write(self, file, text):
         with open(f"{self.folder}/{file}", "w", encoding="utf-8") as to:
@@ -201,9 +205,9 @@ class Room:
 class Trying:
     """Tries the edits of one crate. What came of each is told to `tell`."""
 
-    def __init__(self, crate, under, edits, tell):
+    def __init__(self, crate, under, edits, tell, is_built):
         self.crate, self.edits, self.tell = crate, edits, tell
-        self.room = Room(crate, under)
+        self.room = Room(crate, under, is_built)
         # Those that the toolchain tries alone.
         self.alone = []
 

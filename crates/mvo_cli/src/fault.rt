@@ -1,6 +1,7 @@
 ghost use Rattle.std.specs.Prelude.{◌≡◌, ◌↔◌, IsTrue};
 ghost use Rattle.mvo_cli.specs.Status.{status_of};
 
+use crate::told_refusal::ToldRefusal;
 use clap::error::ErrorKind;
 use mvo_script::ScriptError;
 use mvo_stops::{Failed, StopsError};
@@ -19,7 +20,7 @@ pub enum Fault {
     #[error("error: can't read the command line: {0}\n")]
     Words(io::Error),
     /// The store in a folder isn't made or opened.
-    #[error("{0}\n")]
+    #[error("{told}", told = ToldRefusal(*.0))]
     Refused(Refusal),
     /// Another process has the folder open. This is refused as a fault of the disk.
     #[error("refused 50\nthe folder is in use by another process\n")]

@@ -25,6 +25,7 @@ mod shown_progress;
 mod stops;
 mod stops_words;
 mod task;
+mod told_refusal;
 mod work;
 mod work_task;
 mod workers;

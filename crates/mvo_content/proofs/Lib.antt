@@ -4,3 +4,4 @@ mod Leaving
 mod Keeping
 mod Showing
 pub mod Fitting
+pub mod Places

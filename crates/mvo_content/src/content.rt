@@ -8,19 +8,24 @@ ghost use Rattle.mvo_types.specs.AnswerData.{AnswerData, answer_data};
 ghost use Rattle.mvo_types.specs.Keys.{row_at};
 ghost use Rattle.mvo_model.specs.History.{after_history};
 ghost use Rattle.mvo_model.specs.Serial.{answer_to, scan};
+ghost use Rattle.mvo_theory.specs.Told.{history_told};
 ghost use Rattle.mvo_theory.specs.Causes.{is_entry_too_many, is_write_too_many};
 ghost use Rattle.mvo_theory.specs.Entries.{entry_of};
 ghost use Rattle.mvo_shared.specs.Kept.{IsWork, IsOrdered};
 ghost use Rattle.mvo_shared.specs.Kept.{map_of_rows, with_looked, answer_kept, after_op};
 ghost use Rattle.mvo_theory.specs.Limits.{AreLimited};
+ghost use Rattle.mvo_shared.specs.Held.{empty_work};
 ghost use Rattle.mvo_work.specs.Limits.{MayFollow};
 ghost use Rattle.mvo_content.specs.Shown.{rows_in, AreRowsOf};
 ghost use Rattle.mvo_content.specs.Done.{work_in, write_left};
+ghost use Rattle.mvo_content.specs.Next.{IsPreparedFor};
 
 use crate::copying::{answer_again, copy_of, write_of};
 use crate::looks::Looks;
+use crate::memory::{clear_items, take_items};
+use crate::next_operation::NextOperation;
 use crate::own_rows::{by_key, write_all};
-use crate::own_writes::{Left, left_at, note_left};
+use crate::own_writes::{Left, clear_left, left_at, note_left};
 use crate::rows_shown::RowsShown;
 use indexmap::IndexMap;
 use mvo_model::Serial;
@@ -86,6 +91,13 @@ impl WorkContent {
         self.operations.len()
     }
 
+    /// The operations with their answers, in order.
+    pub fn operations(&self) -> &[(Op, Answer)]
+        ensures { history_told result.now ≡ self.now.history }
+    {
+        self.operations.as_slice()
+    }
+
     /// The operation at a place with its answer, from 0 on.
     pub fn operation_at(&self, place: usize) -> Option<&(Op, Answer)>
         ensures { option_map (λ o. (o.0, answer_data o.1)) (option_copied result)
@@ -116,6 +128,36 @@ impl WorkContent {
             Some(_) => false,
             None => self.left.len() >= MAX_WRITES,
         }
+    }
+
+    /// Takes an empty list for its operations, unless its own has memory. Nothing is done by it.
+    pub fn keep_list(&mut self, list: Vec<(Op, Answer)>)
+        requires { list.items ≡ [] }
+        ensures { work_in self.new ≡ work_in self.old }
+    {
+        if self.operations.capacity() == 0 {
+            self.operations = list;
+        }
+    }
+
+    /// Takes all operations out. It is as if nothing had been done.
+    pub fn take_operations(&mut self) -> Vec<(Op, Answer)>
+        ensures told { history_told result.items ≡ self.old.history }
+        ensures limits { AreLimited self.old.history }
+        ensures left { work_in self.new ≡ empty_work }
+    {
+        self.looks.clear();
+        clear_left(&mut self.left);
+        take_items(&mut self.operations)
+    }
+
+    /// Forgets all that was done. The memory of few operations is kept for another transaction.
+    pub fn clear(&mut self)
+        ensures { work_in self.new ≡ empty_work }
+    {
+        self.looks.clear();
+        clear_left(&mut self.left);
+        clear_items(&mut self.operations);
     }
 
     /// What its type keeps. The call does nothing.
@@ -213,7 +255,7 @@ impl WorkContent {
     }
 
     /// Adds an operation with its answer, its look and what it wrote, where there is room.
-    fn tell(
+    fn add(
         &mut self,
         op: Op,
         others: RowsShown,
@@ -234,6 +276,42 @@ impl WorkContent {
         push_reserved(&mut self.operations, op, answer);
     }
 
+    /// The operation with its answer where others show these rows in its entry, and room for it,
+    /// so that telling it takes no memory. Until it is told, nothing is done.
+    pub fn prepare(&mut self, op: Op, others: RowsShown) -> Result<NextOperation, AllocError>
+        requires { AreRowsOf (entry_of op) (rows_in others) }
+        ensures next { IfOk result (IsPreparedFor self.old op (rows_in others)) }
+        ensures same { work_in self.new ≡ work_in self.old }
+        ensures room { OnOk result (0 < self.new.room) }
+    {
+        let answer = self.next_answer(&op, &others)?;
+        let told = answer_again(*self.operations.allocator(), &answer)?;
+        let write = write_of(&op, &told)?;
+        self.make_room()?;
+        Ok(NextOperation::new(op, others, answer, told, write))
+    }
+
+    /// Does the operation that was prepared, and answers what it is answered. It takes no memory.
+    pub fn tell(&mut self, next: NextOperation) -> Answer
+        requires room { 0 < self.old.room }
+        requires limits { MayFollow self.old.history next.op next.answer }
+        requires few { is_entry_too_many self.old.history (entry_of next.op) ≡ false }
+        requires answer { next.answer ≡ answer_kept
+            (with_looked self.old.looked (entry_of next.op) next.rows) self.old.history next.op }
+        ensures told { work_in self.new ≡ after_op (work_in self.old) next.op next.rows }
+        ensures answer { answer_data result ≡ next.answer }
+    {
+        let NextOperation {
+            op,
+            others,
+            answer,
+            told,
+            write,
+        } = next;
+        self.add(op, others, told, write);
+        answer
+    }
+
     /// Does the operation where others show these rows in its entry: its answer is the serial
     /// step's, behind the own earlier writes, on the rows that the entry keeps; and these are what
     /// it keeps where it is new. Refused for want of memory, it has done nothing.
@@ -247,12 +325,8 @@ impl WorkContent {
             (work_in self.new ≡ after_op (work_in self.old) op (rows_in others)) }
         ensures err { OnErr result (work_in self.new ≡ work_in self.old) }
     {
-        let answer = self.next_answer(&op, &others)?;
-        let told = answer_again(*self.operations.allocator(), &answer)?;
-        let write = write_of(&op, &told)?;
-        self.make_room()?;
-        self.tell(op, others, told, write);
-        Ok(answer)
+        let next = self.prepare(op, others)?;
+        Ok(self.tell(next))
     }
 }
 

@@ -6,11 +6,16 @@ mod content;
 mod copying;
 mod held_work;
 mod looks;
+mod memory;
+mod next_operation;
 mod own_rows;
 mod own_writes;
 mod rows_shown;
+mod works;
 
 pub use content::WorkContent;
 pub use held_work::HeldWork;
 pub use looks::Looks;
+pub use next_operation::NextOperation;
 pub use rows_shown::RowsShown;
+pub use works::Works;

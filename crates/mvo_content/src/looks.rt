@@ -1,10 +1,12 @@
 ghost use Rattle.std.specs.Prelude.{◌≡◌, ◌<◌, ◌≤◌, ◌+◌, ◌++◌, ◌∷◌, [], None, not, nat_lt, is_some};
-ghost use Rattle.std.specs.Prelude.{IfSome, OnOk, OnErr, option_copied, length};
+ghost use Rattle.std.specs.Prelude.{IfSome, OnOk, OnErr, option_copied, length, slice_get};
+ghost use Rattle.std.specs.Map.Iter.{deref_pair};
+ghost use Rattle.std.specs.Option.{option_map};
 ghost use Rattle.indexmap.specs.IndexMap.{spare};
 ghost use Rattle.mvo_types.specs.Entries.{has_entry};
 ghost use Rattle.mvo_shared.specs.Kept.{entries_in, rows_kept, with_looked};
 ghost use Rattle.mvo_content.specs.Shown.{rows_in};
-ghost use Rattle.mvo_content.specs.Looks.{look_at};
+ghost use Rattle.mvo_content.specs.Looks.{look_at, look_of};
 
 use crate::rows_shown::RowsShown;
 use indexmap::IndexMap;
@@ -60,6 +62,17 @@ impl Looks {
         ensures { result ≡ length self.now.looked }
     {
         self.few.len() + self.behind.len()
+    }
+
+    /// The entry at a place, from 0 on, with the rows that are kept for it.
+    pub fn at(&self, place: usize) -> Option<(&Entry, &RowsShown)>
+        ensures { option_map look_of (option_map deref_pair result)
+            ≡ slice_get self.now.looked place }
+    {
+        match few_at(&self.few, place) {
+            Some(found) => Some(found),
+            None => self.behind.get_index(place.saturating_sub(FEW)),
+        }
     }
 
     /// The rows that are kept for the entry, if it is kept.
@@ -137,6 +150,16 @@ impl Looks {
         } else if !self.behind.is_empty() {
             self.behind.clear();
         }
+    }
+}
+
+/// The look at a place of the list.
+fn few_at(few: &[(Entry, RowsShown)], place: usize) -> Option<(&Entry, &RowsShown)>
+    ensures { option_map deref_pair result ≡ slice_get few.now place }
+{
+    match few.get(place) {
+        Some((entry, rows)) => Some((entry, rows)),
+        None => None,
     }
 }
 

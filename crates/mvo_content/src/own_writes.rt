@@ -1,5 +1,5 @@
 //! What the own writes of a transaction left at the keys that it wrote.
-ghost use Rattle.std.specs.Prelude.{◌≡◌, ◌<◌, Some, option_copied};
+ghost use Rattle.std.specs.Prelude.{◌≡◌, ◌<◌, [], Some, option_copied};
 ghost use Rattle.mvo_types.specs.declared.row.RowKey.{RowKey};
 ghost use Rattle.std.specs.Map.{keys_of};
 ghost use Rattle.std.specs.Option.{option_map};
@@ -9,6 +9,9 @@ ghost use Rattle.mvo_content.specs.Done.{left_at, left_later};
 
 use indexmap::IndexMap;
 use mvo_types::{Row, RowKey};
+
+// The memory of more keys than this isn't kept for another transaction.
+const KEPT: usize = 128;
 
 /// By key, in the order of the first write, the row that the last write left, if it left one.
 pub type Left = IndexMap<RowKey, Option<Row>>;
@@ -42,4 +45,15 @@ fn put_left(left: &mut Left, key: RowKey, row: Option<Row>)
         left_at left.new.entries k ≡ left_later k (Some (key, row)) (left_at left.old.entries k) }
 {
     left.insert(key, row).unwrap();
+}
+
+/// Forgets them all. The memory of few is kept for another transaction.
+pub fn clear_left(left: &mut Left)
+    ensures { left.new.entries ≡ [] }
+{
+    if left.len() > KEPT {
+        *left = IndexMap::new(*left.allocator());
+    } else if !left.is_empty() {
+        left.clear();
+    }
 }

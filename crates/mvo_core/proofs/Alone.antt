@@ -114,7 +114,7 @@ written_again table t node one two change kept changed =
 
 -- room for more, whatever there is
 abbrev roomy : KeptTransaction → KeptTransaction
-roomy own = record own { work = record own.work { room = 1; word_room = 2 } }
+roomy own = record own { work = record own.work { room = 1 }; writes = record own.writes { room = 2 } }
 
 -- one look records the answer as two would
 pub recorded_alone : (table : Txns (Node KeptTransaction)) (t : TxId) (node : Node KeptTransaction) (after : KeptTransaction) (op : Op) (answer : AnswerData)

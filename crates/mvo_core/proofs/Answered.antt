@@ -52,6 +52,7 @@ use Rattle.mvo_core.specs.Readers.{Readers, reader_in, HasTalePlaces}
 use Rattle.mvo_core.specs.Steps.{LeadsAmong}
 use Rattle.mvo_core.proofs.Laws.{answer_in_table, call_keeps}
 use Rattle.mvo_core.proofs.Carried.{stands_roomy, some_own}
+use Rattle.mvo_core.proofs.GoesBeside.{called_beside}
 use Rattle.mvo_core.proofs.OwnChanged.{IsOwnChanged, own_registered_all, state_registered_all, own_changed, own_weaker, words_stay, words_registered}
 use Rattle.mvo_core.proofs.ReaderStages.{AreSameReaders, stages_same, same_reader, readers_but}
 
@@ -188,6 +189,7 @@ module _ (rs : Readers) (opening : Map) (steps : List Step) (s : State) (c : Cor
     grouped = h.grouped;
     start = beside.0 ∙ h.start;
     over = each_call_keeps_over opening s (phases_of (state_of c.table)) (all_versions c.versions.slots) (Do t.0 op) Accepted h.versions.kept may_come h.versions.versions h.over;
+    beside = called_beside opening steps s (Do t.0 op) Accepted tt may_come h.beside;
   }
 
   pub answer_leads : LeadsAmong rs opening steps s (Do t.0 op) Accepted (record c { versions = v; table = table })

@@ -43,6 +43,7 @@ use Rattle.mvo_core.specs.Standing.{HasWorks, IsKeptActive, Stands, own_words_of
 use Rattle.mvo_core.specs.Steps.{came, LeadsOn, LeadsAmong}
 use Rattle.mvo_core.proofs.Laws.{why_not_begun_told, begin_in_table, begin_in_order, begin_in_lists, call_keeps}
 use Rattle.mvo_core.proofs.Carried.{SaysAsMuch, as_much, works_carried}
+use Rattle.mvo_core.proofs.GoesBeside.{called_beside}
 use Rattle.mvo_core.proofs.ReaderStages.{AreSameReaders, stages_same, readers_but}
 use Rattle.mvo_core.proofs.ReaderTales.{places_later}
 use Rattle.mvo_core.proofs.WrittenThen.{none_own}
@@ -73,7 +74,7 @@ module _ (rs : Readers) (opening : Map) (steps : List Step) (s : State) (c : Cor
   pub fresh_own : own_of c.table (c.table.clock + 1) ≡ None
   fresh_own = ap (λ o. option_map (λ n. n.own) (option_map (λ x. x.kept) o)) fresh
 
-  module _ (node : Node KeptTransaction) (none : node.dependencies ≡ no_dependencies) (told : node.own.work.history ≡ []) (wordless : node.own.work.words ≡ []) (other : node.own.kind ≡ Other) where
+  module _ (node : Node KeptTransaction) (none : node.dependencies ≡ no_dependencies) (told : node.own.work.history ≡ []) (wordless : node.own.writes.words ≡ []) (other : node.own.kind ≡ Other) where
     begun : Txns (Node KeptTransaction)
     begun = table_after_begin c.table node
 
@@ -150,6 +151,7 @@ module _ (rs : Readers) (opening : Map) (steps : List Step) (s : State) (c : Cor
       grouped = h.grouped;
       start = h.start;
       over = each_call_keeps_over opening s (phases_of (state_of c.table)) (all_versions c.versions.slots) Begin Accepted h.versions.kept may h.versions.versions h.over;
+      beside = called_beside opening steps s Begin Accepted tt may h.beside;
     }
 
     pub begin_leads : (r : Result TxId Refusal) (table : Txns (Node KeptTransaction)) → OnOk r (table ≡ table_after_begin c.table node) → OnOk r (why_not_begun c.table ≡ None)

@@ -50,10 +50,12 @@ use Rattle.mvo_collect.specs.Begun.{AreOver}
 use Rattle.mvo_core.proofs.ReaderLeaves.{Leaves, own_left}
 use Rattle.mvo_core.specs.declared.kept_transaction.KeptTransaction.{KeptTransaction}
 use Rattle.mvo_core.specs.Data.{CoreData, own_of}
+use Rattle.mvo_core.specs.Beside.{GoesBeside}
 use Rattle.mvo_core.specs.Standing.{HasWorks, IsKeptActive, IsKeptPreparing, own_words_of, words_in, StandsAmong}
 use Rattle.mvo_core.specs.Keeping.{IsWritten, with_own_at}
 use Rattle.mvo_core.specs.Readers.{Readers, reader_in, HaveStages, HasTalePlaces}
 use Rattle.mvo_core.proofs.Carried.{own_here, own_beside}
+use Rattle.mvo_core.proofs.GoesBeside.{called_beside}
 use Rattle.mvo_core.proofs.Laws.{write_in_table, call_keeps}
 use Rattle.mvo_core.proofs.ReaderStages.{stages_same, readers_but}
 use Rattle.mvo_core.proofs.FinishLaws.{word_in_table, leave_in_table, finished_stands_for, finish_in_order, leaving_in_order, changed_now}
@@ -72,6 +74,7 @@ pub record StandsBeside (rs : Readers) (opening : Map) (steps : List Step) (s : 
   pub grouped : AreGroupedTo c.tale c.grouped c.closed
   pub start : s.start ≡ c.start
   pub over : AreOver s
+  pub goes : GoesBeside opening steps s
 
 pub beside : (rs : Readers) (opening : Map) (steps : List Step) (s : State) (c : CoreData) → StandsAmong rs opening steps s c → StandsBeside rs opening steps s c
 beside rs opening steps s c h = record {
@@ -87,6 +90,7 @@ beside rs opening steps s c h = record {
   grouped = h.grouped;
   start = h.start;
   over = h.over;
+  goes = h.beside;
 }
 
 pub with_lists : (rs : Readers) (opening : Map) (steps : List Step) (s : State) (c : CoreData) → StandsBeside rs opening steps s c → HasWordLists s c.versions.slots (words_in c.table) → StandsAmong rs opening steps s c
@@ -104,6 +108,7 @@ with_lists rs opening steps s c h l = record {
   grouped = h.grouped;
   start = h.start;
   over = h.over;
+  beside = h.goes;
 }
 
 -- ---- what is written of one transaction
@@ -139,10 +144,10 @@ module _ (old new : Txns (Node KeptTransaction)) (t : ℕ) (change : KeptTransac
   pub deps_written : (s : State) → HasDependencies s old → HasDependencies s new
   deps_written s h = subst (HasDependencies s) (sym one.is) (write_in_table s old t one.node (record one.node { own = w.after }) h one.was refl)
 
-  pub list_written : HaveListNow (words_in old) (words_in new) t w.after.work.words
+  pub list_written : HaveListNow (words_in old) (words_in new) t w.after.writes.words
   list_written = record { others = λ u ne. ap own_words_of (own_others u ne); here = ap own_words_of own_now }
 
-  pub list_was : words_in old t ≡ w.before.work.words
+  pub list_was : words_in old t ≡ w.before.writes.words
   list_was = ap own_words_of w.was
 
 -- ---- one that is ended isn't Active
@@ -194,6 +199,7 @@ module _ (rs : Readers) (opening : Map) (steps : List Step) (s : State) (c : Cor
     grouped = h.grouped;
     start = h.start;
     over = h.over;
+    goes = h.goes;
   }
 
   -- a word that names it is finished
@@ -233,6 +239,7 @@ module _ (rs : Readers) (opening : Map) (steps : List Step) (s : State) (c : Cor
         grouped = h.grouped;
         start = h.start;
         over = h.over;
+        goes = h.goes;
       })
 
   -- ---- the state goes on
@@ -269,6 +276,7 @@ module _ (rs : Readers) (opening : Map) (steps : List Step) (s : State) (c : Cor
     grouped = h.grouped;
     start = ap (λ (x : State). x.start) (finish_is s u.id) ∙ h.start;
     over = over;
+    goes = called_beside opening steps s (Finish u.id) Accepted tt may h.goes;
   }
 
   over_finished : MayCome s (Finish u.id) Accepted → AreOver (changes.after_finish s u.id)

@@ -92,7 +92,7 @@ module _ (table : Txns (Node KeptTransaction)) (t : ℕ) (node new : Node KeptTr
       (ap reader_in own_here ∙ same_reader node.own new.own same.kind same.place same.checked same.valid ∙ sym (ap (λ o. reader_in (option_map (λ n. n.own) o)) was))
 
   -- the lists of words are the same, if this one's is
-  pub words_written : new.own.work.words ≡ node.own.work.words → words_in (table_after_write table t new) ≡ words_in table
+  pub words_written : new.own.writes.words ≡ node.own.writes.words → words_in (table_after_write table t new) ≡ words_in table
   words_written same = λ i u. at u i
     where
       at : (u : ℕ) → words_in (table_after_write table t new) u ≡ words_in table u
@@ -119,6 +119,7 @@ module _ (rs : Readers) (opening : Map) (steps : List Step) (s : State) (c : Cor
     grouped = h.grouped;
     start = h.start;
     over = h.over;
+    beside = h.beside;
   } where
     states : state_of c.table ≡ state_of (table_after_write c.table t new)
     states = λ i u. sym (written_state c.table t node new was same u) i

@@ -20,6 +20,8 @@ use Rattle.mvo_theory.specs.Changes.{after_close}
 use Rattle.mvo_types.specs.Causes.{when, first_cause}
 use Rattle.mvo_theory.specs.Causes.{why_not_close}
 use Rattle.mvo_theory.specs.Calls.{IsRefusal}
+use Rattle.mvo_theory.specs.Calls.Call.{Close}
+use Rattle.mvo_theory.specs.Calls.Result.{Accepted}
 use Rattle.mvo_theory.proofs.Finishing.{kept_closed}
 use Rattle.mvo_theory.proofs.Groups.{closed_at_low, closed_below_low, next_group_closes}
 use Rattle.mvo_shared.proofs.Standing.{standing_of}
@@ -45,6 +47,8 @@ use Rattle.mvo_core.specs.declared.answers.Closed.{Closed}
 use Rattle.mvo_core.specs.Data.{CoreData}
 use Rattle.mvo_core.specs.Standing.{words_in, StandsAmong}
 use Rattle.mvo_core.specs.Closing.{IsClosedAmong, IsNotClosedAmong, HasClosedAmong}
+use Rattle.mvo_standing.proofs.Fits.{fits_alike}
+use Rattle.mvo_core.proofs.GoesBeside.{called_beside, called_beside_so}
 use Rattle.mvo_core.proofs.KeptTale.{opens_above_among, next_group_among}
 use Rattle.mvo_core.proofs.Trimmed.{stands_forgotten, low_water_told}
 use Rattle.rtrb.specs.declared.producer.Producer.{Producer}
@@ -83,6 +87,9 @@ module _ (rs : Readers) (opening : Map) (steps : List Step) (s : State) (c : Cor
       ap (λ (m : Marks). why_at (low_water s) m.closed full) h.marks
       ∙ ap (λ (n : ℕ). why_at n c.closed full) (sym low_is)
 
+  pub closes : (low == c.closed) ≡ false → why_not_close s false ≡ None
+  closes ne = why_is false ∙ moved_at low c.closed false ne
+
   -- ---- what the records of the next group need
   pub ends_above : AllByRecursion (λ e. low < e) (open_ends c.tale)
   ends_above = subst (λ (n : ℕ). AllByRecursion (λ e. n < e) (open_ends c.tale)) (sym low_is) (opens_above_among s c.tale h.versions.kept.started h.versions.kept.sound.rising h.tale (low_water s) (closed_at_low opening steps s h.kept).above)
@@ -107,7 +114,7 @@ module _ (rs : Readers) (opening : Map) (steps : List Step) (s : State) (c : Cor
     next_is = next_group_among s c.tale h.versions.kept.started h.versions.kept.sound.rising h.tale h.places.readers.idle n in_state
 
     -- the new mark is the lowest that a group may have
-    module _ (up : c.closed < n.mark.0) where
+    module _ (up : c.closed < n.mark.0) (moved : (low == c.closed) ≡ false) where
       up_in_state : s.marks.closed ≤ n.mark.0
       up_in_state = subst (λ (m : Marks). m.closed ≤ n.mark.0) (sym h.marks) (omega (arith, up))
 
@@ -131,6 +138,8 @@ module _ (rs : Readers) (opening : Map) (steps : List Step) (s : State) (c : Cor
         grouped = are.next;
         start = h.start;
         over = h.over;
+        beside = called_beside_so opening steps s (after_close s n.mark.0)
+            (called_beside opening steps s (Close fits (record { prev = s.marks.closed; mark = n.mark.0; commits = in_state.taken }) false) Accepted fits_alike (closes moved, next_is) h.beside);
       }
 
       -- and what is both in a group and trimmed is forgotten
@@ -158,9 +167,6 @@ module _ (rs : Readers) (opening : Map) (steps : List Step) (s : State) (c : Cor
         record { drawn = q.closed.drawn; above = q.closed.above }
 
   -- ---- whether it is refused
-  pub closes : (low == c.closed) ≡ false → why_not_close s false ≡ None
-  closes ne = why_is false ∙ moved_at low c.closed false ne
-
   pub not_moved : (full : Bool) → (low == c.closed) ≡ true → IsNotClosedAmong rs opening steps s full NothingToDo c
   not_moved full q = record { refused = subst (λ o. IsRefusal true o NothingToDo) (sym (why_is full ∙ nothing_at low c.closed full q)) refl; stands = h }
 

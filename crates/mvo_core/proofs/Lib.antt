@@ -1,5 +1,6 @@
 pub mod Begun
 pub mod Carried
+pub mod GoesBeside
 pub mod CausesTold
 pub mod Laws
 pub mod TakenBack

@@ -50,7 +50,7 @@ module _ (table : Txns (Node KeptTransaction)) (t : ℕ) where
       go None k = absurd (not_there (subst IsSome (ap (option_map (λ n. n.own)) k) there))
       go (Some node) k =
           let was : own_of table t ≡ Some node.own = ap (option_map (λ n. n.own)) k in
-          let empty : node.own.work.words ≡ [] = sym (ap own_words_of was) ∙ none in
+          let empty : node.own.writes.words ≡ [] = sym (ap own_words_of was) ∙ none in
           record {
             before = node.own;
             after = node.own;

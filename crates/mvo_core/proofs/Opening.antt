@@ -39,6 +39,7 @@ use Rattle.mvo_core.specs.declared.kept_transaction.KeptTransaction.{KeptTransac
 use Rattle.mvo_core.specs.Data.{CoreData, own_of}
 use Rattle.mvo_core.specs.Standing.{HasOpenedOver, own_words_of, words_in}
 use Rattle.mvo_core.specs.WholeStanding.{StandsInWhole}
+use Rattle.mvo_core.proofs.GoesBeside.{opens_beside}
 use Rattle.mvo_readonly.specs.Whole.{opened_whole}
 use Rattle.mvo_readonly.proofs.WholeRuns.{whole_opened}
 
@@ -90,6 +91,7 @@ module _ (rows : Map) (mark : ℕ) (v : VersionsData) (is : AreLoaded rows mark 
     grouped = record { behind = tt; settled = refl; grouped = tt };
     start = refl;
     over = opens_over rows mark;
+    beside = opens_beside rows mark;
   }
 
   -- nothing waits

@@ -121,13 +121,13 @@ module _ (old new : Txns (Node KeptTransaction)) (t : ℕ) (change : KeptTransac
   pub words_beside : (u : ℕ) → u ≢ t → words_in new u ≡ words_in old u
   words_beside u ne = ap own_words_of (w.beside u ne)
 
-  pub words_here : words_in new t ≡ w.after.work.words
+  pub words_here : words_in new t ≡ w.after.writes.words
   words_here = ap own_words_of w.is
 
-  pub words_before : words_in old t ≡ w.before.work.words
+  pub words_before : words_in old t ≡ w.before.writes.words
   words_before = ap own_words_of w.was
 
-  pub words_stay : w.after.work.words ≡ w.before.work.words → words_in new ≡ words_in old
+  pub words_stay : w.after.writes.words ≡ w.before.writes.words → words_in new ≡ words_in old
   words_stay same = λ i u. at u i
     where
       at : (u : ℕ) → words_in new u ≡ words_in old u

@@ -156,7 +156,7 @@ module _ (rs : Readers) (opening : Map) (steps : List Step) (s : State) (c : Cor
       after = written.after;
       was = written.was;
       is = written.is;
-      changed = record { history = ap (λ w. w.history) written.changed.work; words = ap (λ w. w.words) written.changed.work };
+      changed = record { history = ap (λ w. w.history) written.changed.work; words = ap (λ w. w.words) written.changed.writes };
     }
 
     apart : AllByRecursion (λ x. x.settled ≡ false → x.id ≢ t.0) then'.stamped

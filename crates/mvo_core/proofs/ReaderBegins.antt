@@ -70,7 +70,7 @@ none_among tale t None h = refl
 none_among tale t (Some p) h = absurd h
 
 module _ (opening : Map) (own : List Step) (w : WholeState) (c : CoreData) (node : Node KeptTransaction) (h : StandsAmong (readers_of w) opening own w.core c) (none : node.dependencies ≡ no_dependencies)
-    (told : node.own.work.history ≡ []) (wordless : node.own.work.words ≡ []) (kind : node.own.kind ≡ Reading) (place : node.own.place ≡ length c.tale) (may : MayCome w.core Begin Accepted) where
+    (told : node.own.work.history ≡ []) (wordless : node.own.writes.words ≡ []) (kind : node.own.kind ≡ Reading) (place : node.own.place ≡ length c.tale) (may : MayCome w.core Begin Accepted) where
   abbrev s : State
   s = w.core
 

@@ -190,7 +190,7 @@ module _ (opening : Map) (steps own : List Step) (w : WholeState) (c : CoreData)
       after = written.after;
       was = written.was;
       is = written.is;
-      changed = record { history = ap (λ x. x.history) written.changed.work; words = ap (λ x. x.words) written.changed.work };
+      changed = record { history = ap (λ x. x.history) written.changed.work; words = ap (λ x. x.words) written.changed.writes };
     }
 
     free : why_not_reader w.core p (Precommit t) ≡ None

@@ -57,6 +57,7 @@ module _ (opening : Map) (steps own : List Step) (w : WholeState) (c : CoreData)
     grouped = h.core.grouped;
     start = h.core.start;
     over = h.core.over;
+    beside = h.core.beside;
   }
 
   pub reader_stays : (call : Call) (r : Result) → core_calls w (CoreCall call) r ≡ [] → MayComeWhole w (CoreCall call) r → HasReaders w.core.start (readers_after w (CoreCall call) r) (committed_after w (CoreCall call) r) c.tale
@@ -143,7 +144,7 @@ module _ (opening : Map) (steps own : List Step) (w : WholeState) (c : CoreData)
             after = written.after;
             was = written.was;
             is = written.is;
-            changed = record { history = ap (λ x. x.history) written.changed.work; words = ap (λ x. x.words) written.changed.work };
+            changed = record { history = ap (λ x. x.history) written.changed.work; words = ap (λ x. x.words) written.changed.writes };
           }
 
           moved : IsOwnOfReader c.tale t (own_of table t) (IsPreparing (n + 1) last)

@@ -114,6 +114,7 @@ module _ (opening : Map) (steps own : List Step) (w : WholeState) (c : CoreData)
       grouped = subst (λ (xs : List TalePlace). AreGroupedTo xs c.grouped c.closed) left_is (grouped_reading_left opened c.grouped c.closed (length c.tale) (ap is_some last) (grouped_begun c.tale c.grouped c.closed b h.core.grouped));
       start = h.core.start;
       over = h.core.over;
+      beside = h.core.beside;
     };
     kept = h.kept;
   })

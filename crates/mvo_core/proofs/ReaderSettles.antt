@@ -122,6 +122,7 @@ module _ (before : Readers) (opening : Map) (steps : List Step) (s : State) (c :
     grouped = grouped;
     start = h.start;
     over = h.over;
+    beside = h.beside;
   }
 
 gone_in : (t : ℕ) (rs : List ActiveTx) → AllByRecursion (λ r. r.id ≢ t) (without_id t rs)

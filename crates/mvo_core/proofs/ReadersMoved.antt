@@ -78,6 +78,7 @@ readers_moved before after opening steps s c t table tale h apart written opens 
   grouped = grouped;
   start = h.start;
   over = h.over;
+  beside = h.beside;
 }
 
 -- ---- a call that is none of the core's

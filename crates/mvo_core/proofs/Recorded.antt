@@ -8,7 +8,7 @@ use Rattle.mvo_txn.specs.Txns.{Txns}
 use Rattle.mvo_deps.specs.declared.node.Node.{Node}
 use Rattle.mvo_deps.specs.Nodes.{after_register_all}
 use Rattle.mvo_deps.specs.Graph.{IsUnfinished}
-use Rattle.mvo_work.specs.Work.{HasRoom}
+use Rattle.mvo_work.specs.Writes.{HasRoom}
 use Rattle.mvo_core.specs.declared.kept_transaction.KeptTransaction.{KeptTransaction}
 use Rattle.mvo_core.specs.Data.{own_of}
 use Rattle.mvo_core.specs.Keeping.{IsWritten, HasMadeRoom}
@@ -39,8 +39,8 @@ module _ (old roomy : Txns (Node KeptTransaction)) (t : TxId) (room : IsWritten 
     pub room_then : IfSome (own_of table t.0) (λ own. 0 < own.work.room)
     room_then = if_own (own_of table t.0) changed.after (λ own. 0 < own.work.room) own_then changed.changed.room.operation
 
-    pub all_room_then : IfSome (own_of table t.0) (λ own. HasRoom own.work)
-    all_room_then = if_own (own_of table t.0) changed.after (λ own. HasRoom own.work) own_then changed.changed.room
+    pub all_room_then : IfSome (own_of table t.0) (λ own. HasRoom own.work own.writes)
+    all_room_then = if_own (own_of table t.0) changed.after (λ own. HasRoom own.work own.writes) own_then changed.changed.room
 
     -- what is so of its history before
     pub history_then : (P : History → Type 0) → IfSome (own_of old t.0) (λ own. P own.work.history) → IfSome (own_of table t.0) (λ own. P own.work.history)

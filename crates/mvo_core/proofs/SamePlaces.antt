@@ -29,4 +29,5 @@ stands_by_places rs opening steps s c places alike h = record {
   grouped = h.grouped;
   start = h.start;
   over = h.over;
+  beside = h.beside;
 }

@@ -53,4 +53,5 @@ module _ (rs : Readers) (opening : Map) (steps : List Step) (s : State) (c : Cor
     grouped = h.grouped;
     start = h.start;
     over = h.over;
+    beside = h.beside;
   }

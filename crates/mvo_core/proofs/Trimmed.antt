@@ -51,6 +51,7 @@ use Rattle.mvo_core.specs.Data.{CoreData}
 use Rattle.mvo_core.specs.Standing.{StandsFor, IsKeptPreparing, words_in, StandsAmong}
 use Rattle.mvo_core.specs.Steps.{LeadsAmong}
 use Rattle.mvo_core.specs.Trimming.{may_trim_to, IsTaleOf}
+use Rattle.mvo_core.proofs.GoesBeside.{called_beside, called_beside_so}
 use Rattle.mvo_core.proofs.ReaderStages.{stages_told}
 use Rattle.mvo_core.proofs.ReaderTales.{each_forgotten, stored_others}
 use Rattle.mvo_core.proofs.KeptTale.{open_forgotten, stored_is}
@@ -102,6 +103,7 @@ stands_forgotten rs opening steps s c h upto trimmed grouped = let after = whole
   grouped = grouped_forgotten upto c.tale c.grouped c.closed h.grouped;
   start = h.start;
   over = h.over;
+  beside = h.beside;
 }
 
 -- ---- its tale is the one of the state
@@ -173,6 +175,7 @@ module _ (rs : Readers) (opening : Map) (steps : List Step) (s : State) (c : Cor
         grouped = h.grouped;
         start = refl;
         over = over_trimmed s m free h.over;
+        beside = called_beside_so opening steps s (after_trim s m) (called_beside opening steps s (Trim m) Accepted tt (free, tt) h.beside);
       }
 
       pub trim_leads : (tale : List TalePlace) → tale ≡ forgotten (min m c.closed) c.tale → LeadsAmong rs opening steps s (Trim m) Accepted (record c { start = m; tale = tale })

@@ -81,6 +81,7 @@ module _ (rs : Readers) (opening : Map) (steps : List Step) (s : State) (c : Cor
       grouped = h.grouped;
       start = h.start;
       over = h.over;
+      beside = h.beside;
     }
 
     pub collected_waits : AreWaiting c.table.clock (state_of c.table) new.slots w'

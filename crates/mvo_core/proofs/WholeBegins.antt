@@ -51,7 +51,7 @@ module _ (opening : Map) (steps own : List Step) (w : WholeState) (c : CoreData)
       (reader_not_begun opening steps own w c h rising)
 
   -- ---- it does
-  pub begins_whole : (node : Node KeptTransaction) → node.dependencies ≡ no_dependencies → node.own.work.history ≡ [] → node.own.work.words ≡ [] → node.own.kind ≡ Reading → node.own.place ≡ length c.tale → (n : ℕ) → n ≡ c.table.clock
+  pub begins_whole : (node : Node KeptTransaction) → node.dependencies ≡ no_dependencies → node.own.work.history ≡ [] → node.own.writes.words ≡ [] → node.own.kind ≡ Reading → node.own.place ≡ length c.tale → (n : ℕ) → n ≡ c.table.clock
       → why_not_begun c.table ≡ None → (table : Txns (Node KeptTransaction)) → table ≡ table_after_begin c.table node → (tale : List TalePlace) → tale ≡ c.tale ++ PlaceReading (record { 0 = n + 1 }) ∷ []
       → LeadsWhole opening steps own w BeginReadOnly Accepted (record c { table = table; tale = tale })
   begins_whole node none told wordless kind place n at why table table_is tale tale_is =

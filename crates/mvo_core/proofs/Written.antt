@@ -12,13 +12,13 @@ pub on_ok : {T E : Type 0} (A B : Type 0) (r : Result T E) → OnOk r A → (A �
 on_ok A B (Ok x) h f = f h
 on_ok A B (Err e) h f = tt
 
+pub on_err : {T E : Type 0} (A B : Type 0) (r : Result T E) → OnErr r A → (A → B) → OnErr r B
+on_err A B (Ok x) h f = tt
+on_err A B (Err e) h f = f h
+
 pub always_ok : {T E : Type 0} (A : Type 0) (r : Result T E) → A → OnOk r A
 always_ok A (Ok x) h = h
 always_ok A (Err e) h = tt
-
-pub always_err : {T E : Type 0} (A : Type 0) (r : Result T E) → A → OnErr r A
-always_err A (Ok x) h = tt
-always_err A (Err e) h = h
 
 -- what is kept of it becomes this
 pub written : (table : Txns (Node KeptTransaction)) (t : ℕ) (node : Node KeptTransaction) (after : KeptTransaction) (change : KeptTransaction → KeptTransaction → Type 0)

@@ -7,7 +7,7 @@ use Rattle.mvo_txn.specs.Txns.{Txns, kept_of, table_after_write}
 use Rattle.mvo_deps.specs.declared.node.Node.{Node}
 use Rattle.mvo_deps.specs.Nodes.{after_register_all}
 use Rattle.mvo_work.specs.declared.word_place.WordPlace.{WordPlace}
-use Rattle.mvo_work.specs.Work.{HasRoom}
+use Rattle.mvo_work.specs.Writes.{HasRoom}
 use Rattle.mvo_core.specs.declared.kept_transaction.KeptTransaction.{KeptTransaction}
 use Rattle.mvo_core.specs.declared.kept_transaction.TransactionKind.{TransactionKind}
 use Rattle.mvo_core.specs.declared.kept_transaction.TransactionKind.TheVariants.{Preparing, Committed}
@@ -44,7 +44,7 @@ pub record IsWrittenThen (old new : Txns (Node KeptTransaction)) (t : ℕ)
 -- as much is done
 pub record HasDoneAsMuch (old new : KeptTransaction) : Type 0 where
   pub history : new.work.history ≡ old.work.history
-  pub words : new.work.words ≡ old.work.words
+  pub words : new.writes.words ≡ old.writes.words
   pub place : new.place ≡ old.place
   pub checked : new.checked ≡ old.checked
   pub valid : new.valid ≡ old.valid
@@ -53,12 +53,12 @@ pub record HasDoneAsMuch (old new : KeptTransaction) : Type 0 where
 -- the same, with room for more
 pub record HasMadeRoom (old new : KeptTransaction) : Type 0 where
   pub same : HasDoneAsMuch old new
-  pub room : HasRoom new.work
+  pub room : HasRoom new.work new.writes
 
 -- it has done one operation more
 pub record IsTold (op : Op) (answer : AnswerData) (old new : KeptTransaction) : Type 0 where
   pub history : new.work.history ≡ old.work.history ++ (op, answer) ∷ []
-  pub words : new.work.words ≡ old.work.words
+  pub words : new.writes.words ≡ old.writes.words
   pub place : new.place ≡ old.place
   pub checked : new.checked ≡ old.checked
   pub valid : new.valid ≡ old.valid
@@ -68,7 +68,7 @@ pub record IsTold (op : Op) (answer : AnswerData) (old new : KeptTransaction) : 
 pub record HasDoneMore (op : Op) (answer : AnswerData) (put : List WordPlace)
     (old new : KeptTransaction) : Type 0 where
   pub history : new.work.history ≡ old.work.history ++ (op, answer) ∷ []
-  pub words : new.work.words ≡ old.work.words ++ put
+  pub words : new.writes.words ≡ old.writes.words ++ put
   pub place : new.place ≡ old.place
   pub checked : new.checked ≡ old.checked
   pub valid : new.valid ≡ old.valid
@@ -77,7 +77,7 @@ pub record HasDoneMore (op : Op) (answer : AnswerData) (put : List WordPlace)
 -- its first word is taken off
 pub record HasDropped (old new : KeptTransaction) : Type 0 where
   pub history : new.work.history ≡ old.work.history
-  pub words : new.work.words ≡ drop 1 old.work.words
+  pub words : new.writes.words ≡ drop 1 old.writes.words
   pub place : new.place ≡ old.place
   pub checked : new.checked ≡ old.checked
   pub valid : new.valid ≡ old.valid
@@ -86,7 +86,7 @@ pub record HasDropped (old new : KeptTransaction) : Type 0 where
 -- its operations are taken out. The words stay
 pub record HasHandedOver (old new : KeptTransaction) : Type 0 where
   pub history : new.work.history ≡ []
-  pub words : new.work.words ≡ old.work.words
+  pub words : new.writes.words ≡ old.writes.words
   pub place : new.place ≡ old.place
   pub checked : new.checked ≡ old.checked
   pub valid : new.valid ≡ old.valid
@@ -95,6 +95,7 @@ pub record HasHandedOver (old new : KeptTransaction) : Type 0 where
 -- it has this place in the tale, and none of its entries is checked
 pub record IsPlacedInTale (place : ℕ) (old new : KeptTransaction) : Type 0 where
   pub work : new.work ≡ old.work
+  pub writes : new.writes ≡ old.writes
   pub is : new.place ≡ place
   pub checked : new.checked ≡ 0
   pub valid : new.valid ≡ false
@@ -103,6 +104,7 @@ pub record IsPlacedInTale (place : ℕ) (old new : KeptTransaction) : Type 0 whe
 -- it is read-only, and its checks begin: none of its entries is checked
 pub record HasStartedChecks (old new : KeptTransaction) : Type 0 where
   pub work : new.work ≡ old.work
+  pub writes : new.writes ≡ old.writes
   pub place : new.place ≡ old.place
   pub checked : new.checked ≡ 0
   pub valid : new.valid ≡ false
@@ -111,6 +113,7 @@ pub record HasStartedChecks (old new : KeptTransaction) : Type 0 where
 -- one more of its entries is checked. The last one isn't counted: it is valid then
 pub record IsCounted (old new : KeptTransaction) : Type 0 where
   pub work : new.work ≡ old.work
+  pub writes : new.writes ≡ old.writes
   pub place : new.place ≡ old.place
   pub checked :
       new.checked ≡ (if is_last_check old then old.checked else old.checked + 1)
@@ -120,6 +123,7 @@ pub record IsCounted (old new : KeptTransaction) : Type 0 where
 -- it is read-only, and has ended so
 pub record HasEndedAs (end : TransactionKind) (old new : KeptTransaction) : Type 0 where
   pub work : new.work ≡ old.work
+  pub writes : new.writes ≡ old.writes
   pub place : new.place ≡ old.place
   pub checked : new.checked ≡ old.checked
   pub valid : new.valid ≡ old.valid
@@ -128,7 +132,7 @@ pub record HasEndedAs (end : TransactionKind) (old new : KeptTransaction) : Type
 -- it is read-only and Committed, and its operations are taken out. The words stay
 pub record HasHandedOverRead (old new : KeptTransaction) : Type 0 where
   pub history : new.work.history ≡ []
-  pub words : new.work.words ≡ old.work.words
+  pub words : new.writes.words ≡ old.writes.words
   pub place : new.place ≡ old.place
   pub checked : new.checked ≡ old.checked
   pub valid : new.valid ≡ old.valid

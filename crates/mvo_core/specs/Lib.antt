@@ -5,6 +5,7 @@ pub mod Data
 pub mod Seen
 pub mod Causes
 pub mod Readers
+pub mod Beside
 pub mod Standing
 pub mod View
 pub mod Steps

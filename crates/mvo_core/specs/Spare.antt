@@ -2,11 +2,12 @@
 use Rattle.std.specs.Prelude.{◌≡◌, List, []}
 use Rattle.std.specs.List.{AllByRecursion}
 use Rattle.mvo_work.specs.Work.{WorkData}
+use Rattle.mvo_work.specs.Writes.{WritesData}
 
--- nothing is done in it
-pub record IsIdle (work : WorkData) : Type 0 where
-  pub history : work.history ≡ []
-  pub words : work.words ≡ []
-
+-- nothing is done in them
 abbrev pub AreIdle : List WorkData → Type 0
-AreIdle works = AllByRecursion IsIdle works
+AreIdle works = AllByRecursion (λ w. w.history ≡ []) works
+
+-- nothing is written in them
+abbrev pub AreUnwritten : List WritesData → Type 0
+AreUnwritten writes = AllByRecursion (λ w. w.words ≡ []) writes

@@ -22,6 +22,7 @@ use Rattle.mvo_collect.specs.Begun.{AreOver}
 use Rattle.mvo_core.specs.declared.kept_transaction.KeptTransaction.{KeptTransaction}
 use Rattle.mvo_core.specs.Data.{CoreData, own_of}
 use Rattle.mvo_core.specs.Readers.{Readers, no_readers, HaveStages, HasTalePlaces}
+use Rattle.mvo_core.specs.Beside.{GoesBeside}
 
 -- ---- what is kept of each transaction is what the state has of it
 pub record IsKeptActive (table : Txns (Node KeptTransaction)) (r : ActiveTx) : Type 0 where
@@ -47,14 +48,15 @@ pub record HasWorks (s : State) (table : Txns (Node KeptTransaction))
 -- the words that each still has to replace
 abbrev pub own_words_of : Option KeptTransaction → List WordPlace
 own_words_of None = []
-own_words_of (Some own) = own.work.words
+own_words_of (Some own) = own.writes.words
 
 abbrev pub words_in : Txns (Node KeptTransaction) → ℕ → List WordPlace
 words_in table t = own_words_of (own_of table t)
 
 -- ---- the core
 -- It stands for the state, to which the steps since the opening lead: that of the others, in which
--- a read-only transaction is Active until it ends. Beside it are these read-only ones.
+-- a read-only transaction is Active until it ends. Beside it are these read-only ones, and a core
+-- that is given works might go on beside it.
 pub record StandsAmong (rs : Readers) (opening : Map) (steps : List Step) (s : State)
     (c : CoreData) : Type 0 where
   pub kept : IsKept opening steps s
@@ -72,6 +74,7 @@ pub record StandsAmong (rs : Readers) (opening : Map) (steps : List Step) (s : S
   pub grouped : AreGroupedTo c.tale c.grouped c.closed
   pub start : s.start ≡ c.start
   pub over : AreOver s
+  pub beside : GoesBeside opening steps s
 
 -- so it does where no transaction is read-only
 abbrev pub StandsFor : Map → List Step → State → CoreData → Type 0

@@ -77,7 +77,7 @@ IsReadOnlyBegin old result new = (opening : Map) (steps own : List Step) (w : Wh
 -- its operations and its words stay, whatever else is kept of it
 pub record HasSameWork (old new : KeptTransaction) : Type 0 where
   pub history : new.work.history ≡ old.work.history
-  pub words : new.work.words ≡ old.work.words
+  pub words : new.writes.words ≡ old.writes.words
 
 -- Where what is kept of one that isn't Preparing for the core, its place in the tale, and the
 -- read-only ones change, and the places of the others stay, the core stands for the same state
@@ -113,7 +113,7 @@ abbrev pub ReaderBegins : Type 0
 ReaderBegins = (opening : Map) (steps own : List Step) (w : WholeState) (c : CoreData)
     (node : Node KeptTransaction) → StandsWhole opening steps own w c
     → node.dependencies ≡ no_dependencies → node.own.work.history ≡ []
-    → node.own.work.words ≡ [] → node.own.kind ≡ Reading → node.own.place ≡ length c.tale
+    → node.own.writes.words ≡ [] → node.own.kind ≡ Reading → node.own.place ≡ length c.tale
     → MayComeWhole w BeginReadOnly Accepted
     → LeadsWhole opening steps own w BeginReadOnly Accepted (record c {
       table = table_after_begin c.table node;

@@ -19,7 +19,7 @@ use mvo_types::{Stamp, TxId};
 use mvo_versions::Versions;
 use mvo_visible::{Seen, names, seen_by_others};
 use mvo_word::Word;
-use mvo_work::{WordPlace, Work};
+use mvo_work::{WordPlace, Writes};
 
 /// What the words of the transaction come to as it draws this end, in the order of writing. What it
 /// put comes to the front of its key, and so does what it ended whose put has no stamp. What it
@@ -42,7 +42,7 @@ pub fn draw_words(
         return;
     }
     if let Some(seat) = table.get(tx) {
-        draw_all(versions, waiting, table, tx.id, &seat.kept.own.work, end);
+        draw_all(versions, waiting, table, tx.id, &seat.kept.own.writes, end);
     }
 }
 
@@ -53,16 +53,16 @@ fn draw_all(
     waiting: &mut Waiting,
     table: &Table,
     tx: TxId,
-    work: &Work,
+    writes: &Writes,
     end: Stamp,
 )
-    requires { length work.now.words ≤ waiting.old.ended_room }
+    requires { length writes.now.words ≤ waiting.old.ended_room }
     ensures fronts { AreInFront (comes_at_draw (state_of table.now) tx.0) versions.old versions.new
-        work.now.words }
-    ensures waits { WaitBehind end work.now.words waiting.old waiting.new }
+        writes.now.words }
+    ensures waits { WaitBehind end writes.now.words waiting.old waiting.new }
 {
-    for place in 0..work.word_count() {
-        if let Some(word) = work.word_at(place) {
+    for place in 0..writes.word_count() {
+        if let Some(word) = writes.word_at(place) {
             bring_unstamped(versions, table, tx, number_of(word));
             await_end(waiting, word, end);
         }
@@ -75,16 +75,16 @@ pub fn bring_puts(versions: &mut Versions, table: &Table, tx: Located)
         (words_in table.now tx.id.0) }
 {
     if let Some(seat) = table.get(tx) {
-        bring_each_put(versions, tx.id, &seat.kept.own.work);
+        bring_each_put(versions, tx.id, &seat.kept.own.writes);
     }
 }
 
 /// Does so in what is kept of the transaction.
-fn bring_each_put(versions: &mut Versions, tx: TxId, work: &Work)
-    ensures { AreInFront (is_put_by tx.0) versions.old versions.new work.now.words }
+fn bring_each_put(versions: &mut Versions, tx: TxId, writes: &Writes)
+    ensures { AreInFront (is_put_by tx.0) versions.old versions.new writes.now.words }
 {
-    for place in 0..work.word_count() {
-        if let Some(word) = work.word_at(place) {
+    for place in 0..writes.word_count() {
+        if let Some(word) = writes.word_at(place) {
             bring_put(versions, tx, number_of(word));
         }
     }

@@ -5,7 +5,7 @@ ghost use Rattle.mvo_types.specs.AnswerData.{answer_data};
 ghost use Rattle.mvo_deps.specs.Nodes.{after_register_all};
 ghost use Rattle.mvo_deps.specs.Graph.{IsUnfinished};
 ghost use Rattle.mvo_work.specs.Limits.{MayFollow};
-ghost use Rattle.mvo_work.specs.Work.{HasRoom};
+ghost use Rattle.mvo_work.specs.Writes.{HasRoom};
 ghost use Rattle.mvo_core.specs.Data.{own_of};
 ghost use Rattle.mvo_core.specs.Keeping.{IsWritten, HasDoneAsMuch, HasMadeRoom, IsTold};
 ghost use Rattle.mvo_core.specs.Keeping.{HasDoneMore, IsRecorded};
@@ -25,7 +25,7 @@ pub fn make_room(table: &mut Table, tx: Located) -> Result<(), AllocError>
     ensures err { OnErr result (IsWritten table.old table.new tx.id.0 HasDoneAsMuch) }
 {
     match table.get_mut(tx) {
-        Some(node) => node.own.work.make_room(),
+        Some(node) => node.own.make_room(),
         None => unreachable!(),
     }
 }
@@ -70,7 +70,8 @@ pub fn write(
     other: Option<WordPlace>,
 )
     requires there { IsSome (own_of table.old tx.id.0) }
-    requires room { IfSome (own_of table.old tx.id.0) (λ own. HasRoom own.work) }
+    requires room { IfSome (own_of table.old tx.id.0) (λ own.
+        HasRoom own.work own.writes) }
     requires limits { IfSome (own_of table.old tx.id.0) (λ own.
         MayFollow own.work.history op (answer_data answer)) }
     ensures { IsWritten table.old table.new tx.id.0

@@ -164,7 +164,8 @@ impl Core {
         let alloc = self.alloc;
         let mut work = self.spares.take()?;
         give_list(&mut self.tale, &mut work);
-        self.table.begin(begun(alloc, work))
+        let writes = self.spares.take_writes();
+        self.table.begin(begun(alloc, work, writes))
     }
 
     /// Begins a read-only transaction. Its id is its begin timestamp, which is its end too: its
@@ -185,7 +186,8 @@ impl Core {
         give_list(&mut self.tale, &mut work);
         let clock = self.table.clock().0;
         let place = self.tale.open_reading(Stamp(clock + 1))?;
-        match self.table.begin(begun_reading(alloc, work, place)) {
+        let writes = self.spares.take_writes();
+        match self.table.begin(begun_reading(alloc, work, writes, place)) {
             Ok(id) => Ok(id),
             Err(refusal) => {
                 self.tale.leave(place);

@@ -18,7 +18,7 @@ use mvo_types::{Refusal, TxId};
 use mvo_versions::Versions;
 use mvo_visible::names;
 use mvo_word::Word;
-use mvo_work::{WordPlace, Work};
+use mvo_work::{WordPlace, Writes};
 
 impl Core {
     ghost use Rattle.std.specs.Prelude.{◌≡◌, IfOk};
@@ -55,6 +55,7 @@ impl Core {
         }
         let node = self.table.terminate(tx);
         self.spares.keep(node.own.work);
+        self.spares.keep_writes(node.own.writes);
         Ok(Finishing::Done)
     }
 }
@@ -72,7 +73,7 @@ fn final_word(table: &Table, tx: Located) -> Result<(Word, bool), Refusal>
     let Some(seat) = table.get(tx) else {
         return Err(Refusal::NoSuchTransaction);
     };
-    let has_words = seat.kept.own.work.word_count() > 0;
+    let has_words = seat.kept.own.writes.word_count() > 0;
     match seat.state {
         TxState::Active => Err(Refusal::NotEnded),
         TxState::Preparing(_) => Err(Refusal::NotEnded),
@@ -102,7 +103,7 @@ fn replace_next(
         return (None, None);
     }
     match table.get_mut(tx) {
-        Some(node) => replace_first(versions, &mut node.own.work, tx.id, word),
+        Some(node) => replace_first(versions, &mut node.own.writes, tx.id, word),
         None => unreachable!(),
     }
 }
@@ -111,38 +112,36 @@ fn replace_next(
 #[inline(always)]
 fn replace_first(
     versions: &mut Versions,
-    work: &mut Work,
+    writes: &mut Writes,
     tx: TxId,
     word: Word,
 ) -> (Option<WordPlace>, Option<WordPlace>)
-    ensures history { work.new.history ≡ work.old.history }
-    ensures first { result.0 ≡ slice_get (from_own versions.old.slots tx.0 work.old.words) 0 }
+    ensures first { result.0 ≡ slice_get (from_own versions.old.slots tx.0 writes.old.words) 0 }
     ensures replaced { IsRewordedAt versions.old versions.new result.0 word }
-    ensures words { work.new.words ≡ from_own versions.new.slots tx.0
-        (drop 1 (from_own versions.old.slots tx.0 work.old.words)) }
-    ensures next { result.1 ≡ slice_get work.new.words 0 }
+    ensures words { writes.new.words ≡ from_own versions.new.slots tx.0
+        (drop 1 (from_own versions.old.slots tx.0 writes.old.words)) }
+    ensures next { result.1 ≡ slice_get writes.new.words 0 }
 {
-    let Some(place) = pass_others(versions, work, tx) else {
+    let Some(place) = pass_others(versions, writes, tx) else {
         return (None, None);
     };
     replace(versions, place, word);
-    work.drop_word();
-    (Some(place), pass_others(versions, work, tx))
+    writes.drop_word();
+    (Some(place), pass_others(versions, writes, tx))
 }
 
 /// Takes off the words that others took over, up to the first that still names the transaction,
 /// which it answers.
 #[inline(always)]
-fn pass_others(versions: &Versions, work: &mut Work, tx: TxId) -> Option<WordPlace>
-    ensures history { work.new.history ≡ work.old.history }
-    ensures words { work.new.words ≡ from_own versions.now.slots tx.0 work.old.words }
-    ensures first { result ≡ slice_get work.new.words 0 }
+fn pass_others(versions: &Versions, writes: &mut Writes, tx: TxId) -> Option<WordPlace>
+    ensures words { writes.new.words ≡ from_own versions.now.slots tx.0 writes.old.words }
+    ensures first { result ≡ slice_get writes.new.words 0 }
 {
-    while let Some(place) = work.next_word() {
+    while let Some(place) = writes.next_word() {
         if is_own(versions, tx, place) {
             return Some(place);
         }
-        work.drop_word();
+        writes.drop_word();
     }
     None
 }

@@ -5,7 +5,7 @@ use crate::answers::Validation;
 use mvo_deps::{Dependencies, Node};
 use mvo_txn::TxnTable;
 use mvo_types::{Answer, Op};
-use mvo_work::{Operations, WordPlace, Work};
+use mvo_work::{Operations, WordPlace, Work, Writes};
 use std::alloc::{AllocError, Global};
 
 /// The unfinished transactions.
@@ -30,8 +30,10 @@ pub enum TransactionKind {
 /// What the core keeps of an unfinished transaction, beside where it stands and on whom it depends.
 #[derive(Drop)]
 pub struct KeptTransaction {
-    /// What it has done, and the words that name it.
+    /// What it has done.
     pub work: Work,
+    /// What it has written: the words that name it.
+    pub writes: Writes,
     /// Its place in the tale, from when it draws its end.
     pub place: usize,
     /// How many of its entries are checked.
@@ -47,10 +49,10 @@ impl KeptTransaction {
     ghost use Rattle.std.specs.Option.{option_to_list};
     ghost use Rattle.mvo_types.specs.AnswerData.{answer_data};
     ghost use Rattle.mvo_work.specs.Limits.{MayFollow};
-    ghost use Rattle.mvo_work.specs.Work.{HasRoom};
+    ghost use Rattle.mvo_work.specs.Writes.{HasRoom};
     ghost use Rattle.mvo_core.specs.Own.{is_last_check, checked_as};
     ghost use Rattle.mvo_core.specs.Keeping.{IsPlacedInTale, IsCounted, IsTold};
-    ghost use Rattle.mvo_core.specs.Keeping.{HasDoneAsMuch, HasDoneMore};
+    ghost use Rattle.mvo_core.specs.Keeping.{HasDoneAsMuch, HasMadeRoom, HasDoneMore};
     ghost use Rattle.mvo_core.specs.Keeping.{HasEndedAs, HasStartedChecks, HasHandedOverRead};
     ghost use Rattle.mvo_theory.specs.Entries.{written_keys};
     ghost use Rattle.mvo_theory.specs.Limits.{AreLimited};
@@ -93,6 +95,16 @@ impl KeptTransaction {
         self.kind = kind;
     }
 
+    /// Room for one more operation, and for the words that it may put.
+    #[inline(always)]
+    pub fn make_room(&mut self) -> Result<(), AllocError>
+        ensures ok { OnOk result (HasMadeRoom self.old self.new) }
+        ensures err { OnErr result (HasDoneAsMuch self.old self.new) }
+    {
+        self.writes.make_room()?;
+        self.work.make_room()
+    }
+
     /// It is told the answer to its operation, or there is no more of it than before.
     #[inline(always)]
     pub fn record(&mut self, op: Op, answer: Answer) -> Result<(), AllocError>
@@ -108,14 +120,14 @@ impl KeptTransaction {
     /// It is told the answer to a write that put this word, and the other, if there is one.
     #[inline(always)]
     pub fn write(&mut self, op: Op, answer: Answer, word: WordPlace, other: Option<WordPlace>)
-        requires room { HasRoom self.old.work }
+        requires room { HasRoom self.old.work self.old.writes }
         requires limits { MayFollow self.old.work.history op (answer_data answer) }
         ensures { HasDoneMore op (answer_data answer) (word ∷ option_to_list other)
             self.old self.new }
     {
-        self.work.push_word(word);
+        self.writes.push_word(word);
         if let Some(other) = other {
-            self.work.push_word(other);
+            self.writes.push_word(other);
         }
         self.work.tell(op, answer);
     }
@@ -135,10 +147,17 @@ impl KeptTransaction {
     }
 }
 
-/// One that is read-only, has done this work, and nothing else, and has this place in the tale.
-pub fn begun_reading(alloc: Global, work: Work, place: usize) -> Node<KeptTransaction>
+/// One that is read-only, has done this work and written this, and nothing else, and has this place
+/// in the tale.
+pub fn begun_reading(
+    alloc: Global,
+    work: Work,
+    writes: Writes,
+    place: usize,
+) -> Node<KeptTransaction>
     ensures dependencies { result.dependencies ≡ no_dependencies }
     ensures work { result.own.work ≡ work }
+    ensures writes { result.own.writes ≡ writes }
     ensures place { result.own.place ≡ place }
     ensures kind { result.own.kind ≡ TransactionKind.Reading }
 {
@@ -146,6 +165,7 @@ pub fn begun_reading(alloc: Global, work: Work, place: usize) -> Node<KeptTransa
         dependencies: Dependencies::new(alloc),
         own: KeptTransaction {
             work,
+            writes,
             place,
             checked: 0,
             valid: false,
@@ -154,16 +174,18 @@ pub fn begun_reading(alloc: Global, work: Work, place: usize) -> Node<KeptTransa
     }
 }
 
-/// One that has done this work, and nothing else, and isn't read-only.
-pub fn begun(alloc: Global, work: Work) -> Node<KeptTransaction>
+/// One that has done this work and written this, and nothing else, and isn't read-only.
+pub fn begun(alloc: Global, work: Work, writes: Writes) -> Node<KeptTransaction>
     ensures dependencies { result.dependencies ≡ no_dependencies }
     ensures work { result.own.work ≡ work }
+    ensures writes { result.own.writes ≡ writes }
     ensures kind { result.own.kind ≡ TransactionKind.Other }
 {
     Node {
         dependencies: Dependencies::new(alloc),
         own: KeptTransaction {
             work,
+            writes,
             place: 0,
             checked: 0,
             valid: false,

@@ -63,7 +63,7 @@ pub fn active(table: &Table, tx: Located) -> (Option<Refusal>, usize, bool)
             let own = &seat.kept.own;
             (
                 not_active_in(seat),
-                own.work.word_count(),
+                own.writes.word_count(),
                 is_read_only(own.kind),
             )
         }

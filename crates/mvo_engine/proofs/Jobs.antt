@@ -1,5 +1,5 @@
 -- A whole job ends with an install.
-use Rattle.std.proofs.Common.{◌≡◌, ℕ, List, [], ◌∷◌, inl, inr, Result, Ok, Err, refl, sym, subst}
+use Rattle.std.proofs.Common.{◌≡◌, ℕ, Option, List, [], ◌∷◌, inl, inr, Result, Ok, Err, refl, sym, subst}
 use Rattle.std.specs.Prelude.{IfOk}
 use Rattle.mvo_types.specs.declared.refusal.Refusal.{Refusal}
 use Rattle.mvo_disk.specs.declared.disk.Disk.{Ghosts}
@@ -10,7 +10,15 @@ use Rattle.mvo_store.specs.declared.call.StoreCall.TheVariants.{Step}
 use Rattle.mvo_store.specs.declared.done.Done.{Done}
 use Rattle.mvo_store.specs.declared.done.Done.TheVariants.{Installed}
 use Rattle.mvo_store.specs.Wholes.{AreToRefusal, IsCheckpoint, install, rotation, merge}
-use Rattle.mvo_engine.specs.Jobs.{IsCallAlone, IsInstallAnswer}
+use Rattle.mvo_store.proofs.Taken.{IsQuiet}
+use Rattle.mvo_engine.specs.declared.slice.Slice.{Slice}
+use Rattle.mvo_engine.specs.declared.slice.Slice.TheVariants.{Checkpoint, Merge, Places}
+use Rattle.mvo_engine.specs.Calls.{asked_by}
+use Rattle.mvo_engine.specs.Jobs.{IsAloneWith, IsCallAlone, slices_of, IsInstallAnswer}
+
+-- what is known of the call's slices says how it is made
+pub alone_with : {D : Type 0} (d : Ghosts D) (call : StoreCall) (r : Result Done Refusal) {slices : Option Slice} → slices_of call ≡ slices → IsAloneWith d slices call r → IsCallAlone d tt call r tt
+alone_with d call r {slices} is h = subst (λ (x : Option Slice). IsAloneWith d x call r) (sym is) h
 
 refused_so : (P : Done → Type 0) (r : Result Done Refusal) (e : Refusal) → r ≡ Err e → IfOk r P
 refused_so P r e is = subst (λ (x : Result Done Refusal). IfOk x P) (sym is) tt
@@ -44,3 +52,9 @@ module _ {D : Type 0} (d : Ghosts D) where
   checkpoint_so r (inr (_, _, _, inl data_file)) = refused_so IsInstallAnswer r data_file.0 data_file.1
   checkpoint_so r (inr (_, _, _, inr (_, _, _, inl deltas))) = refused_so IsInstallAnswer r deltas.0 deltas.1
   checkpoint_so r (inr (_, _, _, inr (_, _, _, inr (_, _, _, rest)))) = calls_so install r refl rest
+
+-- a slice takes no group, and makes none durable
+pub quiet_slice : (slice : Slice) → IsQuiet (asked_by slice)
+quiet_slice Checkpoint = tt
+quiet_slice Merge = tt
+quiet_slice Places = tt

@@ -24,3 +24,4 @@ mod ReadingMany
 mod OneCall
 mod RollingBack
 pub mod Upkeep
+pub mod Passing

@@ -13,7 +13,7 @@ use Rattle.mvo_theory.specs.Calls.Call.{Do}
 use Rattle.mvo_core.specs.Receipts.{Receipt, receipt}
 use Rattle.mvo_core.specs.WholeAnswers.{IsAnsweredWhole}
 use Rattle.mvo_engine.specs.declared.outcome.Outcome.{Outcome}
-use Rattle.mvo_engine.specs.declared.outcome.Outcome.TheVariants.{Commit}
+use Rattle.mvo_engine.specs.declared.outcome.Outcome.TheVariants.{Commit, GiveUp}
 use Rattle.mvo_engine.specs.declared.transacted.Transacted.{Transacted}
 use Rattle.mvo_engine.specs.run.Opening.{Opening}
 use Rattle.mvo_engine.specs.run.Receiving.{AreBelow}
@@ -64,6 +64,19 @@ not_worked {o = o} work old begun worked new e f begins works same gone is left 
       tx = ap (λ (s : SessionState). s.tx) left;
     } in
     subst (λ (r : Refusal). HasNotDone o work old r new) (sym is) done
+
+-- work that gave up
+pub gave_up : {A : Type 0} {o : Opening} (work : Work A) (old begun worked new : SessionState) (a : A) (out : Outcome A) (done : Transacted A) → out ≡ GiveUp a → HasNewTx o old begun → work begun (Ok out) worked → worked.receipts ≡ begun.receipts → done.told ≡ a → done.end ≡ None → IfSome worked.tx (HasGone o) → new ≡ record worked { tx = None } → IsAttempt o work old (Ok done) new
+gave_up {A} {o = o} work old begun worked new a out done kind begins works same given none gone left =
+    let up : HasGivenUp o work old a new = record {
+      begun = begun;
+      begins = begins;
+      worked = worked;
+      works = subst (λ (x : Outcome A). work begun (Ok x) worked) kind works;
+      gone = gone;
+      leaves = left ∙ (λ k. record worked { tx = None; receipts = same k });
+    } in
+    subst (λ (e : Option Stamp). HasTransacted o work old done.told e new) (sym none) (subst (λ (x : A). HasGivenUp o work old x new) (sym given) up)
 
 -- a commit that is refused
 pub not_committed : {A : Type 0} {o : Opening} (work : Work A) (old begun worked asked new : SessionState) (a : A) (out : Outcome A) (e f : Refusal) → out ≡ Commit a → HasNewTx o old begun → work begun (Ok out) worked → worked.receipts ≡ begun.receipts → refuses_commit e ≡ true → HasCommitted worked (Err e) asked → f ≡ e → new ≡ record asked { tx = None } → HasNotDone o work old f new

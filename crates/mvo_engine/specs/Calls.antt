@@ -23,14 +23,19 @@ use Rattle.mvo_core.specs.Data.{CoreData}
 use Rattle.mvo_core.specs.Seen.{clock_of}
 use Rattle.mvo_core.specs.WholeClosing.{IsClosedWhole, IsNotClosedWhole}
 use Rattle.mvo_core.specs.WholeStanding.{StandsWhole, IsWholeStep, IsReadOnlyBegin}
+use Rattle.mvo_store.specs.StoreData.{StoreData}
 use Rattle.mvo_store.specs.Seen.{mark_of}
 use Rattle.mvo_store.specs.Causes.{why_not_take}
-use Rattle.mvo_store.specs.Calls.{AnswersCall, IsStoreStep}
-use Rattle.mvo_store.specs.Calls.StoreStep.{Take, Call}
+use Rattle.mvo_store.specs.Calls.{AnswersCall, AnswersSlice, AnswersPlaces, IsStoreStep, StoreStep}
+use Rattle.mvo_store.specs.Calls.StoreStep.{Take, Call, Slice as SliceOf, Place}
+use Rattle.mvo_store.specs.declared.jobs.due.Due.TheVariants.{Data, MergeData}
+use Rattle.mvo_store.specs.declared.jobs.progress.Progress.{Progress}
 use Rattle.mvo_store.specs.declared.call.StoreCall.{StoreCall}
 use Rattle.mvo_store.specs.declared.done.Done.{Done}
 use Rattle.mvo_store.specs.declared.done.Done.TheVariants.{Durable}
 use Rattle.mvo_engine.specs.declared.run.run.TheConstants.{MAX_SESSIONS}
+use Rattle.mvo_engine.specs.declared.slice.Slice.{Slice}
+use Rattle.mvo_engine.specs.declared.slice.Slice.TheVariants.{Checkpoint, Merge, Places}
 use Rattle.mvo_core.specs.Receipts.{receipt}
 use Rattle.mvo_engine.specs.States.{CoreState, SendsState, StoreState, SessionState}
 
@@ -135,6 +140,26 @@ pub record IsLockedCall {D : Type 0} (d : Ghosts D) (old : StoreState D) (call :
   pub answers : IfOk result (λ done. AnswersCall d old.store call done new.store)
   pub received : new.received ≡ old.received
   pub published : new.published ≡ published_by old.published result
+
+-- what a slice asks of the store
+abbrev pub asked_by : Slice → StoreStep
+asked_by Checkpoint = SliceOf Data
+asked_by Merge = SliceOf MergeData
+asked_by Places = Place
+
+-- whether more of these slices are left
+abbrev pub AnswersAsked : {D : Type 0} → Slice → StoreData D → Progress → Type 0
+AnswersAsked Checkpoint new progress = AnswersSlice Data new progress
+AnswersAsked Merge new progress = AnswersSlice MergeData new progress
+AnswersAsked Places new progress = AnswersPlaces new progress
+
+-- A slice of what a job does: no group is received, and no mark published.
+pub record IsLockedSlice {D : Type 0} (d : Ghosts D) (old : StoreState D) (slice : Slice)
+    (result : Result Progress Refusal) (new : StoreState D) : Type 0 where
+  pub step : IsStoreStep d old.store (asked_by slice) result new.store
+  pub answers : IfOk result (λ progress. AnswersAsked slice new.store progress)
+  pub received : new.received ≡ old.received
+  pub published : new.published ≡ old.published
 
 -- ---- a session
 

@@ -1,19 +1,81 @@
 -- What the jobs of the store come to that an engine makes whole.
-use Rattle.std.specs.Prelude.{◌≡◌, Result, Ok, Err}
+use Rattle.std.specs.Prelude.{◌≡◌, Option, Some, None, Result, Ok, Err}
 use Rattle.mvo_types.specs.declared.refusal.Refusal.{Refusal}
 use Rattle.mvo_disk.specs.declared.disk.Disk.{Ghosts}
 use Rattle.mvo_store.specs.declared.install.generation.Generation.{Generation}
 use Rattle.mvo_store.specs.declared.call.StoreCall.{StoreCall}
+use Rattle.mvo_store.specs.declared.call.StoreCall.TheVariants.{Step}
+use Rattle.mvo_store.specs.declared.jobs.due.Due.TheVariants.{Data, MergeData, Install}
+use Rattle.mvo_store.specs.declared.install.install_step.InstallStep.TheVariants.{Close}
+use Rattle.mvo_store.specs.declared.jobs.progress.Progress.{Progress}
+use Rattle.mvo_store.specs.declared.jobs.progress.Progress.TheVariants.{More, Ready}
 use Rattle.mvo_store.specs.declared.done.Done.{Done}
-use Rattle.mvo_store.specs.declared.done.Done.TheVariants.{Installed}
+use Rattle.mvo_store.specs.declared.done.Done.TheVariants.{Installed, Progress as Progressed}
+use Rattle.mvo_engine.specs.declared.slice.Slice.{Slice}
+use Rattle.mvo_engine.specs.declared.slice.Slice.TheVariants.{Checkpoint, Merge, Places}
 use Rattle.mvo_engine.specs.States.{StoreState}
-use Rattle.mvo_engine.specs.Calls.{IsLockedCall}
+use Rattle.mvo_engine.specs.Calls.{IsLockedCall, IsLockedSlice}
+
+-- A slice with the lock of the store taken for it alone.
+abbrev pub IsSliceAlone : {D : Type 0} → Ghosts D → Slice → Result Progress Refusal → Type 0
+IsSliceAlone {D} d slice result =
+    (old new : StoreState D) × IsLockedSlice d old slice result new
+
+-- Behind this slice no more are made: it was the last, or it is refused.
+abbrev pub IsEndOfSlices : Result Progress Refusal → Result (Unit {0}) Refusal → Type 0
+IsEndOfSlices (Ok More) result = ⊥
+IsEndOfSlices (Ok Ready) result = result ≡ Ok tt
+IsEndOfSlices (Err e) result = result ≡ Err e
+
+-- Slices are made, each alone, up to the last or the first that is refused.
+abbrev pub AreSlicesAlone : {D : Type 0} → Ghosts D → Slice → Result (Unit {0}) Refusal → Type 0
+AreSlicesAlone d slice result =
+    (last : Result Progress Refusal) × IsSliceAlone d slice last × IsEndOfSlices last result
 
 -- A call of the store with its lock taken for it alone. Others may have made calls before it, so it
 -- begins with some store, and not with the one that the call before it left.
+abbrev pub IsOneCallAlone : {D : Type 0} → Ghosts D → StoreCall → Result Done Refusal → Type 0
+IsOneCallAlone {D} d call result = (old new : StoreState D) × IsLockedCall d old call result new
+
+-- the slices that a call is made of, or that are made before it
+abbrev pub slices_of : StoreCall → Option Slice
+slices_of (Step Data) = Some Checkpoint
+slices_of (Step MergeData) = Some Merge
+slices_of (Step (Install Close)) = Some Places
+slices_of call = None
+
+-- what the call that writes a data file answers
+abbrev pub written_by : Result (Unit {0}) Refusal → Result Done Refusal
+written_by (Ok _) = Ok (Progressed More)
+written_by (Err e) = Err e
+
+-- a data file is written by slices
+abbrev pub IsDataAlone : {D : Type 0} → Ghosts D → Slice → Result Done Refusal → Type 0
+IsDataAlone d slice result =
+    (came : Result (Unit {0}) Refusal) × AreSlicesAlone d slice came × (result ≡ written_by came)
+
+-- the call alone, behind the slices of the places, whatever these came to
+abbrev pub IsBehindPlaces : {D : Type 0} → Ghosts D → StoreCall → Result Done Refusal → Type 0
+IsBehindPlaces d call result =
+    ((came : Result (Unit {0}) Refusal) × AreSlicesAlone d Places came)
+    × IsOneCallAlone d call result
+
+abbrev pub IsInSlices : {D : Type 0} → Ghosts D → Slice → StoreCall → Result Done Refusal
+    → Type 0
+IsInSlices d Checkpoint call result = IsDataAlone d Checkpoint result
+IsInSlices d Merge call result = IsDataAlone d Merge result
+IsInSlices d Places call result = IsBehindPlaces d call result
+
+abbrev pub IsAloneWith : {D : Type 0} → Ghosts D → Option Slice → StoreCall → Result Done Refusal
+    → Type 0
+IsAloneWith d None call result = IsOneCallAlone d call result
+IsAloneWith d (Some slice) call result = IsInSlices d slice call result
+
+-- A call alone; but a data file is written by slices, and before a manifest is installed the places
+-- of its records are put by slices.
 abbrev pub IsCallAlone : {D : Type 0} → Ghosts D → Unit {0} → StoreCall → Result Done Refusal
     → Unit {0} → Type 0
-IsCallAlone {D} d _ call result _ = (old new : StoreState D) × IsLockedCall d old call result new
+IsCallAlone d _ call result _ = IsAloneWith d (slices_of call) call result
 
 -- a manifest is installed
 abbrev pub IsInstallAnswer : Done → Type 0

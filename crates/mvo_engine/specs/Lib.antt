@@ -27,3 +27,4 @@ pub mod Gathering
 pub mod Ending
 pub mod Stats
 pub mod Keeping
+pub mod Passing

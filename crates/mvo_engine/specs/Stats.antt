@@ -13,6 +13,7 @@ use Rattle.mvo_store.specs.Seen.{mark_of, installed_manifest}
 use Rattle.mvo_engine.specs.declared.stats.CoreStats.{CoreStats}
 use Rattle.mvo_engine.specs.declared.stats.StoreStats.{StoreStats}
 use Rattle.mvo_engine.specs.declared.stats.Stats.{Stats}
+use Rattle.mvo_engine.specs.Passing.{count_of_groups}
 use Rattle.mvo_engine.specs.run.Opening.{Opening}
 use Rattle.mvo_engine.specs.Sound.{IsSoundCore, IsSoundStore}
 use Rattle.mvo_engine.specs.States.{CoreState, StoreState}
@@ -28,6 +29,7 @@ pub record IsCoreStatsOf (c : CoreState) (s : CoreStats) : Type 0 where
   pub versions : s.versions ≡ version_count c.core
   pub sorted_keys : s.sorted_keys ≡ place_count c.core
   pub waiting : AreWaitingCounts c.core (s.aborted, s.replaced)
+  pub sent : s.sent ≡ count_of_groups c.sends.sent
   pub sessions : s.sessions ≡ c.made
 
 pub record IsStoreStatsOf {D : Type 0} (t : StoreState D) (s : StoreStats) : Type 0 where
@@ -40,6 +42,7 @@ pub record IsStoreStatsOf {D : Type 0} (t : StoreState D) (s : StoreStats) : Typ
   pub records : s.records ≡ sum_by (λ p. p.records) (installed_manifest t.store).pairs
   pub dead : s.dead ≡ sum_by (λ p. p.entries) (installed_manifest t.store).pairs
   pub step : s.step ≡ next_due t.store.jobs
+  pub received : s.received ≡ count_of_groups t.received
 
 -- Under its lock the store lay sound and stood so; and so did the core, under its own.
 pub record IsStatsOf {D : Type 0} (d : Ghosts D) (o : Opening) (store : StoreState D)

@@ -1,6 +1,7 @@
-ghost use Rattle.std.specs.Prelude.{◌≤◌, IfOk};
+ghost use Rattle.std.specs.Prelude.{◌≡◌, ◌≤◌, IfOk};
 ghost use Rattle.mvo_types.specs.declared.limits.TheConstants.{MAX_STAMP};
-ghost use Rattle.mvo_engine.specs.Opened.{IsFreshRing};
+ghost use Rattle.mvo_engine.specs.Opened.{IsFreshRing, opening_groups};
+ghost use Rattle.mvo_engine.specs.Passing.{count_of_groups};
 
 use crate::chain::Chain;
 use mvo_group::Group;
@@ -32,4 +33,11 @@ impl Ends {
         }
         Ok(Ends { producer, consumer })
     }
+}
+
+/// How many groups went through the ring that is made for this mark.
+pub fn groups_up_to(mark: Stamp) -> u64
+    ensures { result ≡ count_of_groups (opening_groups mark.0) }
+{
+    u64::from(mark.0 > 0)
 }

@@ -8,6 +8,7 @@ ghost use Rattle.mvo_store.specs.Seen.{mark_of};
 ghost use Rattle.mvo_engine.specs.Ending.{AreSeenUpTo, HasShutDown};
 
 use crate::core_guard::CoreGuard;
+use crate::ends::groups_up_to;
 use crate::fresh::Fresh;
 use crate::gate::Gate;
 use crate::locked_core::LockedCore;
@@ -109,13 +110,14 @@ impl<L: Run, D: Disk, G: Gate + Drop> Engine<L, D, G> {
             seat,
             blank,
         } = fresh;
-        let sends = Sends::new(producer, seat);
+        let groups = groups_up_to(store.mark());
+        let sends = Sends::new(producer, groups, seat);
         let ledger = blank.open::<L>();
         Engine {
             gate,
             marks,
             core: Mutex::new(LockedCore::new(alloc, core, sends, ledger)),
-            store: Mutex::new(LockedStore::new(store, consumer, publisher)),
+            store: Mutex::new(LockedStore::new(store, consumer, groups, publisher)),
             turns: Turns::new(),
             waiting: AtomicU64::new(0),
             aside: AtomicU64::new(0),

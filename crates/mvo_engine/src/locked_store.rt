@@ -1,15 +1,18 @@
 mod standing;
 
-ghost use Rattle.std.specs.Prelude.{◌≡◌, Some, IsTrue};
+ghost use Rattle.std.specs.Prelude.{◌≡◌, Some, IsTrue, IfOk};
+ghost use Rattle.mvo_store.specs.Calls.{IsStoreStep};
+ghost use Rattle.mvo_engine.specs.Calls.{asked_by, AnswersAsked};
 ghost use Rattle.mvo_types.specs.declared.refusal.Refusal.{Refusal};
 
 use crate::chain::Chain;
 use crate::run::Run;
+use crate::slice::Slice;
 use crate::taken::Taken;
 use mvo_disk::Disk;
 use mvo_group::Group;
 use mvo_marks::{Marks, Publisher, Seat};
-use mvo_store::{Done, Manifest, Store, StoreCall};
+use mvo_store::{Done, Manifest, Progress, Store, StoreCall};
 use mvo_types::{Refusal, Stamp};
 use rtrb::{Consumer, Producer};
 use std::alloc::Global;
@@ -23,6 +26,8 @@ use std::marker::{Model, PhantomData};
 pub struct LockedStore<L: Run, D: Disk> {
     store: Store<D>,
     ring: Consumer<Group, Global, Chain>,
+    /// How many groups were taken out of it.
+    groups: u64,
     publisher: Publisher,
     /// What was taken out of the ring: how many commits that wrote, and the bytes of their groups.
     taken: Taken,
@@ -34,6 +39,7 @@ impl<L: Run, D: Disk + Drop> Drop for LockedStore<L, D> {
         let LockedStore {
             store: _,
             ring: _,
+            groups: _,
             publisher: _,
             taken: _,
             run: _,
@@ -47,6 +53,7 @@ impl<L: Run, D: Disk> Model for LockedStore<L, D> {
     ghost use Rattle.mvo_store.specs.Places.{coded_places};
     ghost use Rattle.rtrb.specs.Ring.{received};
     ghost use Rattle.mvo_store.specs.Seen.{mark_of};
+    ghost use Rattle.mvo_engine.specs.Passing.{count_of_groups};
     ghost use Rattle.mvo_engine.specs.run.Rings.{ring_from};
     ghost use Rattle.mvo_engine.specs.Sound.{IsSoundStore};
     ghost use Rattle.mvo_engine.specs.States.{StoreState};
@@ -63,7 +70,7 @@ impl<L: Run, D: Disk> Model for LockedStore<L, D> {
 
     ghost invariant = { λ s. IsSoundStore D.Disk L.opening s.store (received s.ring) ×
         (s.publisher.marks ≡ L.marks) × (s.publisher.known.published ≤ mark_of s.store) ×
-        (ring_from s.ring ≡ L.ring) };
+        ((ring_from s.ring ≡ L.ring) × (s.groups ≡ count_of_groups (received s.ring))) };
 }
 
 impl<L: Run, D: Disk> LockedStore<L, D> {
@@ -75,27 +82,32 @@ impl<L: Run, D: Disk> LockedStore<L, D> {
     ghost use Rattle.mvo_engine.specs.Opening.{WasFormatted};
     ghost use Rattle.mvo_store.specs.Seen.{disk_of, mark_of, installed_manifest};
     ghost use Rattle.mvo_store.specs.Causes.{why_not_take};
+    ghost use Rattle.mvo_engine.specs.Passing.{count_of_groups};
     ghost use Rattle.mvo_engine.specs.run.Rings.{ring_of, ring_from};
     ghost use Rattle.mvo_engine.specs.Sound.{IsSoundStore, GivesReceived, LeavesReceived};
-    ghost use Rattle.mvo_engine.specs.Calls.{IsLockedCall, HasTaken, IsNotTaken};
+    ghost use Rattle.mvo_engine.specs.Calls.{IsLockedCall, IsLockedSlice, HasTaken, IsNotTaken};
     ghost use Rattle.mvo_engine.specs.Asked.{WasDown};
 
-    /// A store with its end of the ring and the publishing seat.
+    /// A store with its end of the ring, out of which so many groups were taken, and the publishing
+    /// seat.
     pub fn new(
         store: Store<D>,
         ring: Consumer<Group, Global, Chain>,
+        groups: u64,
         publisher: Publisher,
     ) -> LockedStore<L, D>
         requires sound { IsSoundStore D.Disk L.opening store (received ring) }
         requires marks { publisher.marks ≡ L.marks }
         requires published { publisher.known.published ≤ mark_of store }
         requires ring { ring_from ring ≡ L.ring }
+        requires groups { groups ≡ count_of_groups (received ring) }
         ensures store { result.store ≡ store }
         ensures received { result.received ≡ received ring }
     {
         LockedStore {
             store,
             ring,
+            groups,
             publisher,
             taken: Taken::new(),
             run: PhantomData,
@@ -112,6 +124,7 @@ impl<L: Run, D: Disk> LockedStore<L, D> {
         let LockedStore {
             store,
             ring: _,
+            groups: _,
             publisher: _,
             taken: _,
             run: _,
@@ -193,9 +206,20 @@ impl<L: Run, D: Disk> LockedStore<L, D> {
         };
         // A look at a field: from then on the proof knows that the group keeps its rules.
         let _ = group.mark();
+        self.groups = self.groups.saturating_add(1);
         self.taken.count(&group);
         self.store.accept_group(group);
         Ok(())
+    }
+
+    /// As `Store::checkpoint_slice`, `Store::merge_slice` or `Store::place_slice`.
+    pub fn slice(&mut self, slice: Slice) -> Result<Progress, Refusal>
+        ensures { IsLockedSlice D.Disk self.old slice result self.new }
+    {
+        match slice_of(&mut self.store, slice) {
+            Ok(progress) => Ok(progress),
+            Err(refusal) => Err(refusal),
+        }
     }
 
     /// As `Store::call`. A mark that is durable then is published.
@@ -211,6 +235,18 @@ impl<L: Run, D: Disk> LockedStore<L, D> {
             Ok(done) => Ok(done),
             Err(refusal) => Err(refusal),
         }
+    }
+}
+
+// A slice of what the store does.
+fn slice_of<D: Disk>(store: &mut Store<D>, slice: Slice) -> Result<Progress, Refusal>
+    ensures step { IsStoreStep D.Disk store.old (asked_by slice) result store.new }
+    ensures answers { IfOk result (λ progress. AnswersAsked slice store.new progress) }
+{
+    match slice {
+        Slice::Checkpoint => store.checkpoint_slice(),
+        Slice::Merge => store.merge_slice(),
+        Slice::Places => store.place_slice(),
     }
 }
 

@@ -29,6 +29,9 @@ pub struct CoreStats {
     /// How many versions that committed transactions replaced or deleted wait to be collected,
     /// those among them that readers may see still.
     pub replaced: usize,
+    /// How many groups were sent into the ring. One is there from the beginning, where the opening
+    /// mark is above 0.
+    pub sent: u64,
     /// How many sessions there are: made, and not retired.
     pub sessions: u32,
 }
@@ -54,8 +57,8 @@ pub struct StoreStats {
     pub dead: u64,
     /// The next step of a job that runs (`Store::next_step`).
     pub step: Option<Due>,
-    /// How many closed groups are seen to wait in the ring. No clause says so.
-    pub waiting: usize,
+    /// How many groups were received out of the ring, that one among them.
+    pub received: u64,
     /// How many commits that wrote came to it in groups since the opening. No clause says so.
     pub grouped: u64,
     /// How many bytes of log these groups have, without the frames round them. No clause says so.
@@ -70,8 +73,16 @@ pub struct Stats {
 }
 
 impl Stats {
-    ghost use Rattle.std.specs.Prelude.{◌≡◌};
+    ghost use Rattle.std.specs.Prelude.{◌≡◌, ◌-◌};
     ghost use Rattle.mvo_engine.specs.Keeping.{sight_of};
+
+    /// How many groups were sent when the memory was looked at, and not received when the store
+    /// was, shortly before: those that waited in the ring, and those that were closed in between.
+    pub fn waiting_groups(&self) -> u64
+        ensures { result ≡ self.now.core.sent - self.now.store.received }
+    {
+        self.core.sent.saturating_sub(self.store.received)
+    }
 
     // What of it a keeper sees.
     pub(crate) fn sight(&self) -> Sight

@@ -4,10 +4,11 @@ use crate::gate::Gate;
 use crate::locked_store::LockedStore;
 use crate::run::Run;
 use crate::session::Session;
+use crate::slice::Slice;
 use crate::turns::Turns;
 use mvo_disk::Disk;
 use mvo_marks::Marks;
-use mvo_store::{Done, Log, Manifest, StoreCall, StoreCaller, turn};
+use mvo_store::{Done, Log, Manifest, Progress, StoreCall, StoreCaller, turn};
 use mvo_types::{Refusal, Stamp};
 use std::marker::Model;
 use std::sync::MutexGuard;
@@ -52,7 +53,8 @@ impl<'e, L: Run, D: Disk> StoreGuard<'e, L, D> {
     ghost use Rattle.mvo_store.specs.Causes.{why_not_take};
     ghost use Rattle.mvo_store.specs.Flushing.{IsTurn};
     ghost use Rattle.mvo_engine.specs.Sound.{LeavesReceived};
-    ghost use Rattle.mvo_engine.specs.Calls.{IsLockedCall, IsTaking, HasTaken, IsNotTaken};
+    ghost use Rattle.mvo_engine.specs.Calls.{IsLockedCall, IsLockedSlice};
+    ghost use Rattle.mvo_engine.specs.Calls.{IsTaking, HasTaken, IsNotTaken};
     ghost use Rattle.mvo_engine.specs.Flushing.{IsFlushOfOne};
 
     pub(crate) fn new(
@@ -112,6 +114,14 @@ impl<'e, L: Run, D: Disk> StoreGuard<'e, L, D> {
         ensures { IsLockedCall D.Disk self.old call result self.new }
     {
         self.held.call(self.marks, call)
+    }
+
+    /// The next slice of a data file or of the places, as `Store::checkpoint_slice`,
+    /// `Store::merge_slice` and `Store::place_slice`: whether more are left.
+    pub fn slice(&mut self, slice: Slice) -> Result<Progress, Refusal>
+        ensures { IsLockedSlice D.Disk self.old slice result self.new }
+    {
+        self.held.slice(slice)
     }
 
     /// One step of a flush: makes the group durable that is being appended, or else the next one

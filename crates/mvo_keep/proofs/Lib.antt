@@ -1,1 +1,2 @@
 pub mod Neighbouring
+pub mod Serving

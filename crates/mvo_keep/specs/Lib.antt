@@ -1,3 +1,4 @@
 pub mod Choosing
 pub mod Due
 pub mod Keeping
+pub mod Serving

@@ -6,6 +6,7 @@ mod choice;
 mod choosing;
 mod chore;
 mod keeper;
+mod laws;
 mod neighbours;
 mod policy;
 mod remains;
@@ -17,6 +18,7 @@ mod table;
 
 pub use chore::Chore;
 pub use keeper::Keeper;
+pub use laws::laws_of_turns;
 pub use policy::Policy;
 pub use remains::Remains;
 pub use served::Served;

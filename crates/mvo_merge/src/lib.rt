@@ -10,5 +10,5 @@ mod renumbering;
 pub use building::build;
 pub use laws::laws_of_merge;
 pub use merged::Merged;
-pub use moving::move_places;
+pub use moving::{move_places, move_places_upto};
 pub use renumbering::Renumbering;

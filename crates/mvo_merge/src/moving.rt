@@ -1,6 +1,7 @@
 //! Brings the places of live records up to date.
-ghost use Rattle.std.specs.Prelude.{◌≡◌, ◌<◌, ◌≤◌, length};
+ghost use Rattle.std.specs.Prelude.{◌≡◌, ◌<◌, ◌≤◌, length, take};
 ghost use Rattle.std.specs.FinMap.{get};
+ghost use Rattle.mvo_places.specs.Places.{PlaceMap};
 ghost use Rattle.mvo_merge.specs.Moved.{HaveOwnKeys, lies_in, with_one, moved};
 
 use mvo_pair::DataRecord;
@@ -31,12 +32,42 @@ fn move_place(places: &mut Places, left: u16, right: u16, key: RowKey, place: Re
     }
 }
 
-/// Takes over what a merge makes of the places: the records of the merged pair whose keys have
-/// their places in the left or the right pair's data file lie in this one, each at its own number.
-/// A key whose record came to a delta meanwhile has its place elsewhere, or none, and keeps it.
+/// Brings what a merge makes of the places from its first so many records to the first so many
+/// more: the records of the merged pair whose keys have their places in the left or the right
+/// pair's data file lie in this one, each at its own number. A key whose record came to a delta
+/// meanwhile has its place elsewhere, or none, and keeps it.
 ///
 /// So it is where each record has a key of its own. It takes no memory and no room, and the time of
 /// two look-ups a record.
+pub fn move_places_upto(
+    places: &mut Places,
+    left: u16,
+    right: u16,
+    data_file: u16,
+    records: &[DataRecord],
+    from: usize,
+    upto: usize,
+)
+    requires file { data_file ≤ MAX_FILE }
+    requires few { length records.now ≤ MAX_PAIR_RECORDS }
+    requires order { from ≤ upto }
+    requires among { upto ≤ length records.now }
+    ensures moved { HaveOwnKeys records.now → (at : PlaceMap) →
+        places.old.at ≡ moved left right data_file (take from records.now) at →
+        places.new.at ≡ moved left right data_file (take upto records.now) at }
+    ensures room { places.new.room ≡ places.old.room }
+{
+    for number in from..upto {
+        let entry = &records[number];
+        let place = RecordPlace {
+            data_file,
+            number: number as u32,
+        };
+        move_place(places, left, right, entry.row.key, place);
+    }
+}
+
+/// The same of all its records.
 pub fn move_places(
     places: &mut Places,
     left: u16,
@@ -50,11 +81,5 @@ pub fn move_places(
         places.new.at ≡ moved left right data_file records.now places.old.at }
     ensures room { places.new.room ≡ places.old.room }
 {
-    for (number, entry) in records.iter().enumerate() {
-        let place = RecordPlace {
-            data_file,
-            number: number as u32,
-        };
-        move_place(places, left, right, entry.row.key, place);
-    }
+    move_places_upto(places, left, right, data_file, records, 0, records.len());
 }

@@ -9,3 +9,4 @@ pub mod Growing
 pub mod Putting
 pub mod Falls
 pub mod Over
+pub mod Upto

@@ -1,5 +1,5 @@
 -- Places of live records, by key.
-use Rattle.std.specs.Prelude.{◌≡◌, ℕ, ◌+◌, ◌*◌, ◌/◌, ◌%◌, ◌<◌, List, [], ◌∷◌, ◌++◌, length, map, fold, Some, nat_eq, refl}
+use Rattle.std.specs.Prelude.{◌≡◌, ℕ, ◌+◌, ◌-◌, ◌*◌, ◌/◌, ◌%◌, ◌<◌, List, [], ◌∷◌, ◌++◌, length, map, fold, take, Some, nat_eq, refl}
 use Rattle.std.specs.List.{AllByRecursion, IsDistinct, enumerate_from}
 use Rattle.std.specs.List.Sorted.{IsStrictlyIncreasing}
 use Rattle.std.specs.Coded.{Coded, code_by, coded×, coded_ℕ}
@@ -106,3 +106,9 @@ without_keys ks at = fold (λ m k. map.remove m k) at ks
 -- the keys at which it leaves no row
 abbrev pub taken_places : ℕ → List EntryData → List RowKey → PlaceMap → PlaceMap
 taken_places file es gone at = with_live file (enumerate_from 0 es) (without_keys gone at)
+
+-- The places with the first so many of these changes, which are made one after another: first keys
+-- lose their places, and then records get theirs.
+abbrev pub taken_upto : ℕ → List EntryData → List RowKey → ℕ → PlaceMap → PlaceMap
+taken_upto file es gone count at =
+    taken_places file (take (count - length gone) es) (take count gone) at

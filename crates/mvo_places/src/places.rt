@@ -1,8 +1,9 @@
-ghost use Rattle.std.specs.Prelude.{◌≡◌, ◌<◌, ◌≤◌, ◌+◌, length, All, OnOk, OnErr, IfOk, IsSome, None};
+ghost use Rattle.std.specs.Prelude.{◌≡◌, ◌<◌, ◌≤◌, ◌+◌, ◌-◌, length, take, All, OnOk, OnErr, IfOk, IsSome, None};
 ghost use Rattle.std.specs.Option.{option_map};
+ghost use Rattle.std.specs.List.{enumerate_from};
 ghost use Rattle.std.specs.FinMap as map;
 ghost use Rattle.mvo_places.specs.Places.{no_places, number_of, AreSmall, with_live};
-ghost use Rattle.mvo_places.specs.Places.{without_keys, taken_places};
+ghost use Rattle.mvo_places.specs.Places.{PlaceMap, without_keys, taken_places, taken_upto};
 ghost use Rattle.mvo_places.specs.Falling.{HaveDistinctKeys};
 
 use crate::falling::Falling;
@@ -173,6 +174,59 @@ impl Places {
         }
     }
 
+    /// Puts the places of the records from one number up to another, each at its own number. The
+    /// room for them is there.
+    fn put_records(&mut self, data_file: u16, records: &[DataRecord], from: usize, upto: usize)
+        requires file { data_file ≤ MAX_FILE }
+        requires few { length records.now ≤ MAX_PAIR_RECORDS }
+        requires order { from ≤ upto }
+        requires among { upto ≤ length records.now }
+        requires room { upto ≤ self.old.room + from }
+        ensures put { (at : PlaceMap) →
+            self.old.at ≡ with_live data_file (enumerate_from 0 (take from records.now)) at →
+            self.new.at ≡ with_live data_file (enumerate_from 0 (take upto records.now)) at }
+        ensures room { self.old.room + from ≤ self.new.room + upto }
+    {
+        for number in from..upto {
+            let entry = &records[number];
+            let place = RecordPlace {
+                data_file,
+                number: number as u32,
+            };
+            let Ok(()) = self.put(entry.row.key, place) else {
+                unreachable!()
+            };
+        }
+    }
+
+    /// Brings what a checkpoint makes of the places from the first so many of its changes to the
+    /// first so many more: first these keys lose their places, one after another, and then its
+    /// records get theirs, each in the data file of its pair at its own number. The room for the
+    /// records is there, so it takes no memory.
+    pub fn take_over_upto(
+        &mut self,
+        data_file: u16,
+        records: &[DataRecord],
+        gone: &[RowKey],
+        from: usize,
+        upto: usize,
+    )
+        requires file { data_file ≤ MAX_FILE }
+        requires few { length records.now ≤ MAX_PAIR_RECORDS }
+        requires order { from ≤ upto }
+        requires room { length records.now ≤ self.old.room + (from - length gone.now) }
+        ensures taken { (at : PlaceMap) →
+            self.old.at ≡ taken_upto data_file records.now gone.now from at →
+            self.new.at ≡ taken_upto data_file records.now gone.now upto at }
+        ensures room { length records.now ≤ self.new.room + (upto - length gone.now) }
+    {
+        let (keys, all) = (gone.len(), records.len());
+        self.remove_keys(&gone[from.min(keys)..upto.min(keys)]);
+        let first = from.saturating_sub(keys).min(all);
+        let last = upto.saturating_sub(keys).min(all);
+        self.put_records(data_file, records, first, last);
+    }
+
     /// Takes over what a checkpoint makes of the places: its records lie in the data file of its
     /// pair, each at its own number, and these keys have no record. The room for the records is
     /// there, so it takes no memory.
@@ -182,15 +236,6 @@ impl Places {
         requires room { length records.now ≤ self.old.room }
         ensures { self.new.at ≡ taken_places data_file records.now gone.now self.old.at }
     {
-        self.remove_keys(gone);
-        for (number, entry) in records.iter().enumerate() {
-            let place = RecordPlace {
-                data_file,
-                number: number as u32,
-            };
-            let Ok(()) = self.put(entry.row.key, place) else {
-                unreachable!()
-            };
-        }
+        self.take_over_upto(data_file, records, gone, 0, gone.len() + records.len());
     }
 }

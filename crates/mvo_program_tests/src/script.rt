@@ -12,6 +12,7 @@ mod read_only;
 mod rotations;
 mod streams;
 mod texts;
+mod told;
 mod transactions;
 mod transcripts;
 mod worlds;

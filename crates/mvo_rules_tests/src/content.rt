@@ -225,3 +225,29 @@ fn a_read_is_told_again_what_it_was_told_first(rt: HostRuntime) -> Result<(), Fa
     read_again(&rt, rt.alloc(), content, &mut others)?;
     Ok(())
 }
+
+/// Emptied, it is told what others show now.
+fn read_when_empty(
+    rt: &impl Abort,
+    alloc: Global,
+    content: &mut WorkContent,
+    others: &mut Serial,
+) -> Result<(), AllocError> {
+    reads(rt, content, others, false)?;
+    same(rt, &content.take_operations().len(), &1);
+    put(alloc, others)?;
+    reads(rt, content, others, true)?;
+    content.clear();
+    content.keep_list(Vec::with_capacity(alloc, 4)?);
+    same(rt, &content.operation_count(), &0);
+    same(rt, &content.looks().len(), &0);
+    reads(rt, content, others, true)
+}
+
+#[test]
+fn one_that_is_emptied_is_told_what_others_show_now(rt: HostRuntime) -> Result<(), Fail> {
+    let mut others = Serial::new(rt.alloc(), Rows::new(rt.alloc()));
+    let content = &mut WorkContent::new(rt.alloc());
+    read_when_empty(&rt, rt.alloc(), content, &mut others)?;
+    Ok(())
+}

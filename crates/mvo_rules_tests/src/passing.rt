@@ -170,7 +170,8 @@ fn plain_shown(list: &[Plain], reader: u64) -> Option<VersionNo> {
     None
 }
 
-/// Each reader is shown what the list says. No two times are one: versions have even ones.
+/// Each reader is shown what the list says, and so is nobody as of its begin. No two times are one:
+/// versions have even ones.
 fn agree(rt: &impl Abort, both: &Both) {
     for half in 0..LATEST / 2 {
         let reader = half.saturating_mul(2).saturating_add(1);
@@ -178,6 +179,10 @@ fn agree(rt: &impl Abort, both: &Both) {
         let wanted = plain_shown(both.list.as_slice(), reader);
         same_at(rt, &shown.version, &wanted, reader);
         same_at(rt, &shown.depends_on, &None, reader);
+        let to_nobody = both
+            .versions
+            .shown_as(&both.table, Stamp(reader), TxId(0), KEY);
+        same_at(rt, &to_nobody.version, &wanted, reader);
     }
 }
 

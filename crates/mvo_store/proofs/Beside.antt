@@ -32,14 +32,14 @@ use Rattle.mvo_store.specs.Jobs.Job.{Rotation, Checkpoint, Merge, MergeInstall}
 use Rattle.mvo_store.specs.Standing.{IsRunning, IsMergingAt, ShareNoFile}
 use Rattle.mvo_store.specs.Writing.{IsFileAt, IsMergeFileAt}
 use Rattle.mvo_store.proofs.Numbered.{same_due}
-use Rattle.mvo_store.proofs.Working.{IsOfPair, RestsOn, IsNew, keeps_last, written_of_pair, job_framed, records_framed, merge_new}
+use Rattle.mvo_store.proofs.Working.{IsOfPair, RestsOn, IsNew, keeps_last, written_of_pair, job_framed, records_framed, first_framed, merge_new}
 
 -- ---- the job whose step is due
 
 -- how it stands among those that run
 pub data IsDueIn (step : Due) : Jobs → Job → Type 0 where
   TheRotation : (fresh : Segment) (i : InstallData) → Install i.step ≡ step → IsDueIn step (RotationAlone fresh i) (Rotation fresh i)
-  TheMerge : (seen : SeenPairs) (i : InstallData) → Install i.step ≡ step → IsDueIn step (MergeAlone seen i) (MergeInstall seen i)
+  TheMerge : (seen : SeenPairs) (placed : ℕ) (i : InstallData) → Install i.step ≡ step → IsDueIn step (MergeAlone seen placed i) (MergeInstall seen placed i)
   TheCheckpoint : (c : Checkpointing) (g : Option Merging) → due_of c.stage ≡ step → IsDueIn step (Beside (Some c) g) (Checkpoint c)
   OfMerge : (c : Option Checkpointing) (g : Merging) → merge_due_of g.stage ≡ step → IsDueIn step (Beside c (Some g)) (Merge g)
 
@@ -54,7 +54,7 @@ module _ (step : Due) where
 
   pub due_in_jobs : (jobs : Jobs) (j : Job) → job_due step jobs ≡ Some j → IsDueIn step jobs j
   due_in_jobs (RotationAlone fresh i) j e = let o = one_due (Rotation fresh i) j e in subst (IsDueIn step (RotationAlone fresh i)) o.0 (TheRotation fresh i o.1)
-  due_in_jobs (MergeAlone seen i) j e = let o = one_due (MergeInstall seen i) j e in subst (IsDueIn step (MergeAlone seen i)) o.0 (TheMerge seen i o.1)
+  due_in_jobs (MergeAlone seen placed i) j e = let o = one_due (MergeInstall seen placed i) j e in subst (IsDueIn step (MergeAlone seen placed i)) o.0 (TheMerge seen placed i o.1)
   due_in_jobs (Beside None None) j e = absurd (cc e)
   due_in_jobs (Beside (Some c) None) j e = let o = one_due (Checkpoint c) j e in subst (IsDueIn step (Beside (Some c) None)) o.0 (TheCheckpoint c None o.1)
   due_in_jobs (Beside None (Some g)) j e = let o = one_due (Merge g) j e in subst (IsDueIn step (Beside None (Some g))) o.0 (OfMerge None g o.1)
@@ -66,12 +66,12 @@ module _ (step : Due) where
 
 -- a step of a checkpoint is none of a merge
 pub checkpoint_step : (stage : CheckpointStage) (step : Due) → due_of stage ≡ step → is_of_merge step ≡ false
-checkpoint_step AtData step e = subst (λ (s : Due). is_of_merge s ≡ false) e refl
+checkpoint_step (AtData written) step e = subst (λ (s : Due). is_of_merge s ≡ false) e refl
 checkpoint_step (AtDelta written) step e = subst (λ (s : Due). is_of_merge s ≡ false) e refl
 checkpoint_step (AtInstall k) step e = subst (λ (s : Due). is_of_merge s ≡ false) e refl
 
 pub merge_step : (stage : MergeStage) (step : Due) → merge_due_of stage ≡ step → is_of_merge step ≡ true
-merge_step MergeAtData step e = subst (λ (s : Due). is_of_merge s ≡ true) e refl
+merge_step (MergeAtData written) step e = subst (λ (s : Due). is_of_merge s ≡ true) e refl
 merge_step MergeAtDelta step e = subst (λ (s : Due). is_of_merge s ≡ true) e refl
 
 -- ---- files that are apart
@@ -107,7 +107,8 @@ module _ (old new : Image) (may_old may_new : ℕ → List ℕ → Type 0) (m : 
   module _ (file : ℕ) (rest : OthersStay file old new may_old may_new) where
     -- what it has written is another file
     merge_written_beside : (g : SeenPairs) (stage : MergeStage) → g.pair.data_file ≢ file → IsMergeWritten old may_old g stage → IsMergeWritten new may_new g stage
-    merge_written_beside g MergeAtData ne has = tt
+    merge_written_beside g (MergeAtData zero) ne has = tt
+    merge_written_beside g (MergeAtData (suc k)) ne has = first_framed old new may_old may_new (λ n. n ≢ file) (files_stay_others old new may_old may_new (λ n. n ≢ file) file (λ no. no refl) rest) g.pair g.made.records (suc k) ne has
     merge_written_beside g MergeAtDelta ne has = records_framed old new may_old may_new (λ n. n ≢ file) (files_stay_others old new may_old may_new (λ n. n ≢ file) file (λ no. no refl) rest) g.pair g.made.records ne has
 
     module _ (c : Checkpointing) (g : Merging) (apart : ShareNoFile (Checkpoint c) (Merge g)) (due : IsFileAt m c c.stage file) (has : IsMergingAt old may_old m g) where
@@ -119,7 +120,7 @@ module _ (old new : Image) (may_old may_new : ℕ → List ℕ → Type 0) (m : 
       data_beside e = go c.stage (subst (IsFileAt m c c.stage) (sym e) due)
         where
           go : (stage : CheckpointStage) → IsFileAt m c stage g.seen.pair.data_file → ⊥
-          go AtData at = pairs_apart_here c g apart g.seen.pair.data_file (inl at) (inl refl)
+          go (AtData written) at = pairs_apart_here c g apart g.seen.pair.data_file (inl at) (inl refl)
           go (AtDelta zero) at = pairs_apart_here c g apart g.seen.pair.data_file (inr at) (inl refl)
           go (AtDelta (suc k)) at = new_files.0.unnamed (pairs_named m g.seen.pair.data_file (subst (Contains (flat_map pair_files m.pairs)) (sym at.file) (delta_among m.pairs at.pair at.among)))
           go (AtInstall step) at = absurd (omega (arith, new_files.0.file.0, at, slot_below (m.generation + 1)))
@@ -149,7 +150,7 @@ module _ (old new : Image) (may_old may_new : ℕ → List ℕ → Type 0) (m : 
       of_merge = go g.stage due
         where
           go : (stage : MergeStage) → IsMergeFileAt g.seen.pair stage file → IsOfPair g.seen.pair file
-          go MergeAtData at = inl at
+          go (MergeAtData written) at = inl at
           go MergeAtDelta at = inr at
 
       file_new : IsNew m file
@@ -225,5 +226,6 @@ module _ (old new : Image) (may_old may_new : ℕ → List ℕ → Type 0) (m : 
       data_no_slot e = absurd (omega (arith, e, has.merge.may_merge.data_file.0, slot_below (m.generation + 1)))
 
       written_on : (stage : MergeStage) → IsMergeWritten old may_old g.seen stage → IsMergeWritten new may_new g.seen stage
-      written_on MergeAtData w = tt
+      written_on (MergeAtData zero) w = tt
+      written_on (MergeAtData (suc k)) w = first_framed old new may_old may_new (λ n. n ≢ other_slot m) (files_stay_others old new may_old may_new (λ n. n ≢ other_slot m) (other_slot m) (λ no. no refl) rest) g.seen.pair g.seen.made.records (suc k) data_no_slot w
       written_on MergeAtDelta w = records_framed old new may_old may_new (λ n. n ≢ other_slot m) (files_stay_others old new may_old may_new (λ n. n ≢ other_slot m) (other_slot m) (λ no. no refl) rest) g.seen.pair g.seen.made.records data_no_slot w

@@ -227,8 +227,8 @@ module _ {D : Type 0} (d : Ghosts D) (old new : D) (m : ManifestData) (g : Mergi
           }
 
       -- THE MERGE IS READY.
-      end_makes : HasMadeStep d old new m (Merge g) (MergeInstall g.seen (record { next = next; step = Close }))
-      end_makes = fill_makes d old new m (Merge g) (MergeInstall g.seen (record { next = next; step = Close })) delta (Unit {0}) (record { due = delta_due; takes = takes; is = delta_new; goes_on = λ x settled w _. record { work = ready_end x settled w; install = tt } }) rest tt
+      end_makes : HasMadeStep d old new m (Merge g) (MergeInstall g.seen 0 (record { next = next; step = Close }))
+      end_makes = fill_makes d old new m (Merge g) (MergeInstall g.seen 0 (record { next = next; step = Close })) delta (Unit {0}) (record { due = delta_due; takes = takes; is = delta_new; goes_on = λ x settled w _. record { work = ready_end x settled w; install = tt } }) rest tt
 
 -- ---- a look at the disk, and then a write
 

@@ -20,7 +20,7 @@ use Rattle.mvo_pair.specs.Data.{EntryData}
 use Rattle.mvo_pair.specs.declared.pair.Pair.{Pair}
 use Rattle.mvo_manifest.specs.Data.{ManifestData, named}
 use Rattle.mvo_manifest.specs.Rules.{IsFile}
-use Rattle.mvo_places.specs.Places.{PlaceTable, ArePlaces, file_of, taken_places}
+use Rattle.mvo_places.specs.Places.{PlaceMap, PlaceTable, ArePlaces, file_of, taken_places}
 use Rattle.mvo_ckpt.specs.Writes.{records_of, gone_of}
 use Rattle.mvo_ckpt.proofs.Taking.{places_taken_over}
 use Rattle.mvo_merge.specs.Merged.{merged as records_merged}
@@ -47,7 +47,7 @@ use Rattle.mvo_store.specs.Causes.{why_not_due}
 use Rattle.mvo_store.specs.Jobs.{Job, job_takes_file, has_rotation, step_due, merge_due_of, job_due, is_step_due, stage_behind, with_step, after_step, next_installed, after_install}
 use Rattle.mvo_store.specs.Jobs.Job.{Rotation, Checkpoint, Merge, MergeInstall}
 use Rattle.mvo_store.specs.Standing.{IsRunning, HaveJobs, ShareNone, JobsHaveRoom, JobHasRoom, IsUp, MayBeLeft, HasSlots, HasBody, HasWork, MayTakeOver, HaveKeys}
-use Rattle.mvo_store.specs.Safe.{IsWithin, IsSafeWork, AreSafe, HasNext, IsSafe, IsStoreSound}
+use Rattle.mvo_store.specs.Safe.{IsWithin, IsAmong, IsSafeWork, AreSafe, HasNext, IsSafe, IsStoreSound}
 use Rattle.mvo_store.specs.Writing.{StandsWith, StillGives, IsFileDue, IsFileAt, IsMergeFileAt, WritesFile, WritesFor, HasMadeStep, TakesMemory, IsStepRefusal, IsOpened}
 use Rattle.mvo_store.specs.Calls.{why_not_store, MayMeet, Makes, HasStepped, IsFileOf, IsFileOfJob, MayTouch, KeepsOthers, IsStoreStep, rows_behind}
 use Rattle.mvo_store.specs.Calls.StoreStep.{Call}
@@ -68,6 +68,8 @@ use Rattle.mvo_store.proofs.Working.{Installing, Installs, installs, installing,
 use Rattle.mvo_store.proofs.Beside.{IsDueIn, due_in_jobs, merge_stays, checkpoint_stays, merge_runs_on}
 use Rattle.mvo_store.proofs.Beside.IsDueIn.{TheRotation, TheMerge, TheCheckpoint, OfMerge}
 use Rattle.mvo_store.proofs.Turning.{some_due, step_is, of_due, all_stepped, share_stepped, share_installed}
+use Rattle.mvo_store.specs.Placing.{places_so_far, HavePlacesSoFar}
+use Rattle.mvo_store.proofs.Changes.{same_changes, as_they_are, step_changes, install_changes}
 use Rattle.mvo_store.proofs.Still.{merge_safe_after}
 use Rattle.mvo_store.proofs.Olds.{step_stays, known_next}
 use Rattle.mvo_store.specs.Old.{KnowsOld, AreUnmarked}
@@ -143,12 +145,12 @@ step_room : (places : PlaceTable) (j : Job) → JobHasRoom places j → JobHasRo
 step_room places (Rotation fresh i) room = tt
 step_room places (Checkpoint c) room = room
 step_room places (Merge g) room = tt
-step_room places (MergeInstall g i) room = tt
+step_room places (MergeInstall g placed i) room = tt
 
 -- ---- what safety needs of a job
 
 within_behind : (older : ℕ) (stage : CheckpointStage) → IsWithin older stage → IsWithin older (stage_behind older stage)
-within_behind older AtData within = omega arith
+within_behind older (AtData written) within = omega arith
 within_behind older (AtDelta written) within = go (ltb written older) refl
   where
     go : (b : Bool) → ltb written older ≡ b → IsWithin older (cond b (AtDelta (written + 1)) (AtInstall Close))
@@ -156,19 +158,28 @@ within_behind older (AtDelta written) within = go (ltb written older) refl
     go false is = tt
 within_behind older (AtInstall step) within = tt
 
+among_behind : (all older : ℕ) (stage : CheckpointStage) → IsAmong all (stage_behind older stage)
+among_behind all older (AtData written) = tt
+among_behind all older (AtDelta written) = go (ltb written older)
+  where
+    go : (b : Bool) → IsAmong all (cond b (AtDelta (written + 1)) (AtInstall Close))
+    go true = tt
+    go false = tt
+among_behind all older (AtInstall step) = tt
+
 -- with one step behind it the job is safe
 pub step_safe : (m : ManifestData) (j : Job) → IsSafeWork m j → IsSafeWork m (after_step j)
 step_safe m (Rotation fresh i) safe = record { file = safe.file; few = safe.few; next_is = safe.next_is }
-step_safe m (Checkpoint c) safe = record { generation = safe.generation; pair = safe.pair; known = safe.known; within = within_behind (length c.made.deltas) c.stage safe.within; next_is = safe.next_is }
-step_safe m (Merge g) safe = record { pair = safe.pair; still = safe.still; may_become = safe.may_become }
-step_safe m (MergeInstall g i) safe = record { pair = safe.pair; next_is = safe.next_is }
+step_safe m (Checkpoint c) safe = record { generation = safe.generation; pair = safe.pair; known = safe.known; within = within_behind (length c.made.deltas) c.stage safe.within; among = among_behind (length c.made.records) (length c.made.deltas) c.stage; placed = safe.placed; next_is = safe.next_is }
+step_safe m (Merge g) safe = record { pair = safe.pair; among = tt; still = safe.still; may_become = safe.may_become }
+step_safe m (MergeInstall g placed i) safe = record { pair = safe.pair; within = safe.within; next_is = safe.next_is }
 
 -- there is room for the places of what it installs
 pub safe_take_over : (m : ManifestData) (places : PlaceTable) (j : Job) → IsSafeWork m j → JobHasRoom places j → MayTakeOver places j
 safe_take_over m places (Rotation fresh i) safe room = tt
-safe_take_over m places (Checkpoint c) safe room = record { file = safe.pair.data_file.1; few = safe.pair.few; room = room }
+safe_take_over m places (Checkpoint c) safe room = record { file = safe.pair.data_file.1; few = safe.pair.few; room = room; placed = safe.placed }
 safe_take_over m places (Merge g) safe room = tt
-safe_take_over m places (MergeInstall g i) safe room = record { file = safe.pair.data_file.1; few = safe.pair.few }
+safe_take_over m places (MergeInstall g placed i) safe room = record { file = safe.pair.data_file.1; few = safe.pair.few; within = safe.within }
 
 -- where its manifest is installed, the segment that takes frames is a file of the disk
 opened_file : (m : ManifestData) (j : Job) (segment : Segment) → IsSafeWork m j → IsFile segment.file → IsFile (segment_after j segment).file
@@ -182,7 +193,7 @@ opened_few m j segment safe few = few
 opened_next : {jobs : Jobs} {j : Job} → IsDueIn (Install Open) jobs j → (segment : Segment) (b : Bool) (o : Option GroupData) → (b && has_rotation jobs) ≡ false → (b ≡ true → HasNext o segment.next) → b ≡ true → HasNext o (segment_after j segment).next
 opened_next (TheRotation fresh i at) segment true o free has is = absurd (cc free)
 opened_next (TheRotation fresh i at) segment false o free has is = absurd (cc is)
-opened_next (TheMerge seen i at) segment b o free has is = has is
+opened_next (TheMerge seen placed i at) segment b o free has is = has is
 opened_next (TheCheckpoint c g at) segment b o free has is = has is
 opened_next (OfMerge c g at) segment b o free has is = has is
 
@@ -193,20 +204,20 @@ is_rotation j = false
 
 -- no step of a merge whose files aren't all written opens a gate
 pub never_opens : {A : Type 0} (stage : MergeStage) → merge_due_of stage ≡ Install Open → A
-never_opens MergeAtData e = absurd (cc e)
+never_opens (MergeAtData written) e = absurd (cc e)
 never_opens MergeAtDelta e = absurd (cc e)
 
 -- the job that opens a gate is the one whose manifest is the next
 pub installed_is : {jobs : Jobs} {j : Job} → IsDueIn (Install Open) jobs j → next_installed jobs ≡ Some j
 installed_is (TheRotation fresh i at) = refl
-installed_is (TheMerge seen i at) = refl
+installed_is (TheMerge seen placed i at) = refl
 installed_is (TheCheckpoint c g at) = refl
 installed_is (OfMerge c g at) = never_opens g.stage at
 
 -- those that run on are safe
 opened_jobs : (m : ManifestData) {jobs : Jobs} {j : Job} → IsDueIn (Install Open) jobs j → AreSafe m jobs → ShareNone jobs → AreSafe (manifest_after j m) (after_install jobs)
 opened_jobs m (TheRotation fresh i at) all apart = tt
-opened_jobs m (TheMerge seen i at) all apart = tt
+opened_jobs m (TheMerge seen placed i at) all apart = tt
 opened_jobs m (TheCheckpoint c None at) all apart = tt
 opened_jobs m (TheCheckpoint c (Some g) at) all apart = (merge_safe_after m c g apart all.0 all.1.0, tt)
 opened_jobs m (OfMerge c g at) all apart = never_opens g.stage at
@@ -214,7 +225,7 @@ opened_jobs m (OfMerge c g at) all apart = never_opens g.stage at
 -- and need no room
 opened_room : (places : PlaceTable) (jobs : Jobs) → JobsHaveRoom places (after_install jobs)
 opened_room places (RotationAlone fresh i) = tt
-opened_room places (MergeAlone seen i) = tt
+opened_room places (MergeAlone seen placed i) = tt
 opened_room places (Beside c None) = tt
 opened_room places (Beside c (Some g)) = (tt, tt)
 
@@ -243,10 +254,10 @@ opened_safe {D} {d} {s} safe {j} due new places marks free count = record {
 }
 
 -- the file of a checkpoint's step, and of a merge's
-at_checkpoint : (m : ManifestData) (j : Job) (c : Checkpointing) (n : ℕ) → j ≡ Checkpoint c → IsFileDue m j n → IsFileAt m c c.stage n
+pub at_checkpoint : (m : ManifestData) (j : Job) (c : Checkpointing) (n : ℕ) → j ≡ Checkpoint c → IsFileDue m j n → IsFileAt m c c.stage n
 at_checkpoint m j c n is at = subst (λ (k : Job). IsFileDue m k n) is at
 
-at_merge : (m : ManifestData) (j : Job) (g : Merging) (n : ℕ) → j ≡ Merge g → IsFileDue m j n → IsMergeFileAt g.seen.pair g.stage n
+pub at_merge : (m : ManifestData) (j : Job) (g : Merging) (n : ℕ) → j ≡ Merge g → IsFileDue m j n → IsMergeFileAt g.seen.pair g.stage n
 at_merge m j g n is at = subst (λ (k : Job). IsFileDue m k n) is at
 
 module _ {D : Type 0} (d : Ghosts D) (s : StoreData D) (step : Due) (j : Job) (is : job_due step s.jobs ≡ Some j) where
@@ -287,7 +298,7 @@ module _ {D : Type 0} (d : Ghosts D) (s : StoreData D) (step : Due) (j : Job) (i
         (all_stepped (IsRunning (d.content s.disk) (d.may_leave s.disk) s.manifest up.parts) (IsRunning (d.content new) (d.may_leave new) s.manifest up.parts) due_here up.jobs stands.job
         (λ c g e k runs. merge_stays (d.content s.disk) (d.content new) (d.may_leave s.disk) (d.may_leave new) s.manifest up.parts up.settled w.file w.rest c g (both c g e) (at_checkpoint s.manifest j c w.file k w.is) runs.work made.counts)
         (λ c g e k runs. checkpoint_stays (d.content s.disk) (d.content new) (d.may_leave s.disk) (d.may_leave new) s.manifest up.parts up.settled w.file w.rest c g (both c g e) (at_merge s.manifest j g w.file k w.is) (merge_work c g e k rows up) runs))
-        (share_stepped due_here up.apart) refl
+        (share_stepped due_here up.apart) (same_changes s.manifest.pairs up.parts.lives s.jobs (with_step step s.jobs) s.places.at (step_changes step s.jobs) up.places)
         (all_stepped (JobHasRoom s.places) (JobHasRoom s.places) due_here up.room_for (step_room s.places j (of_due (JobHasRoom s.places) due_here up.room_for)) (λ c g e k p. p) (λ c g e k p. p)) count
       where
         merge_work : (c : Checkpointing) (g : Merging) → s.jobs ≡ Beside (Some c) (Some g) → j ≡ Merge g → (rows : Map) (up : IsUp d s rows) → HasWork (d.content s.disk) (d.may_leave s.disk) s.manifest up.parts (Merge g)
@@ -327,7 +338,7 @@ module _ {D : Type 0} (d : Ghosts D) (s : StoreData D) (rows : Map) (up : IsUp d
   have_keys {step} {j} due = go j (of_due (IsRunning (d.content s.disk) (d.may_leave s.disk) m up.parts) due up.jobs).work
     where
       go : (j : Job) → HasWork (d.content s.disk) (d.may_leave s.disk) m up.parts j → HaveKeys j
-      go (MergeInstall g i) has = subst HaveOwnKeys (sym has.merge.records) (own_keys has.merge.live_left has.merge.live_right has.merge.seen.apart)
+      go (MergeInstall g placed i) has = subst HaveOwnKeys (sym has.merge.records) (own_keys has.merge.live_left has.merge.live_right has.merge.seen.apart)
       go j has = tt
 
   module _ (new : D) (slot : ℕ) (at : slot ≡ other_slot m) (rest : OthersStay slot (d.content s.disk) (d.content new) (d.may_leave s.disk) (d.may_leave new)) (count : d.fault_count new ≡ d.fault_count s.disk) where
@@ -345,7 +356,7 @@ module _ {D : Type 0} (d : Ghosts D) (s : StoreData D) (rows : Map) (up : IsUp d
 
     -- the store is up with it, with these places, marks and this segment
     with_next : (next : ManifestData) (i : Installs (d.content s.disk) (d.may_leave s.disk) up.parts next) (places : PlaceTable) (left : List Bool) (segment : Segment) (jobs : Jobs) → KnowsOld (d.content new) next 1024 left → HaveJobs (d.content new) (d.may_leave new) next i.parts jobs → ShareNone jobs → JobsHaveRoom places jobs → IsSettled (d.content new) (d.may_leave new) next i.parts → IsLastFile next segment.file
-        → segment.gate ≡ gate_of i.parts.last → segment.gate < MAX_SEGMENT_LEN → (s.written ≡ true → HasBody i.parts s.pending segment.gate segment.next (d.content new segment.file)) → ArePlaces next.pairs i.parts.lives places.at
+        → segment.gate ≡ gate_of i.parts.last → segment.gate < MAX_SEGMENT_LEN → (s.written ≡ true → HasBody i.parts s.pending segment.gate segment.next (d.content new segment.file)) → HavePlacesSoFar next.pairs i.parts.lives jobs places.at
         → IsUp d (record s { disk = new; manifest = next; places = places; old_marks = left; segment = segment; jobs = jobs }) rows
     with_next next i places left segment jobs marks runs apart room settled last gate few written are =
         let rows_are = up.rows_are ∙ sym i.same.rows in
@@ -354,7 +365,7 @@ module _ {D : Type 0} (d : Ghosts D) (s : StoreData D) (rows : Map) (up : IsUp d
 
     -- the segment that took frames takes them then
     installed_up : (next : ManifestData) (i : Installs (d.content s.disk) (d.may_leave s.disk) up.parts next) (places : PlaceTable) (left : List Bool) (jobs : Jobs) → KnowsOld (d.content new) next 1024 left → HaveJobs (d.content new) (d.may_leave new) next i.parts jobs → ShareNone jobs → JobsHaveRoom places jobs → IsSettled (d.content new) (d.may_leave new) next i.parts
-        → i.parts.middle ≡ up.parts.middle → i.parts.last ≡ up.parts.last → IsLastFile next s.segment.file → ArePlaces next.pairs i.parts.lives places.at
+        → i.parts.middle ≡ up.parts.middle → i.parts.last ≡ up.parts.last → IsLastFile next s.segment.file → HavePlacesSoFar next.pairs i.parts.lives jobs places.at
         → IsUp d (record s { disk = new; manifest = next; places = places; old_marks = left; jobs = jobs }) rows
     installed_up next i places left jobs marks runs apart room settled same_middle same_last last = with_next next i places left s.segment jobs marks runs apart room settled last (up.gate ∙ ap gate_of (sym same_last)) up.few
         (λ e. subst (λ (b : List ℕ). HasBody i.parts s.pending s.segment.gate s.segment.next b) (sym (rest.content s.segment.file last_apart)) (body_as up.parts i.parts same_middle same_last s.pending s.segment.gate s.segment.next (d.content s.disk s.segment.file) (up.written e)))
@@ -362,27 +373,27 @@ module _ {D : Type 0} (d : Ghosts D) (s : StoreData D) (rows : Map) (up : IsUp d
     -- the places then
     checkpoint_places : (c : Checkpointing) (places : PlaceTable) → (has : IsCheckpointInto (d.content s.disk) m up.parts c.pair c.made c.next)
         → IsSettled (d.content new) (d.may_leave new) c.next (checkpointed_parts m up.parts (made_of c.pair c.made has.segment) has.log.others)
-        → places.at ≡ taken_places c.pair.data_file c.made.records c.made.gone s.places.at → ArePlaces c.next.pairs (lives_after_checkpoint m up.parts (made_of c.pair c.made has.segment)) places.at
+        → places.at ≡ taken_places c.pair.data_file c.made.records c.made.gone up.places.at → ArePlaces c.next.pairs (lives_after_checkpoint m up.parts (made_of c.pair c.made has.segment)) places.at
     checkpoint_places c places has settled are =
         let made = has.made_is in
         let gs = has.segment.groups in
         let file = c.pair.data_file in
-        let old_at = s.places.at in
+        let old_at = up.places.at in
         let same : map file_of (map (raise (gained c.made.deltas)) m.pairs) ≡ map file_of m.pairs = files_stay (gained c.made.deltas) m.pairs in
         let apart : IsDistinct nat_eq (map file_of (map (raise (gained c.made.deltas)) m.pairs ++ c.pair ∷ [])) = subst (λ (n : ManifestData). IsDistinct nat_eq (map file_of n.pairs)) has.next_is (data_files_differ c.next settled.installed.own.is) in
-        let taken = places_taken_over gs m.pairs (map (raise (gained c.made.deltas)) m.pairs) up.parts.lives old_at c.pair up.places same apart in
+        let taken = places_taken_over gs m.pairs (map (raise (gained c.made.deltas)) m.pairs) up.parts.lives old_at c.pair up.places.are same apart in
         let at_is : places.at ≡ taken_places file (records_of gs) (gone_of gs) old_at = are ∙ ap (λ (es : List EntryData). taken_places file es c.made.gone old_at) made.records ∙ ap (λ (ks : List RowKey). taken_places file (records_of gs) ks old_at) made.gone in
         rw (at_is, made.lives, has.next_is) taken
 
     merge_places : (g : SeenPairs) (next : ManifestData) (places : PlaceTable) → (is : IsMergeReady (d.content s.disk) (d.may_leave s.disk) m g next)
         → IsSettled (d.content new) (d.may_leave new) next (merged_parts_now (d.content s.disk) (d.may_leave s.disk) m up.parts g next is)
-        → places.at ≡ moved g.left.data_file g.right.data_file g.pair.data_file g.made.records s.places.at → ArePlaces next.pairs (merged_parts_now (d.content s.disk) (d.may_leave s.disk) m up.parts g next is).lives places.at
+        → places.at ≡ moved g.left.data_file g.right.data_file g.pair.data_file g.made.records up.places.at → ArePlaces next.pairs (merged_parts_now (d.content s.disk) (d.may_leave s.disk) m up.parts g next is).lives places.at
     merge_places g next places is settled to =
         let merge = is.merge in
         let saw = seen_with g merge.live_left merge.live_right in
         let differ : IsDistinct nat_eq (map file_of (merged_manifest m (pairs_now merge.seen (pair_with g is.late))).pairs) = subst (λ (n : ManifestData). IsDistinct nat_eq (map file_of n.pairs)) is.next_is (data_files_differ next settled.installed.own.is) in
-        let now = places_beside (d.content s.disk) m up.parts saw (pair_with g is.late) merge.seen is.now s.places.at up.settled.installed.own.is up.settled.installed.parts.live differ up.places in
-        let at_is : places.at ≡ moved g.left.data_file g.right.data_file g.pair.data_file (records_merged merge.live_left merge.live_right) s.places.at = to ∙ ap (λ (es : List EntryData). moved g.left.data_file g.right.data_file g.pair.data_file es s.places.at) merge.records in
+        let now = places_beside (d.content s.disk) m up.parts saw (pair_with g is.late) merge.seen is.now up.places.at up.settled.installed.own.is up.settled.installed.parts.live differ up.places.are in
+        let at_is : places.at ≡ moved g.left.data_file g.right.data_file g.pair.data_file (records_merged merge.live_left merge.live_right) up.places.at = to ∙ ap (λ (es : List EntryData). moved g.left.data_file g.right.data_file g.pair.data_file es up.places.at) merge.records in
         rw (at_is, is.next_is) now
 
     -- it is known which files are old
@@ -390,33 +401,33 @@ module _ {D : Type 0} (d : Ghosts D) (s : StoreData D) (rows : Map) (up : IsUp d
     known_after {j} view has left un y settled = known_next (d.content s.disk) (d.may_leave s.disk) m up.parts up.settled view has (d.content new) (named_stays (manifest_after j m) y settled) s.old_marks left up.marks un
 
     -- THE STORE IS UP WITH IT, and with the jobs that run on.
-    open_up : {j : Job} {i : InstallData} → Installing j i → HasWork (d.content s.disk) (d.may_leave s.disk) m up.parts j → (places : PlaceTable) (left : List Bool) → AreUnmarked (job_takes_file j) s.old_marks left → IsOpened d new m (manifest_after j m) → places.at ≡ places_after j s.places.at → (is_rotation j ≡ true → s.written ≡ false)
-        → (jobs : Jobs) → ((y : Parts) → HaveJobs (d.content new) (d.may_leave new) (manifest_after j m) y jobs) → ShareNone jobs → JobsHaveRoom places jobs
+    open_up : {j : Job} {i : InstallData} → Installing j i → HasWork (d.content s.disk) (d.may_leave s.disk) m up.parts j → (places : PlaceTable) (left : List Bool) → AreUnmarked (job_takes_file j) s.old_marks left → IsOpened d new m (manifest_after j m) → places.at ≡ places_after j up.places.at → (is_rotation j ≡ true → s.written ≡ false)
+        → (jobs : Jobs) → ((y : Parts) → HaveJobs (d.content new) (d.may_leave new) (manifest_after j m) y jobs) → ShareNone jobs → JobsHaveRoom places jobs → ((at : PlaceMap) → places_so_far (next_installed jobs) at ≡ at)
         → IsUp d (record s { disk = new; manifest = manifest_after j m; places = places; old_marks = left; segment = segment_after j s.segment; jobs = jobs }) rows
-    open_up (OfRotation fresh k) has places left un opened to free jobs runs apart room =
+    open_up (OfRotation fresh k) has places left un opened to free jobs runs apart room none =
         let i = installs (d.content s.disk) (d.may_leave s.disk) m up.parts up.settled (OfRotation fresh k) has in
         let settled = next_settled k.next (ap (λ (n : ManifestData). n.generation) has.next_is) i opened in
         with_next k.next i places left fresh jobs (known_after (OfRotation fresh k) has left un i.parts settled) (runs i.parts) apart room settled (subst (λ (n : ManifestData). IsLastFile n fresh.file) (sym has.next_is) (rotated_last has.replaces m fresh.file))
-        has.gate (omega (arith, has.gate)) (λ e. absurd (cc (sym e ∙ free refl))) (rw (to, has.next_is) up.places)
-    open_up (OfCheckpoint pair c next step) has places left un opened to free jobs runs apart room =
-        let i = installs (d.content s.disk) (d.may_leave s.disk) m up.parts up.settled (OfCheckpoint pair c next step) has in
+        has.gate (omega (arith, has.gate)) (λ e. absurd (cc (sym e ∙ free refl))) (as_they_are k.next.pairs i.parts.lives jobs places.at none (rw (to, has.next_is) up.places.are))
+    open_up (OfCheckpoint pair c next step placed) has places left un opened to free jobs runs apart room none =
+        let i = installs (d.content s.disk) (d.may_leave s.disk) m up.parts up.settled (OfCheckpoint pair c next step placed) has in
         let settled = next_settled next (ap (λ (n : ManifestData). n.generation) has.into.next_is) i opened in
         let made = made_of pair c has.into.segment in
         let log = has.into.log in
         let stays = last_stays (d.content s.disk) (d.may_leave s.disk) m up.parts made log in
         let it : s.segment.file ≡ log.last_file = last_once m stays.0 log.last_file s.segment.file stays.1 up.last in
-        installed_up next i places left jobs (known_after (OfCheckpoint pair c next step) has left un i.parts settled) (runs i.parts) apart room settled refl refl
+        installed_up next i places left jobs (known_after (OfCheckpoint pair c next step placed) has left un i.parts settled) (runs i.parts) apart room settled refl refl
         (subst (λ (n : ManifestData). IsLastFile n s.segment.file) (sym has.into.next_is) (subst (IsLastFile (checkpointed m made)) (sym it) (last_after (d.content s.disk) (d.may_leave s.disk) m up.parts made log)))
-        (checkpoint_places (record { pair = pair; made = c; next = next; stage = AtInstall step }) places has.into settled to)
-    open_up (OfMergeReady g k) has places left un opened to free jobs runs apart room =
-        let i = installs (d.content s.disk) (d.may_leave s.disk) m up.parts up.settled (OfMergeReady g k) has in
+        (as_they_are next.pairs i.parts.lives jobs places.at none (checkpoint_places (record { pair = pair; made = c; next = next; stage = AtInstall step; placed = placed }) places has.into settled to))
+    open_up (OfMergeReady g placed k) has places left un opened to free jobs runs apart room none =
+        let i = installs (d.content s.disk) (d.may_leave s.disk) m up.parts up.settled (OfMergeReady g placed k) has in
         let settled = next_settled k.next (ap (λ (n : ManifestData). n.generation) has.next_is) i opened in
-        installed_up k.next i places left jobs (known_after (OfMergeReady g k) has left un i.parts settled) (runs i.parts) apart room settled refl refl (subst (λ (n : ManifestData). IsLastFile n s.segment.file) (sym has.next_is) (up.last.0, up.last.1)) (merge_places g k.next places has settled to)
+        installed_up k.next i places left jobs (known_after (OfMergeReady g placed k) has left un i.parts settled) (runs i.parts) apart room settled refl refl (subst (λ (n : ManifestData). IsLastFile n s.segment.file) (sym has.next_is) (up.last.0, up.last.1)) (as_they_are k.next.pairs i.parts.lives jobs places.at none (merge_places g k.next places has settled to))
 
     -- a merge that isn't ready runs on
     runs_on_after : {jobs : Jobs} {j : Job} → IsDueIn (Install Open) jobs j → HaveJobs (d.content s.disk) (d.may_leave s.disk) m up.parts jobs → ShareNone jobs → AreSafe m jobs → (y : Parts) → HaveJobs (d.content new) (d.may_leave new) (manifest_after j m) y (after_install jobs)
     runs_on_after (TheRotation fresh i due) runs apart safe y = tt
-    runs_on_after (TheMerge seen i due) runs apart safe y = tt
+    runs_on_after (TheMerge seen placed i due) runs apart safe y = tt
     runs_on_after (TheCheckpoint c None due) runs apart safe y = tt
     runs_on_after (TheCheckpoint c (Some g) due) runs apart safe y = (
       merge_runs_on (d.content s.disk) (d.content new) (d.may_leave s.disk) (d.may_leave new) m up.parts up.settled (subst (λ k. OthersStay k (d.content s.disk) (d.content new) (d.may_leave s.disk) (d.may_leave new)) at rest) c g apart runs.0.work.into safe.0.generation runs.1.0.work y,
@@ -431,13 +442,13 @@ module _ {D : Type 0} (d : Ghosts D) (s : StoreData D) (rows : Map) (up : IsUp d
       not_written : (b : Bool) → (b && true) ≡ false → b ≡ false
       not_written true e = absurd (cc e)
       not_written false e = refl
-  free_of (TheMerge seen i due) free is = absurd (cc is)
+  free_of (TheMerge seen placed i due) free is = absurd (cc is)
   free_of (TheCheckpoint c g due) free is = absurd (cc is)
   free_of (OfMerge c g due) free is = absurd (cc is)
 
   -- THE STORE IS UP with what the step of a job that opens the gate has made.
   pub opened_up : (safe : IsSafe d s) (j : Job) (due : IsDueIn (Install Open) s.jobs j) (new : D) → WritesFor d s.disk new m j → (behind : Job) → HasMadeStep d s.disk new m j behind → d.fault_count new ≡ d.fault_count s.disk
-      → (places : PlaceTable) → places.at ≡ places_after j s.places.at → (left : List Bool) → AreUnmarked (job_takes_file j) s.old_marks left → (s.written && has_rotation s.jobs) ≡ false
+      → (places : PlaceTable) → places.at ≡ places_after j up.places.at → (left : List Bool) → AreUnmarked (job_takes_file j) s.old_marks left → (s.written && has_rotation s.jobs) ≡ false
       → IsUp d (record s { disk = new; manifest = manifest_after j m; places = places; old_marks = left; segment = segment_after j s.segment; jobs = after_install s.jobs }) rows
   opened_up safe j due new writes behind makes count places to left un free =
       let stands : StandsWith d s.disk m up.parts j = record { settled = up.settled; job = of_due (IsRunning (d.content s.disk) (d.may_leave s.disk) m up.parts) due up.jobs } in
@@ -445,4 +456,4 @@ module _ {D : Type 0} (d : Ghosts D) (s : StoreData D) (rows : Map) (up : IsUp d
       let i = installing j _ (due_installs m j Open (step_is due)) in
       let slot = slot_of_install m w.file i w.is in
       open_up new w.file slot w.rest count i stands.job.work places left un ((makes up.parts stands).opened (step_is due)) to (free_of due free) (after_install s.jobs)
-      (runs_on_after new w.file slot w.rest count due up.jobs up.apart safe.jobs) (share_installed s.jobs) (opened_room places s.jobs)
+      (runs_on_after new w.file slot w.rest count due up.jobs up.apart safe.jobs) (share_installed s.jobs) (opened_room places s.jobs) (install_changes s.jobs)

@@ -1,5 +1,5 @@
 -- The call that writes the last file of a merge: what the store is behind it.
-use Rattle.std.proofs.Common.{◌≡◌, ◌≢◌, ◌⊎◌, inl, inr, Bool, true, false, cond, eqb, Some, None, Result, Ok, Err, refl, sym, ap, subst, ◌∙◌}
+use Rattle.std.proofs.Common.{◌≡◌, ◌≢◌, ◌⊎◌, inl, inr, Bool, true, false, cond, eqb, Some, None, Result, Ok, Err, refl, sym, ap, subst, ◌∙◌, arith}
 use Rattle.std.specs.Bool.{OnTrue, OnFalse}
 use Rattle.mvo_types.specs.Keys.{Map}
 use Rattle.mvo_types.specs.declared.refusal.Refusal.{Refusal}
@@ -20,10 +20,11 @@ use Rattle.mvo_store.specs.declared.jobs.jobs.Jobs.TheVariants.{Merge as MergeAl
 use Rattle.mvo_store.specs.StoreData.{StoreData}
 use Rattle.mvo_store.specs.Causes.{why_not_merge_delta}
 use Rattle.mvo_store.specs.Merging.{merged_at, pair_with}
-use Rattle.mvo_store.specs.Jobs.{merge_due_of, step_number, step_due, job_due, with_manifest}
+use Rattle.mvo_store.specs.Jobs.{merge_due_of, step_number, step_due, job_due, with_manifest, next_installed}
 use Rattle.mvo_store.specs.Jobs.Job.{Merge, MergeInstall}
 use Rattle.mvo_store.specs.Safe.{IsSafeMerge, AreSafe, IsSafe, IsStoreSound}
 use Rattle.mvo_store.specs.Standing.{IsUp}
+use Rattle.mvo_store.specs.Placing.{places_so_far}
 use Rattle.mvo_store.specs.Writing.{IsFileDue, IsMergeFileAt, JobStandsFor, WritesFile, IsEndOf}
 use Rattle.mvo_store.specs.Calls.{IsMergeEnded, IsStoreStep}
 use Rattle.mvo_store.specs.Calls.{StoreStep}
@@ -31,6 +32,7 @@ use Rattle.mvo_store.specs.Calls.StoreStep.{Call}
 use Rattle.mvo_store.specs.declared.call.StoreCall.TheVariants.{Step}
 use Rattle.mvo_store.proofs.Keeping.{CountsNow, Begins, begins, may_end, slots_as, stays_up, stays_safe, looked_safe, fault_step, misread_step, looked_step, done_step}
 use Rattle.mvo_store.proofs.Turning.{ends_alone}
+use Rattle.mvo_store.proofs.Changes.{same_changes}
 use Rattle.mvo_store.proofs.Olds.{step_stays}
 use Rattle.mvo_store.proofs.Dues.{stands_of, step_others, step_leaves, step_slots}
 use Rattle.mvo_store.proofs.Looks.{looked_same, misread_count}
@@ -41,7 +43,7 @@ abbrev EndMerge : StoreStep
 EndMerge = Call (Step MergeDelta)
 
 last_stage : (stage : MergeStage) → merge_due_of stage ≡ MergeDelta → stage ≡ MergeAtDelta
-last_stage MergeAtData e = absurd (cc e)
+last_stage (MergeAtData written) e = absurd (cc e)
 last_stage MergeAtDelta e = refl
 
 -- no cause refuses the call, and this merge runs alone
@@ -95,7 +97,7 @@ module _ {D : Type 0} {d : Ghosts D} {s : StoreData D} (b : EndsAlone d s) where
 
     module _ (next : ManifestData) (e : IsEndOf d s.disk new s.manifest g (Ok next)) where
       abbrev alone : Jobs
-      alone = MergeAlone g.seen (record { next = next; step = Close })
+      alone = MergeAlone g.seen 0 (record { next = next; step = Close })
 
       abbrev ended : StoreData D
       ended = record s { disk = new; jobs = alone }
@@ -110,10 +112,11 @@ module _ {D : Type 0} {d : Ghosts D} {s : StoreData D} (b : EndsAlone d s) where
           let made = e.ended.makes honest up.parts stood in
           let stands = made.stands no_gate in
           stays_up d s rows up new s.places alone stands.settled (w.rest.content s.segment.file (λ f. w.other (subst (IsLastFile s.manifest) f up.last)))
-          (step_stays (d.content s.disk) (d.content new) (d.may_leave s.disk) s.manifest up.parts up.settled made.counts (Merge g) stood.job.work w.file w.is w.rest.content) (stands.job, tt) tt refl (tt, tt) e.count
+          (step_stays (d.content s.disk) (d.content new) (d.may_leave s.disk) s.manifest up.parts up.settled made.counts (Merge g) stood.job.work w.file w.is w.rest.content) (stands.job, tt) tt
+          (same_changes s.manifest.pairs up.parts.lives s.jobs alone s.places.at (λ at. sym (ap (λ (k : Jobs). places_so_far (next_installed k) at) b.is)) up.places) (tt, tt) e.count
 
       ended_safe : IsSafe d ended
-      ended_safe = stays_safe b.begins.sound.safe new s.places alone (record { pair = safe_here.pair; next_is = ap (λ (n : ManifestData). n.generation) e.ended.next_is }, tt) tt (tt, tt) e.count
+      ended_safe = stays_safe b.begins.sound.safe new s.places alone (record { pair = safe_here.pair; within = omega arith; next_is = ap (λ (n : ManifestData). n.generation) e.ended.next_is }, tt) tt (tt, tt) e.count
 
       -- THE STORE IS SOUND WITH THE MERGE'S MANIFEST.
       pub ended_sound : IsStoreSound d (record s { disk = new; jobs = with_manifest next s.jobs })
@@ -131,12 +134,12 @@ module _ {D : Type 0} {d : Ghosts D} {s : StoreData D} (b : EndsAlone d s) where
             late = e.ended.late;
             are = e.ended.are;
             bytes = e.ended.bytes;
-            after = ap (λ (k : Jobs). record s { disk = new; jobs = k }) (ap (λ (n : ManifestData). MergeAlone g.seen (record { next = n; step = Close })) e.ended.next_is ∙ sym (ap (with_manifest whole) b.is));
+            after = ap (λ (k : Jobs). record s { disk = new; jobs = k }) (ap (λ (n : ManifestData). MergeAlone g.seen 0 (record { next = n; step = Close })) e.ended.next_is ∙ sym (ap (with_manifest whole) b.is));
           }
 
       pub ended_done : IsStoreStep {A = Unit {0}} d s EndMerge (Ok tt) (record s { disk = new; jobs = with_manifest next s.jobs })
       ended_done = subst (λ (k : Jobs). IsStoreStep {A = Unit {0}} d s EndMerge (Ok tt) (record s { disk = new; jobs = k })) (sym jobs_are)
-          (done_step b.begins ended e.honest (step_leaves d s MergeDelta (Merge g) last_due new e.writes) (step_slots d s MergeDelta (Merge g) last_due new e.writes (MergeInstall g.seen (record { next = next; step = Close })) e.ended.makes)
+          (done_step b.begins ended e.honest (step_leaves d s MergeDelta (Merge g) last_due new e.writes) (step_slots d s MergeDelta (Merge g) last_due new e.writes (MergeInstall g.seen 0 (record { next = next; step = Close })) e.ended.makes)
           (step_others d s MergeDelta (Merge g) last_due ended (last_file e)) tt makes e.count ended_up)
 
     -- ---- it is refused

@@ -1,5 +1,5 @@
 -- What doesn't stop a turn of a flush.
-use Rattle.std.proofs.Common.{◌≡◌, ◌≢◌, Bool, true, Result, Ok, Err, refl}
+use Rattle.std.proofs.Common.{◌≡◌, ◌≢◌, true, Result, Ok, Err, refl}
 use Rattle.mvo_types.specs.declared.refusal.Refusal.{Refusal}
 use Rattle.mvo_types.specs.declared.refusal.Refusal.TheVariants.{Busy}
 use Rattle.mvo_store.specs.Flushing.{lets_go_on}

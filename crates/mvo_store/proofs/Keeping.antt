@@ -8,7 +8,7 @@ use Rattle.mvo_disk.specs.Disk.{Image, AllOf, OthersStay, Touched, LeavesOnly, A
 use Rattle.mvo_disk.specs.Moments.{weaker, started, at_end}
 use Rattle.mvo_group.specs.Data.{GroupData}
 use Rattle.mvo_manifest.specs.Data.{ManifestData}
-use Rattle.mvo_places.specs.Places.{PlaceMap, PlaceTable, ArePlaces}
+use Rattle.mvo_places.specs.Places.{PlaceTable}
 use Rattle.mvo_recovery.specs.Parts.{Parts}
 use Rattle.mvo_recovery.specs.Settled.{IsSettled, IsUsed, GivesParts}
 use Rattle.mvo_recovery.proofs.Framed.{settled_gives, within_unused}
@@ -17,6 +17,7 @@ use Rattle.mvo_store.specs.declared.jobs.jobs.Jobs.{Jobs}
 use Rattle.mvo_store.proofs.Marks.{HeadersStay, known_stays}
 use Rattle.mvo_store.specs.StoreData.{StoreData, opening}
 use Rattle.mvo_store.specs.Standing.{IsUp, HasBody, HaveJobs, ShareNone, JobsHaveRoom, Gives, GivesOr, HasSlots, MayBeLeft, KeepsRows, IsKeeping, KeepsAllRows}
+use Rattle.mvo_store.specs.Placing.{HavePlacesSoFar}
 use Rattle.mvo_store.specs.Writing.{StillGives}
 use Rattle.mvo_store.specs.Safe.{IsSafe, AreSafe, IsStoreSound}
 use Rattle.mvo_types.specs.declared.limits.TheConstants.{MAX_SEGMENTS}
@@ -126,10 +127,9 @@ module _ {D : Type 0} (d : Ghosts D) where
 
     -- Its disk, its places and its jobs are others: the last segment stays, and which files are old, and the jobs stand.
     pub stays_up : (new : D) (places : PlaceTable) (jobs : Jobs) → IsSettled (d.content new) (d.may_leave new) s.manifest up.parts → d.content new s.segment.file ≡ d.content s.disk s.segment.file → HeadersStay (d.content s.disk) (d.content new) s.manifest
-        → HaveJobs (d.content new) (d.may_leave new) s.manifest up.parts jobs → ShareNone jobs → places.at ≡ s.places.at → JobsHaveRoom places jobs → d.fault_count new ≡ d.fault_count s.disk → IsUp d (record s { disk = new; places = places; jobs = jobs }) rows
-    stays_up new places jobs settled last headers stands apart same room count =
+        → HaveJobs (d.content new) (d.may_leave new) s.manifest up.parts jobs → ShareNone jobs → HavePlacesSoFar s.manifest.pairs up.parts.lives jobs places.at → JobsHaveRoom places jobs → d.fault_count new ≡ d.fault_count s.disk → IsUp d (record s { disk = new; places = places; jobs = jobs }) rows
+    stays_up new places jobs settled last headers stands apart are room count =
         let written : s.written ≡ true → HasBody up.parts s.pending s.segment.gate s.segment.next (d.content new s.segment.file) = λ e. subst (λ (c : List ℕ). HasBody up.parts s.pending s.segment.gate s.segment.next c) (sym last) (up.written e) in
-        let are : ArePlaces s.manifest.pairs up.parts.lives places.at = subst (λ (at : PlaceMap). ArePlaces s.manifest.pairs up.parts.lives at) (sym same) up.places in
         let marks = known_stays (d.content s.disk) (d.content new) s.manifest 1024 s.old_marks headers up.marks in
         search arith
 

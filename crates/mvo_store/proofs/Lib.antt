@@ -12,6 +12,7 @@ pub mod Neighbours
 pub mod Numbered
 pub mod Beside
 pub mod Turning
+pub mod Changes
 pub mod Beginning
 pub mod Still
 pub mod Dues
@@ -21,3 +22,7 @@ pub mod Made
 pub mod CameLate
 pub mod Ended
 pub mod Marked
+pub mod Unwritten
+pub mod Slicing
+pub mod SlicedStore
+pub mod PlacedStore

@@ -1,5 +1,5 @@
 -- A call that makes a step of a job, or begins a checkpoint or a merge: what the store is behind it.
-use Rattle.std.proofs.Common.{◌≡◌, ◌≢◌, ℕ, List, ◌≤◌, ◌&&◌, Bool, true, false, Option, Some, None, Result, Ok, Err, length, refl, sym, ap, subst, ◌∙◌}
+use Rattle.std.proofs.Common.{◌≡◌, ◌≢◌, ℕ, List, ◌≤◌, ◌&&◌, Bool, true, false, Option, Some, None, Result, Ok, Err, length, refl, sym, ap, subst, ◌∙◌, arith}
 use Rattle.std.specs.Prelude.{is_some, IfSome}
 use Rattle.std.specs.Bool.{OnTrue, OnFalse}
 use Rattle.mvo_types.specs.Keys.{Map}
@@ -9,7 +9,7 @@ use Rattle.mvo_disk.specs.declared.disk.Disk.{Ghosts}
 use Rattle.mvo_disk.specs.Disk.{Image, AllOf, AllStay, LeavesOnly, IsHonest}
 use Rattle.mvo_pair.specs.declared.pair.Pair.{Pair}
 use Rattle.mvo_manifest.specs.Data.{ManifestData}
-use Rattle.mvo_places.specs.Places.{PlaceMap, PlaceTable}
+use Rattle.mvo_places.specs.Places.{PlaceMap, PlaceTable, ArePlaces}
 use Rattle.mvo_recovery.specs.Parts.{Parts}
 use Rattle.mvo_recovery.specs.Rotation.{rotated}
 use Rattle.mvo_frame.specs.declared.segment.Segment.{Segment}
@@ -36,6 +36,8 @@ use Rattle.mvo_store.specs.Writing.{JobStandsFor, IsJobStep, IsDueStep}
 use Rattle.mvo_store.specs.Calls.{StoreStep, IsReadToCheckpoint, IsReadToMerge, IsStoreStep}
 use Rattle.mvo_store.specs.Calls.StoreStep.{Call}
 use Rattle.mvo_store.specs.declared.call.StoreCall.TheVariants.{CheckpointRead, MergeRead, Step}
+use Rattle.mvo_store.specs.Placing.{places_so_far}
+use Rattle.mvo_store.proofs.Changes.{same_changes, as_they_are, merge_changes, checkpoint_changes, free_places}
 use Rattle.mvo_store.proofs.Keeping.{OnlyNow, CountsNow, Begins, begins, may_open, none_keeps_checkpoint, none_keeps_merge, stays_safe, fault_step, done_step}
 use Rattle.mvo_store.proofs.Beside.{IsDueIn, due_in_jobs}
 use Rattle.mvo_store.proofs.Beside.IsDueIn.{TheRotation, TheMerge, TheCheckpoint, OfMerge}
@@ -123,7 +125,7 @@ module _ {D : Type 0} {d : Ghosts D} {s : StoreData D} {step : Due} (plain : IsP
 -- what the manifest of a job is made of
 next_by : (content : Image) (may : ℕ → List ℕ → Type 0) (m : ManifestData) (x : Parts) {jobs : Jobs} {j : Job} → (replaces : Bool) → ((fresh : Segment) (next : ManifestData) → (has : IsRotating content may m x fresh next) → has.replaces ≡ replaces) → IsDueIn (Install Open) jobs j → IsSafeWork m j → HasWork content may m x j → IsNextBy replaces m j (manifest_after j m)
 next_by content may m x replaces same (TheRotation fresh i at) safe has = has.next_is ∙ ap (λ r. rotated r m fresh.file) (same fresh i.next has)
-next_by content may m x replaces same (TheMerge seen i at) safe has =
+next_by content may m x replaces same (TheMerge seen placed i at) safe has =
     let merge = has.merge in
     (length has.late, has.next_is ∙ sym (merged_there content m (seen_with seen merge.live_left merge.live_right) merge.seen (pair_with seen has.late)))
 next_by content may m x replaces same (TheCheckpoint c g at) safe has = safe.next_is
@@ -140,7 +142,7 @@ module _ {D : Type 0} {d : Ghosts D} {s : StoreData D} (b : IsDueAt d s (Call (S
   keys_here rows up = subst HaveKeysOf (sym next_is) (have_keys d s rows up (due_here b))
 
   module _ (new : D) where
-    module _ (made : IsDueStep d s.disk new s.manifest (job_due (Install Open) s.jobs) (Ok tt)) (places : PlaceTable) (took : HaveKeysOf (next_installed s.jobs) → places.at ≡ places_by (next_installed s.jobs) s.places.at) (left : List Bool) (un : AreUnmarked (filled_by (next_installed s.jobs)) s.old_marks left) where
+    module _ (made : IsDueStep d s.disk new s.manifest (job_due (Install Open) s.jobs) (Ok tt)) (places : PlaceTable) (took : HaveKeysOf (next_installed s.jobs) → (at : PlaceMap) → s.places.at ≡ places_so_far (next_installed s.jobs) at → places.at ≡ places_by (next_installed s.jobs) at) (left : List Bool) (un : AreUnmarked (filled_by (next_installed s.jobs)) s.old_marks left) where
       abbrev i : IsJobStep d s.disk new s.manifest b.job (Ok tt)
       i = written_here b new (Ok tt) made
 
@@ -160,8 +162,8 @@ module _ {D : Type 0} {d : Ghosts D} {s : StoreData D} (b : IsDueAt d s (Call (S
       free : (s.written && has_rotation s.jobs) ≡ false
       free = (may_open s b.begins.none).1
 
-      moved_so : (rows : Map) → IsUp d s rows → places.at ≡ places_after b.job s.places.at
-      moved_so rows up = subst (λ (o : Option Job). places.at ≡ places_by o s.places.at) next_is (took (keys_here rows up))
+      moved_so : (rows : Map) (up : IsUp d s rows) → places.at ≡ places_after b.job up.places.at
+      moved_so rows up = subst (λ (o : Option Job). places.at ≡ places_by o up.places.at) next_is (took (keys_here rows up) up.places.at up.places.so_far)
 
       un_here : AreUnmarked (job_takes_file b.job) s.old_marks left
       un_here = subst (λ (o : Option Job). AreUnmarked (filled_by o) s.old_marks left) next_is un
@@ -202,6 +204,10 @@ module _ {D : Type 0} {d : Ghosts D} {s : StoreData D} (b : IsDueAt d s (Call (S
 module _ {D : Type 0} {d : Ghosts D} {s : StoreData D} (b : Begins d s (Call CheckpointRead)) (new : D) (rest : AllStay (d.content s.disk) (d.content new) (d.may_leave s.disk) (d.may_leave new)) (any_moment : LeavesOnly d.moment d.left_since s.disk new (AllOf (d.may_leave s.disk))) (count : d.fault_count new ≡ d.fault_count s.disk)
     (taken : Option Pair) (taken_is : taken ≡ merge_pair s.jobs) (c : Checkpointing) (safe : IsSafeCheckpoint s.manifest c) (to : IsNewCheckpoint (IsHonest (d.moment new)) (d.content s.disk) s.manifest (files_taken taken) c) (stands : IsHonest (d.moment new) → IsReadCheckpoint (d.content s.disk) (d.may_leave s.disk) s.manifest s.places.at c)
     (places : PlaceTable) (same : places.at ≡ s.places.at) (room : length c.made.records ≤ places.room) where
+  -- nothing of it is changed yet
+  unplaced : c.placed ≡ 0
+  unplaced = to.plan.unplaced
+
   -- the merge that runs, if one does
   merge_here : (g : Option Merging) × (s.jobs ≡ Beside None g)
   merge_here = begins_beside_merge s.jobs (none_keeps_checkpoint s b.none)
@@ -225,14 +231,17 @@ module _ {D : Type 0} {d : Ghosts D} {s : StoreData D} (b : Begins d s (Call Che
   apart = checkpoint_shares_none s.manifest c g to_here.plan.data_file to_here.plan.delta_file
 
   have_room : JobsHaveRoom places now_run
-  have_room = with_checkpoint_all (JobHasRoom places) c g room (merge_room places g)
+  have_room = with_checkpoint_all (JobHasRoom places) c g (omega (arith, room)) (merge_room places g)
 
   are_safe : AreSafe s.manifest now_run
   are_safe = with_checkpoint_all (IsSafeWork s.manifest) c g safe (subst (AreSafe s.manifest) merge_here.1 b.sound.safe.jobs)
 
+  are_free : (rows : Map) (up : IsUp d s rows) → ArePlaces s.manifest.pairs up.parts.lives s.places.at
+  are_free rows up = free_places s.manifest.pairs up.parts.lives s.jobs s.places.at (none_keeps_checkpoint s b.none) up.places
+
   read_up : IsHonest (d.moment new) → (rows : Map) → IsUp d s rows → IsUp d (read now_run) rows
-  read_up honest rows up = looked_up b new rest rows up places now_run same have_room
-      (with_checkpoint_all (IsRunning (d.content s.disk) (d.may_leave s.disk) s.manifest up.parts) c g (stands honest up.parts up.settled up.places) (subst (HaveJobs (d.content s.disk) (d.may_leave s.disk) s.manifest up.parts) merge_here.1 up.jobs)) apart count
+  read_up honest rows up = looked_up b new rest rows up places now_run (as_they_are s.manifest.pairs up.parts.lives now_run places.at (λ at. checkpoint_changes c g at unplaced) (subst (λ (at : PlaceMap). ArePlaces s.manifest.pairs up.parts.lives at) (sym same) (are_free rows up))) have_room
+      (with_checkpoint_all (IsRunning (d.content s.disk) (d.may_leave s.disk) s.manifest up.parts) c g (stands honest up.parts up.settled (are_free rows up)) (subst (HaveJobs (d.content s.disk) (d.may_leave s.disk) s.manifest up.parts) merge_here.1 up.jobs)) apart count
 
   -- THE STORE IS SOUND WITH THE CHECKPOINT.
   pub checkpoint_sound : IsStoreSound d (read (with_checkpoint c s.jobs))
@@ -283,8 +292,8 @@ module _ {D : Type 0} {d : Ghosts D} {s : StoreData D} {place : ℕ} (b : Begins
   both_safe = with_merge_all (IsSafeWork s.manifest) c g safe (subst (AreSafe s.manifest) checkpoint_here.1 b.sound.safe.jobs)
 
   merge_up : IsHonest (d.moment new) → (rows : Map) → IsUp d s rows → IsUp d (merging both_run) rows
-  merge_up honest rows up = looked_up b new rest rows up s.places both_run refl (both_room (subst (JobsHaveRoom s.places) checkpoint_here.1 up.room_for))
-      (with_merge_all (IsRunning (d.content s.disk) (d.may_leave s.disk) s.manifest up.parts) c g (stands honest up.parts s.places.at up.settled up.places) (subst (HaveJobs (d.content s.disk) (d.may_leave s.disk) s.manifest up.parts) checkpoint_here.1 up.jobs)) both_apart count
+  merge_up honest rows up = looked_up b new rest rows up s.places both_run (same_changes s.manifest.pairs up.parts.lives s.jobs both_run s.places.at (λ at. merge_changes c (Some g) None at ∙ ap (λ (k : Jobs). places_so_far (next_installed k) at) (sym checkpoint_here.1)) up.places) (both_room (subst (JobsHaveRoom s.places) checkpoint_here.1 up.room_for))
+      (with_merge_all (IsRunning (d.content s.disk) (d.may_leave s.disk) s.manifest up.parts) c g (stands honest up.parts up.places.at up.settled up.places.are) (subst (HaveJobs (d.content s.disk) (d.may_leave s.disk) s.manifest up.parts) checkpoint_here.1 up.jobs)) both_apart count
 
   -- THE STORE IS SOUND WITH THE MERGE.
   pub merge_sound : IsStoreSound d (merging (with_merge g s.jobs))

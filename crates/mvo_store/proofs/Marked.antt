@@ -1,5 +1,5 @@
 -- What an image gives: its mark is a timestamp of the clock, and what opening a disk answers is fixed by it. A disk that is synced, a store over what is found on it, and a new one.
-use Rattle.std.proofs.Common.{◌≡◌, ℕ, ◌+◌, ◌≤◌, rules, ⊎_elim, length, List, [], ◌∷◌, Ok, sym, subst, arith, inl, inr, Err, ap, ◌∙◌, ◌<◌, false, None, zero, suc, Bool, ◌++◌}
+use Rattle.std.proofs.Common.{◌≡◌, ℕ, ◌+◌, ◌≤◌, rules, ⊎_elim, length, List, [], ◌∷◌, Ok, sym, subst, arith, inl, inr, Err, ap, ◌∙◌, ◌<◌, false, None, zero, suc, Bool, ◌++◌, refl}
 use Rattle.mvo_types.specs.declared.limits.TheConstants.{MAX_STAMP, MAX_SEGMENT_LEN}
 use Rattle.mvo_types.specs.Keys.{Map}
 use Rattle.mvo_group.specs.Data.{GroupData}
@@ -13,6 +13,7 @@ use Rattle.mvo_recovery.proofs.Later.{last_known}
 use Rattle.mvo_recovery.specs.image.Opens.{OpeningOutcome}
 use Rattle.mvo_recovery.specs.image.Gives.{HaveGroups}
 use Rattle.mvo_recovery.specs.image.Files.{SegmentSays}
+use Rattle.mvo_store.specs.Placing.{HavePlacesSoFar}
 use Rattle.mvo_store.specs.Standing.{Gives, IsUp, HasSlots, MayBeLeft, KeepsRows}
 use Rattle.mvo_types.specs.declared.refusal.Refusal.{Refusal}
 use Rattle.mvo_types.specs.declared.refusal.Refusal.TheVariants.{ClockSpent, AlreadyFormatted}
@@ -148,7 +149,7 @@ module _ {D : Type 0} (d : Ghosts D) (old new : D) (m : ManifestData) (rows : Ma
   opened_up =
       let log = loaded.log.last in
       let rows_are = loaded.log.rows_are ∙ ap (after_groups (rows_of loaded.lives)) log.all in
-      let are = have.are loaded.lives loaded.live in
+      let are : HavePlacesSoFar m.pairs loaded.lives no_jobs places.at = record { at = places.at; are = have.are loaded.lives loaded.live; so_far = refl } in
       let known = known_stays (d.content old) (d.content new) m 1024 marks (λ n _. ap is_old (synced.content n)) knows in
       search (rules, arith, settled_opened, known, log.mark_is, log.stands, log.few, synced.count)
 

@@ -61,16 +61,16 @@ module _ (old new : Image) (may : ℕ → List ℕ → Type 0) (m : ManifestData
       unnamed of = (new_of_pair m c.pair (checkpoint_new m (made_of c.pair c.made has.into.segment) has.into.may_checkpoint) file of).unnamed inside
 
       at : (stage : CheckpointStage) → IsFileAt m c stage file → is_old (new file) ≡ is_old (old file)
-      at AtData e = absurd (unnamed (inl e))
+      at (AtData written) e = absurd (unnamed (inl e))
       at (AtDelta zero) e = absurd (unnamed (inr e))
       at (AtDelta (suc k)) gains = subst (λ n. is_old (new n) ≡ is_old (old n)) (sym gains.file) (delta_stays gains.pair gains.among)
       at (AtInstall step) e = absurd (no_slot file e inside)
   due_stays (Merge g) has file due inside = absurd ((new_of_pair m g.seen.pair (merge_new m _ g.seen.pair _ _ has.merge.may_merge) file (of g.stage due)).unnamed inside)
     where
       of : (stage : MergeStage) → IsMergeFileAt g.seen.pair stage file → IsOfPair g.seen.pair file
-      of MergeAtData e = inl e
+      of (MergeAtData written) e = inl e
       of MergeAtDelta e = inr e
-  due_stays (MergeInstall g i) has file due inside = absurd (no_slot file due inside)
+  due_stays (MergeInstall g placed i) has file due inside = absurd (no_slot file due inside)
 
   -- A STEP OF A JOB LEAVES WHICH FILES ARE OLD.
   pub step_stays : (j : Job) → HasWork old may m x j → (file : ℕ) → IsFileDue m j file → ((n : ℕ) → n ≢ file → new n ≡ old n) → HeadersStay old new m
@@ -98,15 +98,15 @@ module _ (content : Image) (may : ℕ → List ℕ → Type 0) (m : ManifestData
     | inl was ↦ inl (was, ne_eqb fresh.file n (λ e. has.may_rotate.unnamed (subst (Contains (named m)) (sym e) was)))
     | inr here ↦ inr (eq-eqb fresh.file n here, ap (λ k. is_old (content k)) (sym here) ∙ old_segment LAST_FORMAT.version 0 [] (content fresh.file) (omega arith) (has.is_fresh.frames 0))
   ]
-  next_names (OfCheckpoint pair made next step) has n inside =
+  next_names (OfCheckpoint pair made next step placed) has n inside =
       let c = made_of pair made has.into.segment in
-      let job = Checkpoint (record { pair = pair; made = made; next = next; stage = AtInstall step }) in
+      let job = Checkpoint (record { pair = pair; made = made; next = next; stage = AtInstall step; placed = placed }) in
       checkpoint_names m c n has.into.log.first (subst (λ (k : ManifestData). Contains (named k) n) has.into.next_is inside) (WasOrTaken job)
       (λ was. inl (was, untaken m pair (checkpoint_new m c has.into.may_checkpoint) n was))
       (inr (of_pair pair pair.data_file (inl refl), old_data LAST_FORMAT pair.lo.0 pair.hi.0 _ _ (content pair.data_file) (omega arith) has.written.entries.has))
       (inr (of_pair pair pair.delta_file (inr refl), old_delta LAST_FORMAT.version pair.records 0 [] (content pair.delta_file) (omega arith) has.written.delta.has))
-  next_names (OfMerge g i) has n inside =
-      merge_names m (pairs_now has.merge.seen (pair_with g has.late)) has.merge.seen.pairs n (subst (λ (k : ManifestData). Contains (named k) n) has.next_is inside) (WasOrTaken (MergeInstall g i))
+  next_names (OfMerge g placed i) has n inside =
+      merge_names m (pairs_now has.merge.seen (pair_with g has.late)) has.merge.seen.pairs n (subst (λ (k : ManifestData). Contains (named k) n) has.next_is inside) (WasOrTaken (MergeInstall g placed i))
       (λ was. inl (was, untaken m g.pair (merge_new m _ g.pair _ _ has.merge.may_merge) n was))
       (inr (of_pair g.pair g.pair.data_file (inl refl), old_data LAST_FORMAT g.pair.lo.0 g.pair.hi.0 _ _ (content g.pair.data_file) (omega arith) has.entries.has))
       (inr (of_pair g.pair g.pair.delta_file (inr refl), old_delta LAST_FORMAT.version g.pair.records _ has.late (content g.pair.delta_file) (omega arith) has.has.has))

@@ -93,6 +93,7 @@ merge_safe_after m c g apart first second =
     let generation : c.next.generation ≡ m.generation + 1 = ap (λ (k : ManifestData). k.generation) first.next_is in
     record {
       pair = second.pair;
+      among = second.among;
       still = still_after m c g first.next_is second.still;
       may_become = record {
         generation = omega (arith, generation, first.generation);

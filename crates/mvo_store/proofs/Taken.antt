@@ -1,5 +1,5 @@
 -- Which calls keep a store's mark and the group that it took.
-use Rattle.std.proofs.Common.{rules, arith, refl, ◌≡◌, ◌≢◌, ◌⊎◌, inl, inr, ⊎_elim, ap, Option, None, Result, Ok, Err, subst}
+use Rattle.std.proofs.Common.{rules, arith, refl, ◌≡◌, ◌≢◌, ◌⊎◌, inl, inr, ⊎_elim, ap, Result, Ok, Err, subst}
 use Rattle.std.specs.Prelude.{⊤}
 use Rattle.mvo_types.specs.declared.refusal.Refusal.{Refusal}
 use Rattle.mvo_types.specs.declared.refusal.Refusal.TheVariants.{DiskFault, OutOfMemory, Corrupt, BadVersion}
@@ -9,9 +9,7 @@ use Rattle.mvo_disk.specs.Disk.{IsHonest}
 use Rattle.mvo_load.specs.Read.{IsMisread}
 use Rattle.mvo_store.specs.StoreData.{StoreData}
 use Rattle.mvo_store.specs.Standing.{KeepsRows, KeepsAllRows}
-use Rattle.mvo_store.specs.Calls.{StoreStep, Makes, IsFault, LeftByMemory, LeftByRefusal, ComesTo, IsStoreStep, IsRefused, why_not_store, without_group, rows_behind}
-use Rattle.mvo_store.specs.Causes.{why_not_take}
-use Rattle.mvo_group.specs.Data.{GroupData}
+use Rattle.mvo_store.specs.Calls.{StoreStep, Makes, IsFault, LeftByMemory, LeftByRefusal, ComesTo, IsStoreStep, IsRefused, why_not_store, rows_behind}
 use Rattle.mvo_store.specs.Calls.StoreStep.{Take, Call}
 use Rattle.mvo_store.specs.declared.call.StoreCall.TheVariants.{AppendOpen, CheckpointRead, Step}
 use Rattle.mvo_store.specs.declared.jobs.due.Due.TheVariants.{MergeDelta, Install}

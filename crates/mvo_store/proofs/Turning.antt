@@ -1,17 +1,16 @@
 -- What holds of each job that runs, where one of them makes a step.
-use Rattle.std.proofs.Common.{◌≡◌, Bool, true, false, cond, [], ◌∷◌, Option, Some, None, refl, sym, ap, subst, ◌∙◌}
+use Rattle.std.proofs.Common.{◌≡◌, Bool, true, false, cond, Option, Some, None, refl, sym, ap, subst}
 use Rattle.std.specs.Prelude.{is_some}
 use Rattle.std.specs.List.{AllByRecursion}
 use Rattle.mvo_store.specs.declared.jobs.due.Due.{Due}
-use Rattle.mvo_store.specs.declared.jobs.due.Due.TheVariants.{MergeDelta, Install}
-use Rattle.mvo_store.specs.declared.install.install_step.InstallStep.{InstallStep}
+use Rattle.mvo_store.specs.declared.jobs.due.Due.TheVariants.{MergeDelta}
 use Rattle.mvo_store.specs.declared.checkpoint.stage.CheckpointStage.{CheckpointStage}
 use Rattle.mvo_store.specs.declared.checkpoint.stage.CheckpointStage.TheVariants.{Data as AtData, Delta as AtDelta, Install as AtInstall}
 use Rattle.mvo_store.specs.declared.checkpoint.checkpointing.Checkpointing.{Checkpointing}
 use Rattle.mvo_store.specs.declared.merge.merging.Merging.{Merging}
 use Rattle.mvo_store.specs.declared.jobs.jobs.Jobs.{Jobs}
 use Rattle.mvo_store.specs.declared.jobs.jobs.Jobs.TheVariants.{Rotation as RotationAlone, Merge as MergeAlone, Beside}
-use Rattle.mvo_store.specs.Jobs.{is_step_of, first_due, Job, no_jobs, jobs_of, keeps_all_out, keeps_checkpoint_out, keeps_merge_out, has_checkpoint, due_of, merge_due_of, step_due, job_due, is_step_due, is_of_merge, with_step, after_step, checkpoint_by, merge_by, checkpoint_behind, with_data_file, after_install}
+use Rattle.mvo_store.specs.Jobs.{Job, no_jobs, jobs_of, keeps_all_out, keeps_checkpoint_out, keeps_merge_out, has_checkpoint, due_of, merge_due_of, step_due, job_due, is_step_due, is_of_merge, with_step, after_step, checkpoint_by, merge_by, checkpoint_behind, with_data_file, after_install}
 use Rattle.mvo_store.specs.Jobs.Job.{Checkpoint, Merge}
 use Rattle.mvo_store.specs.Standing.{ShareNone}
 use Rattle.mvo_store.proofs.Beside.{IsDueIn, due_in_jobs, checkpoint_step, merge_step}
@@ -28,7 +27,7 @@ some_due step jobs is = go (job_due step jobs) refl is
 -- its step is that
 pub step_is : {step : Due} {jobs : Jobs} {j : Job} → IsDueIn step jobs j → step_due j ≡ step
 step_is (TheRotation fresh i at) = at
-step_is (TheMerge seen i at) = at
+step_is (TheMerge seen placed i at) = at
 step_is (TheCheckpoint c g at) = at
 step_is (OfMerge c g at) = at
 
@@ -42,7 +41,7 @@ with_merge_step step c g is = ap (λ (b : Bool). cond b (Beside c (Some (with_da
 -- what holds of each holds of that one
 pub of_due : (P : Job → Type 0) {step : Due} {jobs : Jobs} {j : Job} → IsDueIn step jobs j → AllByRecursion P (jobs_of jobs) → P j
 of_due P (TheRotation fresh i at) all = all.0
-of_due P (TheMerge seen i at) all = all.0
+of_due P (TheMerge seen placed i at) all = all.0
 of_due P (TheCheckpoint c g at) all = all.0
 of_due P (OfMerge None g at) all = all.0
 of_due P (OfMerge (Some c) g at) all = all.1.0
@@ -53,7 +52,7 @@ pub all_stepped : (P Q : Job → Type 0) {step : Due} {jobs : Jobs} {j : Job} �
     → ((c : Checkpointing) (g : Merging) → jobs ≡ Beside (Some c) (Some g) → j ≡ Merge g → P (Checkpoint c) → Q (Checkpoint c))
     → AllByRecursion Q (jobs_of (with_step step jobs))
 all_stepped P Q (TheRotation fresh i at) all now of_merge of_checkpoint = (now, tt)
-all_stepped P Q (TheMerge seen i at) all now of_merge of_checkpoint = (now, tt)
+all_stepped P Q (TheMerge seen placed i at) all now of_merge of_checkpoint = (now, tt)
 all_stepped P Q {step} (TheCheckpoint c None at) all now of_merge of_checkpoint = subst (λ (k : Jobs). AllByRecursion Q (jobs_of k)) (sym (with_checkpoint_step step c None (checkpoint_step c.stage step at))) (now, tt)
 all_stepped P Q {step} (TheCheckpoint c (Some g) at) all now of_merge of_checkpoint = subst (λ (k : Jobs). AllByRecursion Q (jobs_of k)) (sym (with_checkpoint_step step c (Some g) (checkpoint_step c.stage step at))) (now, (of_merge c g refl refl all.1.0, tt))
 all_stepped P Q {step} (OfMerge None g at) all now of_merge of_checkpoint = subst (λ (k : Jobs). AllByRecursion Q (jobs_of k)) (sym (with_merge_step step None g (merge_step g.stage step at))) (now, tt)
@@ -62,7 +61,7 @@ all_stepped P Q {step} (OfMerge (Some c) g at) all now of_merge of_checkpoint = 
 -- no step takes a file
 pub share_stepped : {step : Due} {jobs : Jobs} {j : Job} → IsDueIn step jobs j → ShareNone jobs → ShareNone (with_step step jobs)
 share_stepped (TheRotation fresh i at) apart = tt
-share_stepped (TheMerge seen i at) apart = tt
+share_stepped (TheMerge seen placed i at) apart = tt
 share_stepped {step} (TheCheckpoint c None at) apart = subst ShareNone (sym (with_checkpoint_step step c None (checkpoint_step c.stage step at))) tt
 share_stepped {step} (TheCheckpoint c (Some g) at) apart = subst ShareNone (sym (with_checkpoint_step step c (Some g) (checkpoint_step c.stage step at))) apart
 share_stepped {step} (OfMerge None g at) apart = subst ShareNone (sym (with_merge_step step None g (merge_step g.stage step at))) tt
@@ -71,7 +70,7 @@ share_stepped {step} (OfMerge (Some c) g at) apart = subst ShareNone (sym (with_
 -- what is behind an install shares none
 pub share_installed : (jobs : Jobs) → ShareNone (after_install jobs)
 share_installed (RotationAlone fresh i) = tt
-share_installed (MergeAlone seen i) = tt
+share_installed (MergeAlone seen placed i) = tt
 share_installed (Beside c None) = tt
 share_installed (Beside c (Some g)) = tt
 
@@ -80,7 +79,7 @@ share_installed (Beside c (Some g)) = tt
 -- a rotation
 pub begins_alone : (jobs : Jobs) → keeps_all_out jobs ≡ false → jobs ≡ no_jobs
 begins_alone (RotationAlone fresh i) e = absurd (cc e)
-begins_alone (MergeAlone seen i) e = absurd (cc e)
+begins_alone (MergeAlone seen placed i) e = absurd (cc e)
 begins_alone (Beside None None) e = refl
 begins_alone (Beside None (Some g)) e = absurd (cc e)
 begins_alone (Beside (Some c) g) e = absurd (cc e)
@@ -88,14 +87,14 @@ begins_alone (Beside (Some c) g) e = absurd (cc e)
 -- a checkpoint
 pub begins_beside_merge : (jobs : Jobs) → keeps_checkpoint_out jobs ≡ false → (g : Option Merging) × (jobs ≡ Beside None g)
 begins_beside_merge (RotationAlone fresh i) e = absurd (cc e)
-begins_beside_merge (MergeAlone seen i) e = absurd (cc e)
+begins_beside_merge (MergeAlone seen placed i) e = absurd (cc e)
 begins_beside_merge (Beside None g) e = (g, refl)
 begins_beside_merge (Beside (Some c) g) e = absurd (cc e)
 
 -- a merge
 pub begins_beside_checkpoint : (jobs : Jobs) → keeps_merge_out jobs ≡ false → (c : Option Checkpointing) × (jobs ≡ Beside c None)
 begins_beside_checkpoint (RotationAlone fresh i) e = absurd (cc e)
-begins_beside_checkpoint (MergeAlone seen i) e = absurd (cc e)
+begins_beside_checkpoint (MergeAlone seen placed i) e = absurd (cc e)
 begins_beside_checkpoint (Beside c None) e = (c, refl)
 begins_beside_checkpoint (Beside c (Some g)) e = absurd (cc e)
 
@@ -104,13 +103,13 @@ pub ends_alone : (jobs : Jobs) → is_step_due MergeDelta jobs ≡ true → has_
 ends_alone jobs due none = let j = some_due MergeDelta jobs due in go (due_in_jobs MergeDelta jobs j.0 j.1) none
   where
     no_step : {A : Type 0} (stage : CheckpointStage) → due_of stage ≡ MergeDelta → A
-    no_step AtData e = absurd (cc e)
+    no_step (AtData written) e = absurd (cc e)
     no_step (AtDelta written) e = absurd (cc e)
     no_step (AtInstall step) e = absurd (cc e)
 
     go : {jobs : Jobs} {j : Job} → IsDueIn MergeDelta jobs j → has_checkpoint jobs ≡ false → (g : Merging) × (jobs ≡ Beside None (Some g)) × (merge_due_of g.stage ≡ MergeDelta)
     go (TheRotation fresh i at) e = absurd (cc at)
-    go (TheMerge seen i at) e = absurd (cc at)
+    go (TheMerge seen placed i at) e = absurd (cc at)
     go (TheCheckpoint c g at) e = no_step c.stage at
     go (OfMerge None g at) e = (g, refl, at)
     go (OfMerge (Some c) g at) e = absurd (cc e)

@@ -30,18 +30,23 @@ use Rattle.mvo_store.specs.Standing.{IsKeeping, after_taken}
 use Rattle.mvo_store.specs.Causes.{why_not_take, why_not_append_body, why_not_append_open}
 use Rattle.mvo_store.specs.Causes.{replaces_last, why_not_rotate, why_not_checkpoint, why_not_merge}
 use Rattle.mvo_store.specs.Causes.{why_not_due, why_not_merge_delta, why_not_install_open}
-use Rattle.mvo_store.specs.Causes.{why_not_reclaim}
-use Rattle.mvo_store.specs.Jobs.{Job, no_jobs, job_due, with_step, with_manifest, progress_of}
-use Rattle.mvo_store.specs.Steps.{IsRotationOf, IsCheckpointOf, IsMergeOf, HasInstalledNext}
+use Rattle.mvo_store.specs.Causes.{why_not_place, why_not_reclaim}
+use Rattle.mvo_store.specs.Jobs.{Job, no_jobs, job_due, is_step_due, with_step, sliced, slices_left, with_manifest, progress_of}
+use Rattle.mvo_store.specs.Steps.{IsRotationOf, IsCheckpointOf, IsMergeOf, HasInstalledNext, HasPlaced}
+use Rattle.mvo_store.specs.Placing.{are_places_left}
 use Rattle.mvo_store.specs.Files.{IsLeastFree}
 use Rattle.mvo_store.specs.Merging.{merged_at, pair_with}
 use Rattle.mvo_store.specs.Writing.{IsFileDue, AreLateEntries}
 use Rattle.mvo_store.specs.Reclaiming.{IsUnused, IsLeastDead, HasReclaimed}
 
--- what is asked of a store: to take a group, or a call
+-- what is asked of a store: to take a group, a call, or a slice of one
 pub data StoreStep : Type 0 where
   Take : GroupData → StoreStep
   Call : StoreCall → StoreStep
+  -- to write the next slice of the data file of the job whose step this is
+  Slice : Due → StoreStep
+  -- to make the next slice of the changes that a job makes of the places
+  Place : StoreStep
 
 -- ---- when it is refused
 
@@ -57,12 +62,15 @@ why_not_store s (Call (Step MergeDelta)) = why_not_merge_delta s
 why_not_store s (Call (Step (Install Open))) = why_not_install_open s
 why_not_store s (Call (Step step)) = why_not_due step s
 why_not_store s (Call Reclaim) = why_not_reclaim s
+why_not_store s (Slice step) = why_not_due step s
+why_not_store s Place = why_not_place s
 
 -- What may refuse it where no cause stands: want of memory and a fault of the disk. Opening or
--- closing a gate and emptying a file take no memory, and taking a group asks for neither. What is
--- read may break a rule.
+-- closing a gate and emptying a file take no memory, and taking a group and putting places ask for
+-- neither. What is read may break a rule.
 abbrev pub MayMeet : StoreStep → Refusal → Type 0
 MayMeet (Take g) e = ⊥
+MayMeet Place e = ⊥
 MayMeet (Call AppendOpen) e = e ≡ DiskFault
 MayMeet (Call (Step (Install Close))) e = e ≡ DiskFault
 MayMeet (Call (Step (Install Open))) e = e ≡ DiskFault
@@ -141,6 +149,10 @@ abbrev pub HasStepped : {D : Type 0} → Due → StoreData D → StoreData D →
 HasStepped step old new =
     new ≡ record old { disk = new.disk; jobs = with_step step old.jobs }
 
+-- the job whose step this is has one slice more of its data file, and the other one is as it was
+abbrev pub HasSliced : {D : Type 0} → Due → StoreData D → StoreData D → Type 0
+HasSliced step old new = new ≡ record old { disk = new.disk; jobs = sliced step old.jobs }
+
 -- The merge that ran alone has its last file, which holds the numbers that came late, renumbered.
 -- Its manifest, which is made of the installed one, is to be installed.
 pub record IsMergeEnded {D : Type 0} (d : Ghosts D) (old new : StoreData D) : Type 0 where
@@ -169,6 +181,8 @@ Makes d (Call (Step (Install Open))) old new =
     HasInstalledNext (IsHonest (d.moment new.disk)) old new
 Makes d (Call (Step step)) old new = HasStepped step old new
 Makes d (Call Reclaim) old new = new ≡ record old { disk = new.disk }
+Makes d (Slice step) old new = HasSliced step old new
+Makes d Place old new = HasPlaced (IsHonest (d.moment new.disk)) old new
 
 -- so it does, and no call of the device failed
 pub record IsMade {D : Type 0} (d : Ghosts D) (call : StoreStep) (old new : StoreData D) : Type 0
@@ -185,6 +199,14 @@ AnswersMark new mark = mark ≡ new.mark
 -- whether the delta file that was due is the last
 abbrev pub AnswersProgress : {D : Type 0} → StoreData D → Progress → Type 0
 AnswersProgress old progress = progress ≡ progress_of old.jobs
+
+-- whether more slices of the data file are left: its step is due still
+abbrev pub AnswersSlice : {D : Type 0} → Due → StoreData D → Progress → Type 0
+AnswersSlice step new progress = progress ≡ slices_left (is_step_due step new.jobs)
+
+-- whether more changes of the places are left
+abbrev pub AnswersPlaces : {D : Type 0} → StoreData D → Progress → Type 0
+AnswersPlaces new progress = progress ≡ slices_left (are_places_left new.jobs)
 
 -- the generation of the installed manifest
 abbrev pub AnswersGeneration : {D : Type 0} → StoreData D → ℕ → Type 0
@@ -280,6 +302,7 @@ MayWrite d honest s (Call AppendBody) n = n ≡ s.segment.file
 MayWrite d honest s (Call AppendOpen) n = n ≡ s.segment.file
 MayWrite d honest s (Call RotateWrite) n = IsLeastFree s.manifest [] n
 MayWrite d honest s (Call (Step step)) n = IsFileOf step s n
+MayWrite d honest s (Slice step) n = IsFileOf step s n
 MayWrite d honest s (Call Reclaim) n = IsReclaimable d honest s n
 MayWrite d honest s call n = ⊥
 

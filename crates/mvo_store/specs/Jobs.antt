@@ -1,8 +1,11 @@
 -- The jobs: which step of one comes next, which files they take, and what a step makes of them.
 use Rattle.std.specs.Prelude.{ℕ, ◌+◌, ◌==◌, ◌||◌, nat_lt, Bool, true, false, List, [], ◌∷◌, ◌++◌, length, Option, Some, None, is_some, if◌then◌else◌}
 use Rattle.std.specs.List.{list_any}
+use Rattle.std.specs.Option.{option_map}
 use Rattle.mvo_frame.specs.declared.segment.Segment.{Segment}
 use Rattle.mvo_pair.specs.declared.pair.Pair.{Pair}
+use Rattle.mvo_pair.specs.Data.{EntryData}
+use Rattle.mvo_pair.specs.Slices.{with_slice}
 use Rattle.mvo_manifest.specs.Data.{ManifestData}
 use Rattle.mvo_store.specs.declared.install.install_step.InstallStep.{InstallStep}
 use Rattle.mvo_store.specs.declared.install.install_step.InstallStep.TheVariants.{Close, Body, Open}
@@ -28,7 +31,7 @@ pub data Job : Type 0 where
   Rotation : (fresh : Segment) → InstallData → Job
   Checkpoint : Checkpointing → Job
   Merge : Merging → Job
-  MergeInstall : SeenPairs → InstallData → Job
+  MergeInstall : SeenPairs → (placed : ℕ) → InstallData → Job
 
 abbrev pub no_jobs : Jobs
 no_jobs = Beside None None
@@ -44,7 +47,7 @@ merge_alone (Some g) = Merge g ∷ []
 -- each of them
 abbrev pub jobs_of : Jobs → List Job
 jobs_of (RotationAlone fresh i) = Rotation fresh i ∷ []
-jobs_of (MergeAlone seen i) = MergeInstall seen i ∷ []
+jobs_of (MergeAlone seen placed i) = MergeInstall seen placed i ∷ []
 jobs_of (Beside c g) = checkpoint_alone c ++ merge_alone g
 
 -- ---- which of them keep another out
@@ -88,20 +91,20 @@ step_number (Install Open) = 6
 
 -- of a checkpoint
 abbrev pub due_of : CheckpointStage → Due
-due_of AtData = Data
+due_of (AtData written) = Data
 due_of (AtDelta written) = Delta
 due_of (AtInstall step) = Install step
 
 -- of a merge whose files aren't all written
 abbrev pub merge_due_of : MergeStage → Due
-merge_due_of MergeAtData = MergeData
+merge_due_of (MergeAtData written) = MergeData
 merge_due_of MergeAtDelta = MergeDelta
 
 abbrev pub step_due : Job → Due
 step_due (Rotation fresh i) = Install i.step
 step_due (Checkpoint c) = due_of c.stage
 step_due (Merge g) = merge_due_of g.stage
-step_due (MergeInstall g i) = Install i.step
+step_due (MergeInstall g placed i) = Install i.step
 
 abbrev pub is_step_of : Due → Job → Bool
 is_step_of step j = step_number (step_due j) == step_number step
@@ -131,7 +134,7 @@ is_step_due step jobs = is_some (job_due step jobs)
 
 -- the install of a checkpoint, once its files are written
 abbrev pub install_at : ManifestData → CheckpointStage → Option InstallData
-install_at next AtData = None
+install_at next (AtData written) = None
 install_at next (AtDelta written) = None
 install_at next (AtInstall step) = Some (record { next = next; step = step })
 
@@ -140,12 +143,12 @@ abbrev pub install_of : Job → Option InstallData
 install_of (Rotation fresh i) = Some i
 install_of (Checkpoint c) = install_at c.next c.stage
 install_of (Merge g) = None
-install_of (MergeInstall g i) = Some i
+install_of (MergeInstall g placed i) = Some i
 
 -- The job whose manifest is the next to be installed. A merge that isn't ready has none.
 abbrev pub next_installed : Jobs → Option Job
 next_installed (RotationAlone fresh i) = Some (Rotation fresh i)
-next_installed (MergeAlone seen i) = Some (MergeInstall seen i)
+next_installed (MergeAlone seen placed i) = Some (MergeInstall seen placed i)
 next_installed (Beside None g) = None
 next_installed (Beside (Some c) g) = Some (Checkpoint c)
 
@@ -156,7 +159,8 @@ abbrev pub job_takes_file : Job → ℕ → Bool
 job_takes_file (Rotation fresh i) n = fresh.file == n
 job_takes_file (Checkpoint c) n = c.pair.data_file == n || c.pair.delta_file == n
 job_takes_file (Merge g) n = g.seen.pair.data_file == n || g.seen.pair.delta_file == n
-job_takes_file (MergeInstall g i) n = g.pair.data_file == n || g.pair.delta_file == n
+job_takes_file (MergeInstall g placed i) n =
+    g.pair.data_file == n || g.pair.delta_file == n
 
 -- one of those that run does
 abbrev pub takes_file : Jobs → ℕ → Bool
@@ -197,7 +201,7 @@ stepped i = record i { step = next_step i.step }
 
 -- Of a checkpoint with so many older delta files to write: they come behind the new pair's own.
 abbrev pub stage_behind : ℕ → CheckpointStage → CheckpointStage
-stage_behind older AtData = AtDelta 0
+stage_behind older (AtData written) = AtDelta 0
 stage_behind older (AtDelta written) =
     if nat_lt written older then AtDelta (written + 1) else AtInstall Close
 stage_behind older (AtInstall step) = AtInstall (next_step step)
@@ -214,7 +218,7 @@ abbrev pub after_step : Job → Job
 after_step (Rotation fresh i) = Rotation fresh (stepped i)
 after_step (Checkpoint c) = Checkpoint (checkpoint_behind c)
 after_step (Merge g) = Merge (with_data_file g)
-after_step (MergeInstall g i) = MergeInstall g (stepped i)
+after_step (MergeInstall g placed i) = MergeInstall g placed (stepped i)
 
 abbrev pub checkpoint_by : Option Checkpointing → Option Checkpointing
 checkpoint_by None = None
@@ -234,20 +238,20 @@ is_of_merge step = false
 -- as it was.
 abbrev pub with_step : Due → Jobs → Jobs
 with_step step (RotationAlone fresh i) = RotationAlone fresh (stepped i)
-with_step step (MergeAlone seen i) = MergeAlone seen (stepped i)
+with_step step (MergeAlone seen placed i) = MergeAlone seen placed (stepped i)
 with_step step (Beside c g) =
     if is_of_merge step then Beside c (merge_by g) else Beside (checkpoint_by c) g
 
 -- A merge with its last file written, and with this manifest to be installed, runs alone.
 abbrev pub with_manifest : ManifestData → Jobs → Jobs
 with_manifest next (Beside None (Some g)) =
-    MergeAlone g.seen (record { next = next; step = Close })
+    MergeAlone g.seen 0 (record { next = next; step = Close })
 with_manifest next jobs = jobs
 
 -- Those that run on once the next manifest is installed: a merge that isn't ready.
 abbrev pub after_install : Jobs → Jobs
 after_install (RotationAlone fresh i) = no_jobs
-after_install (MergeAlone seen i) = no_jobs
+after_install (MergeAlone seen placed i) = no_jobs
 after_install (Beside c g) = Beside None g
 
 -- ---- how far a checkpoint is
@@ -255,10 +259,71 @@ after_install (Beside c g) = Beside None g
 -- Of one with so many older delta files to write: Ready with the last, and More with each before
 -- it.
 abbrev pub progress_at : ℕ → CheckpointStage → Progress
-progress_at older AtData = More
+progress_at older (AtData written) = More
 progress_at older (AtDelta written) = if nat_lt written older then More else Ready
 progress_at older (AtInstall step) = More
 
 abbrev pub progress_of : Jobs → Progress
 progress_of (Beside (Some c) g) = progress_at (length c.made.deltas) c.stage
 progress_of jobs = More
+
+-- ---- what a slice of a data file makes of them
+
+-- how many records the data file of a checkpoint holds behind the next slice, and that of a merge
+abbrev pub slice_end_at : List EntryData → CheckpointStage → ℕ
+slice_end_at es (AtData written) = with_slice es written
+slice_end_at es stage = 0
+
+abbrev pub merge_slice_end_at : List EntryData → MergeStage → ℕ
+merge_slice_end_at es (MergeAtData written) = with_slice es written
+merge_slice_end_at es MergeAtDelta = 0
+
+abbrev pub slice_end : Job → ℕ
+slice_end (Checkpoint c) = slice_end_at c.made.records c.stage
+slice_end (Merge g) = merge_slice_end_at g.seen.made.records g.stage
+slice_end j = 0
+
+abbrev pub slice_end_of : Option Job → ℕ
+slice_end_of None = 0
+slice_end_of (Some j) = slice_end j
+
+-- the stage where the data file holds so many of so many records
+abbrev pub stage_upto : ℕ → ℕ → CheckpointStage
+stage_upto upto all = if nat_lt upto all then AtData upto else AtDelta 0
+
+abbrev pub merge_stage_upto : ℕ → ℕ → MergeStage
+merge_stage_upto upto all = if nat_lt upto all then MergeAtData upto else MergeAtDelta
+
+-- the jobs at that stage
+abbrev pub checkpoint_upto : ℕ → Checkpointing → Checkpointing
+checkpoint_upto upto c = record c { stage = stage_upto upto (length c.made.records) }
+
+abbrev pub merge_upto : ℕ → Merging → Merging
+merge_upto upto g = record g { stage = merge_stage_upto upto (length g.seen.made.records) }
+
+abbrev pub job_upto : ℕ → Job → Job
+job_upto upto (Checkpoint c) = Checkpoint (checkpoint_upto upto c)
+job_upto upto (Merge g) = Merge (merge_upto upto g)
+job_upto upto j = j
+
+-- Those that run, where the data file of the one whose step this is holds so many records.
+abbrev pub jobs_upto : ℕ → Due → Jobs → Jobs
+jobs_upto upto step (Beside c g) =
+    if is_of_merge step then Beside c (option_map (merge_upto upto) g)
+    else Beside (option_map (checkpoint_upto upto) c) g
+jobs_upto upto step jobs = jobs
+
+-- so it is behind the next slice
+abbrev pub sliced : Due → Jobs → Jobs
+sliced step jobs = jobs_upto (slice_end_of (job_due step jobs)) step jobs
+
+-- the step writes the data file of a job
+abbrev pub is_of_data : Due → Bool
+is_of_data Data = true
+is_of_data MergeData = true
+is_of_data step = false
+
+-- whether more slices are left where the step is due, or isn't due any more
+abbrev pub slices_left : Bool → Progress
+slices_left true = More
+slices_left false = Ready

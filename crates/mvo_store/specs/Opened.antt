@@ -1,5 +1,5 @@
 -- What opening a store gives, by whomever its pairs are read.
-use Rattle.std.specs.Prelude.{ℕ, ◌≤◌, Result, Ok, IfOk, IfErr}
+use Rattle.std.specs.Prelude.{◌≤◌, Result, Ok, IfOk, IfErr}
 use Rattle.mvo_types.specs.Keys.{Map}
 use Rattle.mvo_types.specs.declared.ids.Stamp.{Stamp}
 use Rattle.mvo_types.specs.declared.limits.TheConstants.{MAX_STAMP}

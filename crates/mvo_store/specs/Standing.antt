@@ -1,5 +1,5 @@
 -- How a store stands over its disk, and what a stop leaves of it.
-use Rattle.std.specs.Prelude.{Bool, ◌≡◌, ◌≢◌, ℕ, ◌<◌, ◌≤◌, ◌+◌, ◌^◌, true, false, List, [], ◌∷◌, length}
+use Rattle.std.specs.Prelude.{Bool, ◌≡◌, ◌≢◌, ℕ, ◌<◌, ◌≤◌, ◌+◌, ◌-◌, ◌^◌, true, false, List, [], ◌∷◌, length}
 use Rattle.std.specs.Prelude.{Option, Some, None}
 use Rattle.std.specs.List.{AllByRecursion}
 use Rattle.mvo_types.specs.Keys.{Map}
@@ -14,7 +14,7 @@ use Rattle.mvo_frame.specs.declared.segment.Segment.{Segment}
 use Rattle.mvo_frame.specs.Standing.{gate_of, IsBodyBehindGate}
 use Rattle.mvo_manifest.specs.Data.{ManifestData}
 use Rattle.mvo_manifest.specs.Slots.{IsShut, IsStaged}
-use Rattle.mvo_places.specs.Places.{PlaceTable, ArePlaces}
+use Rattle.mvo_places.specs.Places.{PlaceTable}
 use Rattle.mvo_merge.specs.Moved.{HaveOwnKeys}
 use Rattle.mvo_recovery.specs.image.Files.{GivesRows}
 use Rattle.mvo_places.specs.Rows.{after_groups}
@@ -33,6 +33,7 @@ use Rattle.mvo_store.specs.Checkpoint.{IsCheckpointing}
 use Rattle.mvo_store.specs.Merging.{IsMerging, IsMergeWritten, IsMergeReady}
 use Rattle.mvo_load.specs.Old.{is_old}
 use Rattle.mvo_store.specs.Old.{KnowsOld}
+use Rattle.mvo_store.specs.Placing.{change_count, HavePlacesSoFar}
 use Rattle.mvo_store.specs.Jobs.{Job, jobs_of, install_of, job_takes_file}
 use Rattle.mvo_store.specs.Jobs.Job.{Rotation, Checkpoint, Merge, MergeInstall}
 use Rattle.mvo_store.specs.StoreData.{StoreData, opening}
@@ -86,7 +87,7 @@ abbrev pub HasWork : Image → (ℕ → List ℕ → Type 0) → ManifestData �
 HasWork content may m x (Rotation fresh i) = IsRotating content may m x fresh i.next
 HasWork content may m x (Checkpoint c) = IsCheckpointing content may m x c
 HasWork content may m x (Merge g) = IsMergingAt content may m g
-HasWork content may m x (MergeInstall g i) = IsMergeReady content may m g i.next
+HasWork content may m x (MergeInstall g placed i) = IsMergeReady content may m g i.next
 
 pub record IsRunning (content : Image) (may : ℕ → List ℕ → Type 0) (m : ManifestData) (x : Parts)
     (j : Job) : Type 0 where
@@ -106,39 +107,42 @@ ShareNone jobs = Unit {0}
 abbrev pub HaveJobs : Image → (ℕ → List ℕ → Type 0) → ManifestData → Parts → Jobs → Type 0
 HaveJobs content may m x jobs = AllByRecursion (IsRunning content may m x) (jobs_of jobs)
 
--- there is room for the places of the records that the job installs
+-- there is room for the places of those records that the job installs and that have none yet
 abbrev pub JobHasRoom : PlaceTable → Job → Type 0
 JobHasRoom places (Rotation fresh i) = Unit {0}
-JobHasRoom places (Checkpoint c) = length c.made.records ≤ places.room
+JobHasRoom places (Checkpoint c) =
+    length c.made.records ≤ places.room + (c.placed - length c.made.gone)
 JobHasRoom places (Merge g) = Unit {0}
-JobHasRoom places (MergeInstall g i) = Unit {0}
+JobHasRoom places (MergeInstall g placed i) = Unit {0}
 
 abbrev pub JobsHaveRoom : PlaceTable → Jobs → Type 0
 JobsHaveRoom places jobs = AllByRecursion (JobHasRoom places) (jobs_of jobs)
 
--- the places of the checkpoint's records can be put there without memory
+-- the places of the checkpoint's records that have none yet can be put there without memory
 pub record FitsRecords (places : PlaceTable) (c : Checkpointing) : Type 0 where
   pub file : c.pair.data_file ≤ MAX_FILE
   pub few : length c.made.records ≤ MAX_PAIR_RECORDS
-  pub room : length c.made.records ≤ places.room
+  pub room : length c.made.records ≤ places.room + (c.placed - length c.made.gone)
+  pub placed : c.placed ≤ change_count c.made
 
 -- the records of the merged pair may have their places in its data file
-pub record MovesRecords (g : SeenPairs) : Type 0 where
+pub record MovesRecords (g : SeenPairs) (placed : ℕ) : Type 0 where
   pub file : g.pair.data_file ≤ MAX_FILE
   pub few : length g.made.records ≤ MAX_PAIR_RECORDS
+  pub within : placed ≤ length g.made.records
 
 -- the records of a merge have each a key of their own
 abbrev pub HaveKeys : Job → Type 0
 HaveKeys (Rotation fresh i) = Unit {0}
 HaveKeys (Checkpoint c) = Unit {0}
 HaveKeys (Merge g) = Unit {0}
-HaveKeys (MergeInstall g i) = HaveOwnKeys g.made.records
+HaveKeys (MergeInstall g placed i) = HaveOwnKeys g.made.records
 
 abbrev pub MayTakeOver : PlaceTable → Job → Type 0
 MayTakeOver places (Rotation fresh i) = Unit {0}
 MayTakeOver places (Checkpoint c) = FitsRecords places c
 MayTakeOver places (Merge g) = Unit {0}
-MayTakeOver places (MergeInstall g i) = MovesRecords g
+MayTakeOver places (MergeInstall g placed i) = MovesRecords g placed
 
 -- the same of the job whose install is under way
 abbrev pub HaveKeysOf : Option Job → Type 0
@@ -152,8 +156,8 @@ MayTakeOverOf places (Some j) = MayTakeOver places j
 -- ---- the store
 
 -- The store is up: its manifest is installed, the files that it names give exactly these rows and
--- the store's mark, and all of that is durable. It knows the places of the live records, and which
--- of these files are old.
+-- the store's mark, and all of that is durable. It knows the places of the live records, with what
+-- its job has changed of them, and which of these files are old.
 pub record IsUp {D : Type 0} (d : Ghosts D) (s : StoreData D) (rows : Map) : Type 0 where
   pub up : s.down ≡ false
   pub parts : Parts
@@ -170,7 +174,7 @@ pub record IsUp {D : Type 0} (d : Ghosts D) (s : StoreData D) (rows : Map) : Typ
       (d.content s.disk s.segment.file)
   pub jobs : HaveJobs (d.content s.disk) (d.may_leave s.disk) s.manifest parts s.jobs
   pub apart : ShareNone s.jobs
-  pub places : ArePlaces s.manifest.pairs parts.lives s.places.at
+  pub places : HavePlacesSoFar s.manifest.pairs parts.lives s.jobs s.places.at
   pub room_for : JobsHaveRoom s.places s.jobs
   pub room : d.fault_count s.disk + 1 < 2 ^ 64
 

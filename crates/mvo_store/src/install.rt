@@ -3,4 +3,5 @@
 pub mod generation;
 pub mod install;
 pub mod install_step;
+pub mod placing;
 pub mod steps;

@@ -5,6 +5,7 @@ pub mod due;
 pub mod jobs;
 pub mod progress;
 pub mod run_due;
+pub mod slices;
 pub mod step_files;
 pub mod store_caller;
 pub mod whole;

@@ -32,11 +32,14 @@ mod numbers;
 #[cfg(test)]
 mod old;
 #[cfg(test)]
+mod places;
 mod refused;
 #[cfg(test)]
 mod reply;
 #[cfg(test)]
 mod runs;
+#[cfg(test)]
+mod slices;
 #[cfg(test)]
 mod step;
 #[cfg(test)]

@@ -25,10 +25,16 @@ pub(crate) enum Step {
     RotateWrite,
     CheckpointRead,
     CheckpointData,
+    /// The next slice of its data file.
+    CheckpointSlice,
     CheckpointDelta,
     MergeRead(usize),
     MergeData,
+    /// The next slice of its data file.
+    MergeSlice,
     MergeDelta,
+    /// The next slice of the places that a job puts.
+    PlaceSlice,
     InstallClose,
     InstallBody,
     InstallOpen,
@@ -150,9 +156,12 @@ impl Step {
     fn of_job(self, store: &mut Store<MemDisk>) -> Reply {
         match self {
             Step::CheckpointData => done(store.checkpoint_data()),
+            Step::CheckpointSlice => written(store.checkpoint_slice()),
             Step::CheckpointDelta => written(store.checkpoint_delta()),
             Step::MergeData => done(store.merge_data()),
+            Step::MergeSlice => written(store.merge_slice()),
             Step::MergeDelta => done(store.merge_delta()),
+            Step::PlaceSlice => written(store.place_slice()),
             Step::InstallClose => done(store.install_close()),
             Step::InstallBody => done(store.install_body()),
             _ => installed(store.install_open()),

@@ -51,6 +51,18 @@ impl Versions {
         shown_on(self.indexed.chains(), walk, table, at, reader)
     }
 
+    /// The version of a key that a reader with this id is shown as of the begin, where the versions
+    /// stand in order for both. With the id of nobody it is what the others show then. It walks
+    /// over all that is newer.
+    pub fn shown_as<P>(&self, table: &TxnTable<P>, begin: Stamp, reader: TxId, key: RowKey) -> Shown
+        ensures { let vs = versions_at self.now.slots self.now.lists key in
+            AreVersionsInOrder (state_of table.now) begin.0 reader.0 vs →
+            result ≡ shown_to (state_of table.now) begin.0 reader.0 vs }
+    {
+        let walk = self.indexed.index().walk(key);
+        shown_on(self.indexed.chains(), walk, table, begin, reader)
+    }
+
     /// Whether others have changed what an entry looks at, between a begin and an end, where the
     /// versions stand in order.
     pub fn check<P>(&self, table: &TxnTable<P>, begin: Stamp, end: Stamp, entry: Entry) -> Check

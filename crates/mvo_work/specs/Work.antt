@@ -1,27 +1,18 @@
 -- What an unfinished transaction has done, and the room for more.
-use Rattle.std.specs.Prelude.{◌≡◌, ℕ, ◌<◌, ◌≤◌, List, min}
+use Rattle.std.specs.Prelude.{◌≡◌, ℕ, List, min}
 use Rattle.mvo_types.specs.declared.row.RowKey.{RowKey}
 use Rattle.mvo_types.specs.declared.op.Op.{Op}
 use Rattle.mvo_types.specs.declared.answer.Answer.{Answer}
 use Rattle.mvo_model.specs.History.{History}
 use Rattle.mvo_theory.specs.Entries.{entries, written_keys}
 use Rattle.mvo_types.specs.declared.entry.Entry.{Entry}
-use Rattle.mvo_work.specs.declared.word_place.WordPlace.{WordPlace}
 use Rattle.mvo_theory.specs.Told.{history_told}
 use Rattle.mvo_theory.specs.Limits.{AreLimited}
 
--- the operations with their answers, the words that are still to be replaced, in order of writing,
--- and for how many operations and words more there is room
+-- the operations with their answers, and for how many more there is room
 pub record WorkData : Type 0 where
   pub history : History
-  pub words : List WordPlace
   pub room : ℕ
-  pub word_room : ℕ
-
--- room for an operation and the two words that it may put
-pub record HasRoom (work : WorkData) : Type 0 where
-  pub operation : 0 < work.room
-  pub words : 2 ≤ work.word_room
 
 -- an operation takes a place on each of three lists
 abbrev pub room_of : ℕ → ℕ → ℕ → ℕ

@@ -1,4 +1,4 @@
-ghost use Rattle.std.specs.Prelude.{◌≡◌, ◌-◌, ◌++◌, ◌∷◌, [], ◌<◌, ◌≤◌, ◌↔◌, IsTrue, not, ◌==◌, drop, is_some, length, slice_get, IfOk, OnOk, OnErr};
+ghost use Rattle.std.specs.Prelude.{◌≡◌, ◌++◌, ◌∷◌, [], ◌<◌, ◌≤◌, not, ◌==◌, nat_lt, is_some, length, slice_get, IfOk, OnOk, OnErr};
 ghost use Rattle.mvo_types.specs.AnswerData.{answer_data};
 ghost use Rattle.mvo_model.specs.History.{net_write};
 ghost use Rattle.mvo_theory.specs.Entries.{entries, written_keys};
@@ -6,22 +6,17 @@ ghost use Rattle.mvo_theory.specs.Causes.{is_entry_too_many, is_write_too_many};
 ghost use Rattle.mvo_theory.specs.Told.{history_told};
 ghost use Rattle.mvo_theory.specs.Limits.{AreLimited};
 ghost use Rattle.mvo_work.specs.Limits.{MayFollow};
-ghost use Rattle.mvo_work.specs.Work.{HasRoom};
 
 use crate::lists::Lists;
-use crate::memory::{
-    clear_items, clear_words, has_room_for_one, has_room_for_two, reserve_few, reserve_one,
-    take_items,
-};
+use crate::memory::{clear_items, has_room_for_one, reserve_few, reserve_one, take_items};
 use crate::operations::Operations;
 use crate::told::{entry_of, is_among, key_written, note_write, push_reserved};
-use crate::word_place::WordPlace;
 use mvo_types::{Answer, Entry, MAX_ENTRIES, MAX_WRITES, Op, RowKey};
 use std::alloc::{AllocError, Global};
 use std::marker::Model;
 
 /// What an unfinished transaction has done. Contracts see its operations with their answers, in
-/// order, the words that finishing still has to replace, in order of writing, and the room.
+/// order, and the room.
 ///
 /// What it looked at and the keys that it wrote are kept beside them, each once. `new` and
 /// `make_room` alone take memory. Each call takes constant time, but for that growth and for a
@@ -36,7 +31,6 @@ pub struct Work {
 
 impl Model for Work {
     ghost use Rattle.std.specs.Prelude.{◌-◌, vec_len, vec_capacity};
-    ghost use Rattle.std.specs.VecDeque.{deque_len, deque_capacity};
     ghost use Rattle.mvo_theory.specs.Told.{history_told};
     ghost use Rattle.mvo_work.specs.Work.{WorkData, IsWorkSound, room_of};
 
@@ -44,10 +38,8 @@ impl Model for Work {
 
     ghost view = { λ w. let l = w.lists.value in record {
       history = history_told l.operations.items;
-      words = l.words.items;
       room = room_of (vec_capacity l.operations - vec_len l.operations) l.looked_at.room
           (vec_capacity l.written - vec_len l.written);
-      word_room = deque_capacity l.words - deque_len l.words;
     } };
 
     ghost invariant = { λ w. let l = w.lists.value in
@@ -57,8 +49,7 @@ impl Model for Work {
 impl Work {
     /// Nothing done.
     pub fn new(alloc: Global) -> Result<Work, AllocError>
-        ensures history { IfOk result (λ w. w.history ≡ []) }
-        ensures words { IfOk result (λ w. w.words ≡ []) }
+        ensures { IfOk result (λ w. w.history ≡ []) }
     {
         let lists = Box::new(alloc, Lists::new(alloc))?;
         Ok(Work { lists })
@@ -120,7 +111,7 @@ impl Work {
     #[inline(always)]
     pub fn keep_list(&mut self, list: Vec<(Op, Answer)>)
         requires { list.items ≡ [] }
-        ensures same { self.new ≡ record self.old { room = self.new.room } }
+        ensures same { self.new.history ≡ self.old.history }
         ensures room { self.old.room ≤ self.new.room }
     {
         if self.lists.operations.capacity() == 0 {
@@ -128,14 +119,13 @@ impl Work {
         }
     }
 
-    /// Sees to it that there is room for an operation and two words more. Refused, it has changed
-    /// nothing but the room.
+    /// Sees to it that there is room for an operation more. Refused, it has changed nothing but the
+    /// room.
     #[inline(always)]
     pub fn make_room(&mut self) -> Result<(), AllocError>
-        ensures same { self.new ≡
-            record self.old { room = self.new.room; word_room = self.new.word_room } }
-        ensures ok { OnOk result (HasRoom self.new) }
-        ensures err { OnErr result (¬ HasRoom self.old) }
+        ensures same { self.new.history ≡ self.old.history }
+        ensures ok { OnOk result (0 < self.new.room) }
+        ensures err { OnErr result (self.old.room ≡ 0) }
     {
         if self.has_room() {
             return Ok(());
@@ -143,30 +133,27 @@ impl Work {
         self.grow()
     }
 
-    /// Whether there is room for an operation and two words more.
+    /// Whether there is room for an operation more.
     #[inline(always)]
     fn has_room(&self) -> bool
-        ensures { IsTrue result ↔ HasRoom self.now }
+        ensures { result ≡ nat_lt 0 self.now.room }
     {
         let lists = &*self.lists;
         has_room_for_one(&lists.operations)
             && lists.looked_at.has_room()
             && has_room_for_one(&lists.written)
-            && has_room_for_two(&lists.words)
     }
 
     /// `make_room` where a list has to grow. That is seldom, so it lies apart from the callers.
     #[inline(never)]
     fn grow(&mut self) -> Result<(), AllocError>
-        ensures same { self.new ≡
-            record self.old { room = self.new.room; word_room = self.new.word_room } }
-        ensures ok { OnOk result (HasRoom self.new) }
-        ensures err { OnErr result (¬ HasRoom self.old) }
+        ensures same { self.new.history ≡ self.old.history }
+        ensures ok { OnOk result (0 < self.new.room) }
+        ensures err { OnErr result (self.old.room ≡ 0) }
     {
         reserve_one(&mut self.lists.operations)?;
         self.lists.looked_at.make_room()?;
-        reserve_few(&mut self.lists.written)?;
-        self.lists.words.reserve(2)
+        reserve_few(&mut self.lists.written)
     }
 
     /// Adds an operation with its answer. It stands once, so that what a transaction goes through
@@ -175,10 +162,7 @@ impl Work {
     pub fn tell(&mut self, op: Op, answer: Answer)
         requires room { 0 < self.old.room }
         requires limits { MayFollow self.old.history op (answer_data answer) }
-        ensures { self.new ≡ record self.old {
-          history = self.old.history ++ (op, answer_data answer) ∷ [];
-          room = self.new.room;
-        } }
+        ensures { self.new.history ≡ self.old.history ++ (op, answer_data answer) ∷ [] }
     {
         let lists = &mut *self.lists;
         let is_new = lists.looked_at.note(entry_of(&op));
@@ -186,54 +170,12 @@ impl Work {
         push_reserved(&mut lists.operations, (op, answer));
     }
 
-    /// Adds a word behind the others.
-    pub fn push_word(&mut self, word: WordPlace)
-        requires { 0 < self.old.word_room }
-        ensures { self.new ≡ record self.old {
-          words = self.old.words ++ word ∷ [];
-          word_room = self.old.word_room - 1;
-        } }
-    {
-        self.lists.words.push_back_reserved(word);
-    }
-
-    /// How many words are still to be replaced.
-    pub fn word_count(&self) -> usize
-        ensures { result ≡ length self.now.words }
-    {
-        self.lists.words.len()
-    }
-
-    /// The word at a place of the list, from 0 on.
-    pub fn word_at(&self, place: usize) -> Option<WordPlace>
-        ensures { result ≡ slice_get self.now.words place }
-    {
-        self.lists.words.get(place).copied()
-    }
-
-    /// The first word that is still to be replaced, if one is.
-    pub fn next_word(&self) -> Option<WordPlace>
-        ensures { result ≡ slice_get self.now.words 0 }
-    {
-        self.lists.words.front().copied()
-    }
-
-    /// Takes the first word off, if there is one.
-    pub fn drop_word(&mut self)
-        ensures { self.new ≡ record self.old {
-          words = drop 1 self.old.words;
-          word_room = self.new.word_room;
-        } }
-    {
-        self.lists.words.pop_front();
-    }
-
-    /// Takes all operations out. The words stay, and it is as if nothing else had been done.
+    /// Takes all operations out. It is as if nothing had been done.
     pub fn take_operations(&mut self) -> Operations
         ensures told { history_told result.told.items ≡ self.old.history }
         ensures written { result.written.items ≡ written_keys self.old.history }
         ensures limits { AreLimited self.old.history }
-        ensures left { self.new ≡ record self.old { history = []; room = self.new.room } }
+        ensures left { self.new.history ≡ [] }
     {
         self.lists.looked_at.clear();
         Operations {
@@ -242,15 +184,12 @@ impl Work {
         }
     }
 
-    /// Forgets all that was done, and the words. The memory of few operations and words is kept for
-    /// another transaction.
+    /// Forgets all that was done. The memory of few operations is kept for another transaction.
     pub fn clear(&mut self)
-        ensures history { self.new.history ≡ [] }
-        ensures words { self.new.words ≡ [] }
+        ensures { self.new.history ≡ [] }
     {
         self.lists.looked_at.clear();
         clear_items(&mut self.lists.operations);
         clear_items(&mut self.lists.written);
-        clear_words(&mut self.lists.words);
     }
 }

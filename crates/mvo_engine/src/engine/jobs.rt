@@ -1,20 +1,25 @@
 //! The jobs of the store, each from its first step to its installing.
 ghost use Rattle.std.specs.Prelude.{◌≡◌, IfOk};
-ghost use Rattle.mvo_engine.specs.Jobs.{IsInstallAnswer, told_of};
+ghost use Rattle.mvo_engine.specs.Jobs.{IsInstallAnswer, slices_of, told_of};
 
 use super::Engine;
 use super::call_by_call::CallByCall;
 use crate::gate::Gate;
 use crate::place::Place;
 use crate::run::Run;
+use crate::slice::Slice;
 use mvo_disk::Disk;
-use mvo_store::{Done, Generation, StoreCall, run_checkpoint, run_merge, run_rotation};
+use mvo_store::{
+    Done, Due, Generation, InstallStep, Progress, StoreCall, run_checkpoint, run_merge,
+    run_rotation,
+};
 use mvo_types::Refusal;
 use std::sync::Wait;
 
 impl<L: Run, D: Disk, G: Gate + Drop> Engine<L, D, G> {
     ghost use Rattle.mvo_store.specs.Wholes.{AreToRefusal, IsCheckpoint, rotation, merge};
-    ghost use Rattle.mvo_engine.specs.Jobs.{IsCallAlone, told_of};
+    ghost use Rattle.mvo_engine.specs.Jobs.{IsCallAlone, IsInSlices, IsDataAlone, IsBehindPlaces};
+    ghost use Rattle.mvo_engine.specs.Jobs.{IsOneCallAlone, AreSlicesAlone, IsSliceAlone, told_of};
 
     /// All steps of a rotation of the log, from the fresh segment to its installing. The lock of
     /// the store is taken anew for each step, so that others flush in between: those who wait for
@@ -61,9 +66,80 @@ impl<L: Run, D: Disk, G: Gate + Drop> Engine<L, D, G> {
         generation_of(run_merge(&mut caller, place))
     }
 
-    // A call of the store in a turn of its own, which is given back behind it.
+    // A call of the store in a turn of its own, which is given back behind it; but a data file is
+    // written by slices, and so are the places put before a manifest is installed, each in a turn
+    // of its own.
     pub(crate) fn call_in_turn<R: Wait>(&self, rt: &R, call: StoreCall) -> Result<Done, Refusal>
         ensures { IsCallAlone D.Disk tt call result tt }
+    {
+        match slices_of(call) {
+            None => self.one_call_in_turn(rt, call),
+            Some(slice) => self.in_slices(rt, slice, call),
+        }
+    }
+
+    // A call that is made of slices, or behind them.
+    fn in_slices<R: Wait>(&self, rt: &R, slice: Slice, call: StoreCall) -> Result<Done, Refusal>
+        ensures { IsInSlices D.Disk slice call result }
+    {
+        match slice {
+            Slice::Checkpoint => self.data_in_turns(rt, Slice::Checkpoint),
+            Slice::Merge => self.data_in_turns(rt, Slice::Merge),
+            Slice::Places => self.behind_places(rt, call),
+        }
+    }
+
+    // Writes a data file.
+    fn data_in_turns<R: Wait>(&self, rt: &R, slice: Slice) -> Result<Done, Refusal>
+        ensures { IsDataAlone D.Disk slice result }
+    {
+        match self.slices_in_turns(rt, slice) {
+            Ok(()) => Ok(Done::Progress(Progress::More)),
+            Err(refusal) => Err(refusal),
+        }
+    }
+
+    // Puts the places that are left, and makes the call. Where none are left, or the store is down,
+    // they are refused, and the call says what there is to say.
+    fn behind_places<R: Wait>(&self, rt: &R, call: StoreCall) -> Result<Done, Refusal>
+        ensures { IsBehindPlaces D.Disk call result }
+    {
+        let _ = self.slices_in_turns(rt, Slice::Places);
+        self.one_call_in_turn(rt, call)
+    }
+
+    // Makes the slices up to the last.
+    fn slices_in_turns<R: Wait>(&self, rt: &R, slice: Slice) -> Result<(), Refusal>
+        ensures { AreSlicesAlone D.Disk slice result }
+    {
+        for _ in rt.forever() {
+            match self.slice_in_turn(rt, slice) {
+                Ok(Progress::More) => {}
+                Ok(Progress::Ready) => return Ok(()),
+                Err(refusal) => return Err(refusal),
+            }
+        }
+        unreachable!()
+    }
+
+    // One of them.
+    fn slice_in_turn<R: Wait>(&self, rt: &R, slice: Slice) -> Result<Progress, Refusal>
+        ensures { IsSliceAlone D.Disk slice result }
+    {
+        self.gate.pass(Place::Turn);
+        let turn = self.turns.take(rt);
+        let mut store = self.guard_store(rt);
+        let since = self.nanos();
+        let progress = store.slice(slice);
+        self.count_hold(since);
+        drop(store);
+        drop(turn);
+        progress
+    }
+
+    // The call alone.
+    fn one_call_in_turn<R: Wait>(&self, rt: &R, call: StoreCall) -> Result<Done, Refusal>
+        ensures { IsOneCallAlone D.Disk call result }
     {
         self.gate.pass(Place::Turn);
         let turn = self.turns.take(rt);
@@ -75,6 +151,18 @@ impl<L: Run, D: Disk, G: Gate + Drop> Engine<L, D, G> {
         drop(turn);
         self.counting.count_call(call, &done);
         done
+    }
+}
+
+// The slices that a call is made of, or that are made before it.
+fn slices_of(call: StoreCall) -> Option<Slice>
+    ensures { result ≡ slices_of call }
+{
+    match call {
+        StoreCall::Step(Due::Data) => Some(Slice::Checkpoint),
+        StoreCall::Step(Due::MergeData) => Some(Slice::Merge),
+        StoreCall::Step(Due::Install(InstallStep::Close)) => Some(Slice::Places),
+        _ => None,
     }
 }
 

@@ -26,6 +26,7 @@ impl<L: Run> LockedCore<L> {
             sorted_keys: self.core.place_count(),
             aborted,
             replaced,
+            sent: self.sends.groups(),
             sessions: self.made,
         }
     }

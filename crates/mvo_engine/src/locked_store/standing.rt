@@ -21,7 +21,6 @@ impl<L: Run, D: Disk> LockedStore<L, D> {
         ensures sound { IsSoundStore D.Disk L.opening self.old.store self.old.received }
         ensures same { self.new ≡ self.old }
     {
-        let waiting = self.ring.slots();
         let manifest = self.store.manifest();
         StoreStats {
             durable: self.store.mark(),
@@ -33,7 +32,7 @@ impl<L: Run, D: Disk> LockedStore<L, D> {
             records: records_in(manifest.pairs()),
             dead: dead_in(manifest.pairs()),
             step: self.store.next_step(),
-            waiting,
+            received: self.groups,
             grouped: self.taken.commits,
             log_bytes: self.taken.bytes,
         }

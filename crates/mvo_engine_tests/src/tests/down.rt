@@ -55,7 +55,7 @@ pub fn go_down<L: Run, D: Disk, G: Gate + Drop, R: Abort + Wait>(
     follow_new(rt, alloc, engine, &GONE_DOWN)?;
     fill_the_ring(rt, alloc, engine)?;
     follow_new(rt, alloc, engine, &RING_IS_FULL)?;
-    same(rt, &engine.stats(rt).store.waiting, &64);
+    same(rt, &engine.stats(rt).waiting_groups(), &64);
     Ok(())
 }
 

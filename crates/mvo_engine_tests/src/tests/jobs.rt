@@ -4,14 +4,14 @@ use super::asking::Ask::{Change, Find, Put};
 use super::calls::{BODY, CLOSE, DATA, DELTA, MERGE_DATA, MERGE_DELTA, OPEN};
 use super::counting::Counting;
 use super::steps::Step::{Checkpoint, Flush, Merge, One, Rotate, Store};
-use super::steps::StoreStep::{Call, Installed, Pairs};
+use super::steps::StoreStep::{Call, Installed, Pairs, SliceOf};
 use super::steps::{Line, follow_new};
 use super::told::Told::{self, Byte, Done, More, Number, Ready, Shut, Written};
 use super::told::{BUSY, NOTHING_TO_DO, called, installed};
 use super::trial::{Alone, Trial, tried, tried_anew};
 use crate::equal::{holds, same};
 use mvo_disk::Disk;
-use mvo_engine::{Engine, Gate, OpenGate, Place, Run};
+use mvo_engine::{Engine, Gate, OpenGate, Place, Run, Slice};
 use mvo_store::StoreCall::{CheckpointRead, MergeRead, Reclaim};
 use mvo_types::Refusal;
 use std::alloc::Global;
@@ -42,7 +42,8 @@ const WHOLE: [Line; 15] = [
 ];
 
 /// Behind a rotation, so that the log has a sealed segment.
-const BY_STEPS: [Line; 21] = [
+const BY_STEPS: [Line; 30] = [
+    (Store(SliceOf(Slice::Places)), NOTHING_TO_DO),
     // A checkpoint runs, and no other job begins. It goes on by its steps: the merged pair's delta
     // file gains a number behind the new pair's own.
     (Store(Call(CheckpointRead)), More),
@@ -50,17 +51,26 @@ const BY_STEPS: [Line; 21] = [
     (Checkpoint, BUSY),
     (Merge(0), NOTHING_TO_DO),
     (Store(Call(MERGE_DATA)), NOTHING_TO_DO),
-    (Store(Call(DATA)), More),
+    (Store(SliceOf(Slice::Merge)), NOTHING_TO_DO),
+    (Store(SliceOf(Slice::Checkpoint)), Ready),
+    (Store(Call(DATA)), NOTHING_TO_DO),
     (Store(Call(DELTA)), More),
     (Store(Call(DELTA)), Ready),
+    // The places of its records are put before its manifest is installed, and once.
+    (Store(SliceOf(Slice::Places)), Ready),
+    (Store(SliceOf(Slice::Places)), NOTHING_TO_DO),
     (Store(Call(CLOSE)), Shut),
     (Store(Call(BODY)), Written),
     (Store(Call(OPEN)), Number(7)),
     // A merge.
     (Store(Call(MergeRead(0))), More),
-    (Store(Call(MERGE_DATA)), More),
+    (Store(SliceOf(Slice::Merge)), Ready),
+    (Store(Call(MERGE_DATA)), NOTHING_TO_DO),
     (Store(Call(CLOSE)), NOTHING_TO_DO),
+    (Store(SliceOf(Slice::Places)), NOTHING_TO_DO),
     (Store(Call(MERGE_DELTA)), Ready),
+    (Store(SliceOf(Slice::Places)), Ready),
+    (Store(SliceOf(Slice::Places)), NOTHING_TO_DO),
     (Store(Call(CLOSE)), Shut),
     (Store(Call(BODY)), Written),
     (Store(Call(OPEN)), Number(8)),
@@ -80,21 +90,22 @@ pub fn do_jobs<L: Run, D: Disk, G: Gate + Drop, R: Abort + Wait>(
     passes: &AtomicU64,
 ) -> Result<(), Refusal> {
     follow_new(rt, alloc, engine, &WHOLE)?;
-    rotate_by_four(rt, engine, passes);
+    rotate_by_five(rt, engine, passes);
     follow_new(rt, alloc, engine, &BY_STEPS)?;
     reclaim_all(rt, engine);
     Ok(())
 }
 
-// A rotation takes the lock of the store four times, once for each step.
-fn rotate_by_four<L: Run, D: Disk, G: Gate + Drop, R: Abort + Wait>(
+// A rotation takes the lock of the store five times: once for each step, and once for the places,
+// of which it puts none.
+fn rotate_by_five<L: Run, D: Disk, G: Gate + Drop, R: Abort + Wait>(
     rt: &R,
     engine: &Engine<L, D, G>,
     passes: &AtomicU64,
 ) {
     passes.store(0, Ordering::SeqCst);
     same(rt, &installed(engine.rotate(rt)), &Number(6));
-    same(rt, &passes.load(Ordering::SeqCst), &4);
+    same(rt, &passes.load(Ordering::SeqCst), &5);
 }
 
 // There is an end to what is emptied.

@@ -88,6 +88,7 @@ fn put_away() -> Stats {
             sorted_keys: 1,
             aborted: 0,
             replaced: 0,
+            sent: 1,
             sessions: 2,
         },
         store: StoreStats {
@@ -100,7 +101,7 @@ fn put_away() -> Stats {
             records: 1,
             dead: 0,
             step: None,
-            waiting: 0,
+            received: 1,
             grouped: 1,
             log_bytes: 49,
         },

@@ -2,11 +2,11 @@
 
 use super::asking::Ask;
 use super::lasting::forget;
-use super::told::{Told, called, done, installed, said, stamped};
+use super::told::{Told, called, done, installed, said, sliced, stamped};
 use crate::equal::same_at;
 use mvo_core::Collection;
 use mvo_disk::Disk;
-use mvo_engine::{CoreGuard, Engine, Gate, Run, Session, StoreGuard};
+use mvo_engine::{CoreGuard, Engine, Gate, Run, Session, Slice, StoreGuard};
 use mvo_store::StoreCall;
 use mvo_types::{Refusal, Stamp};
 use std::alloc::Global;
@@ -61,6 +61,8 @@ pub enum StoreStep {
     Take,
     FlushOne,
     Call(StoreCall),
+    /// The next slice of a job.
+    SliceOf(Slice),
     /// The generation of the installed manifest, and how many pairs and segments it names.
     Installed,
     Pairs,
@@ -118,6 +120,7 @@ impl StoreStep {
             StoreStep::Take => done(store.take()),
             StoreStep::FlushOne => said(store.flush_one()),
             StoreStep::Call(call) => called(store.call(call)),
+            StoreStep::SliceOf(slice) => sliced(store.slice(slice)),
             StoreStep::Installed => Told::Number(store.manifest().generation()),
             StoreStep::Pairs => Told::Number(store.manifest().pairs().len() as u64),
             StoreStep::Segments => Told::Number(store.manifest().segments().len() as u64),

@@ -67,6 +67,15 @@ pub fn done(answer: Result<(), Refusal>) -> Told {
     }
 }
 
+/// Whether a slice was the last.
+pub fn sliced(answer: Result<Progress, Refusal>) -> Told {
+    match answer {
+        Ok(Progress::More) => Told::More,
+        Ok(Progress::Ready) => Told::Ready,
+        Err(refusal) => Told::Refused(refusal.code()),
+    }
+}
+
 /// Whether a session is made. It is let go.
 pub fn made<L: Run, D: Disk, G: Gate + Drop>(
     answer: Result<Session<'_, L, D, G>, Refusal>,

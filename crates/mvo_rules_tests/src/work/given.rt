@@ -9,7 +9,7 @@ use std::test::Fail;
 /// A read is told, and then there are so many.
 fn read(rt: &impl Abort, work: &mut Work, key: u64, count: usize) -> Result<(), Fail> {
     let key = RowKey { table: 15, key };
-    let is_told = told(work, Op::Read(key), Answer::Found(None), &[])?;
+    let is_told = told(work, Op::Read(key), Answer::Found(None))?;
     holds(rt, is_told);
     same(rt, &work.operations().len(), &count);
     Ok(())

@@ -11,7 +11,7 @@ fn key_of(key: u64) -> RowKey {
 
 fn read(rt: &impl Abort, work: &mut Work, key: u64) -> Result<(), Fail> {
     holds(rt, !work.is_entry_too_many(Entry::Key(key_of(key))));
-    let is_told = told(work, Op::Read(key_of(key)), Answer::Found(None), &[])?;
+    let is_told = told(work, Op::Read(key_of(key)), Answer::Found(None))?;
     holds(rt, is_told);
     Ok(())
 }
@@ -42,7 +42,7 @@ fn a_transaction_keeps_4096_entries(rt: HostRuntime) -> Result<(), Fail> {
 /// A delete of the key is told, unless it is a write too many.
 fn delete(rt: &impl Abort, work: &mut Work, key: u64, is_too_many: bool) -> Result<(), Fail> {
     same(rt, &work.is_write_too_many(key_of(key)), &is_too_many);
-    let is_told = told(work, Op::Delete(key_of(key)), Answer::Deleted, &[])?;
+    let is_told = told(work, Op::Delete(key_of(key)), Answer::Deleted)?;
     same(rt, &is_told, &!is_too_many);
     Ok(())
 }

@@ -4,7 +4,7 @@ ghost use Rattle.mvo_theory.specs.Limits.{IsRow};
 ghost use Rattle.mvo_work.specs.Limits.{MayFollow};
 
 use mvo_types::{Answer, MAX_DATA_LEN, MAX_TABLE, Op, Row};
-use mvo_work::{WordPlace, Work};
+use mvo_work::Work;
 use std::alloc::AllocError;
 
 fn is_row(row: &Row) -> bool
@@ -26,24 +26,12 @@ fn may_follow(work: &Work, op: &Op) -> bool
     }
 }
 
-/// Tells the operation with the first two of the words, if it keeps the limits, and answers whether
-/// it does.
-pub fn told(
-    work: &mut Work,
-    op: Op,
-    answer: Answer,
-    words: &[WordPlace],
-) -> Result<bool, AllocError> {
+/// Tells the operation, if it keeps the limits, and answers whether it does.
+pub fn told(work: &mut Work, op: Op, answer: Answer) -> Result<bool, AllocError> {
     if !may_follow(work, &op) {
         return Ok(false);
     }
     work.make_room()?;
     work.tell(op, answer);
-    if let Some(word) = words.first() {
-        work.push_word(*word);
-        if let Some(word) = words.get(1) {
-            work.push_word(*word);
-        }
-    }
     Ok(true)
 }

@@ -14,4 +14,7 @@ pub struct Checkpointing {
     pub next: Manifest,
     /// How far it is.
     pub stage: CheckpointStage,
+    /// How many of the changes are made that it makes of the places: first the keys at which it
+    /// leaves no row lose theirs, and then its records get theirs.
+    pub placed: usize,
 }

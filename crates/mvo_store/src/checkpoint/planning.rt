@@ -127,6 +127,7 @@ pub fn planned(
         pair,
         made,
         next,
-        stage: CheckpointStage::Data,
+        stage: CheckpointStage::Data(0),
+        placed: 0,
     })
 }

@@ -10,10 +10,10 @@ ghost use Rattle.mvo_pair.specs.Answers.{Tells};
 ghost use Rattle.mvo_pair.specs.Writing.{IsStop};
 ghost use Rattle.mvo_recovery.specs.image.Files.{SegmentIs};
 ghost use Rattle.mvo_load.specs.Read.{HasRead, IsMisread, MayBeGroups};
-ghost use Rattle.mvo_store.specs.Calls.StoreStep.{Call};
+ghost use Rattle.mvo_store.specs.Calls.StoreStep.{Call, Slice};
 ghost use Rattle.mvo_store.specs.declared.call.StoreCall.TheVariants.{CheckpointRead, Step};
 ghost use Rattle.mvo_store.specs.declared.jobs.due.Due.TheVariants.{Data, Delta};
-ghost use Rattle.mvo_store.specs.Calls.{IsStoreStep, AnswersProgress};
+ghost use Rattle.mvo_store.specs.Calls.{IsStoreStep, AnswersProgress, AnswersSlice};
 ghost use Rattle.mvo_store.specs.Files.{files_taken};
 ghost use Rattle.mvo_store.specs.Safe.{IsSafeCheckpoint};
 ghost use Rattle.mvo_store.specs.Planning.{MayReadCheckpoint, IsNewCheckpoint, IsReadCheckpoint};
@@ -163,6 +163,19 @@ impl<D: Disk> Store<D> {
         ensures { IsStoreStep D.Disk self.old (Call (Step Data)) result self.new }
     {
         self.write_due(Due::Data)
+    }
+
+    /// Writes the next slice of the data file of the checkpoint that runs, of at most 4 MiB, and
+    /// syncs it: the first gives the file new content, and the others stand behind it. More comes
+    /// with each but the last, and Ready with that: then the delta files are due. While a slice is
+    /// due, `checkpoint_data` is too, which writes the whole file.
+    ///
+    /// Refused: Down, then NothingToDo where this isn't due, then OutOfMemory, then DiskFault.
+    pub fn checkpoint_slice(&mut self) -> Result<Progress, Refusal>
+        ensures step { IsStoreStep D.Disk self.old (Slice Data) result self.new }
+        ensures progress { IfOk result (AnswersSlice Data self.new) }
+    {
+        self.slice_due(Due::Data)
     }
 
     /// Writes the next delta file of the checkpoint that runs, and syncs it: first the new pair's

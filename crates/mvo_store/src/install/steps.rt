@@ -7,12 +7,12 @@ ghost use Rattle.mvo_store.specs.Calls.StoreStep.{Call};
 ghost use Rattle.mvo_store.specs.Calls.{IsStoreStep, AnswersGeneration};
 ghost use Rattle.mvo_store.specs.Causes.{why_not_install_open};
 ghost use Rattle.mvo_store.specs.Jobs.{next_installed, after_install};
-ghost use Rattle.mvo_store.specs.Standing.{MayTakeOverOf, HaveKeysOf};
 ghost use Rattle.mvo_store.specs.Old.{AreUnmarked};
-ghost use Rattle.mvo_store.specs.Steps.{manifest_by, places_by, segment_by, filled_by};
+ghost use Rattle.mvo_store.specs.Steps.{manifest_by, segment_by, filled_by};
 
 use crate::install::generation::Generation;
 use crate::install::install_step::InstallStep;
+use crate::install::placing::take_over;
 use crate::jobs::due::Due;
 use crate::jobs::jobs::Jobs;
 use crate::jobs::step_files::write_step;
@@ -21,30 +21,8 @@ use crate::store::Store;
 use mvo_disk::Disk;
 use mvo_frame::Segment;
 use mvo_manifest::Manifest;
-use mvo_merge::move_places;
-use mvo_places::Places;
 use mvo_types::Refusal;
 use std::mem::replace;
-
-/// Brings the places up to date with what the job has made whose manifest is installed.
-fn take_over(places: &mut Places, jobs: &Jobs)
-    requires { MayTakeOverOf places.old (next_installed jobs.now) }
-    ensures { HaveKeysOf (next_installed jobs.now) →
-        places.new.at ≡ places_by (next_installed jobs.now) places.old.at }
-{
-    match jobs {
-        Jobs::Rotation(_, _) | Jobs::Beside(None, _) => {}
-        Jobs::Beside(Some(checkpoint), _) => {
-            let made = &checkpoint.made;
-            places.take_over(checkpoint.pair.data_file, &made.records, &made.gone);
-        }
-        Jobs::Merge(seen, _) => {
-            let records = &seen.made.records;
-            let (left, right) = (seen.left.data_file, seen.right.data_file);
-            move_places(places, left, right, seen.pair.data_file, records);
-        }
-    }
-}
 
 /// Takes away the marks of the files to which the job has given new content whose manifest is
 /// installed: they are of the last version.
@@ -55,7 +33,7 @@ fn unmark_taken(marks: &mut Vec<bool>, jobs: &Jobs)
         Jobs::Rotation(fresh, _) => unmark(marks, fresh.file),
         Jobs::Beside(None, _) => {}
         Jobs::Beside(Some(checkpoint), _) => unmark_pair(marks, &checkpoint.pair),
-        Jobs::Merge(seen, _) => unmark_pair(marks, &seen.pair),
+        Jobs::Merge(seen, _, _) => unmark_pair(marks, &seen.pair),
     }
 }
 
@@ -72,7 +50,7 @@ fn put_installed(jobs: Jobs, manifest: &mut Manifest, segment: &mut Segment) -> 
             *segment = fresh;
             Jobs::none()
         }
-        Jobs::Merge(_, install) => {
+        Jobs::Merge(_, _, install) => {
             *manifest = install.next;
             Jobs::none()
         }
@@ -119,8 +97,9 @@ impl<D: Disk> Store<D> {
     }
 
     /// Opens the gate, and syncs. The manifest is installed then; the fresh segment of a rotation
-    /// takes frames, and the records of a checkpoint or a merge have their places. A merge beside
-    /// the checkpoint runs on. Answers the generation of the manifest.
+    /// takes frames, and the records of a checkpoint or a merge have their places: those that
+    /// `place_slice` left are put. A merge beside the checkpoint runs on. Answers the generation of
+    /// the manifest.
     ///
     /// Refused: Down, then NothingToDo where this isn't due, then for a rotation Busy while a body
     /// is written whose gate isn't open, then DiskFault.

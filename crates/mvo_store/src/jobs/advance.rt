@@ -43,7 +43,7 @@ fn stage_behind(older: usize, stage: CheckpointStage) -> CheckpointStage
     ensures { result ≡ stage_behind older stage }
 {
     match stage {
-        CheckpointStage::Data => CheckpointStage::Delta(0),
+        CheckpointStage::Data(_) => CheckpointStage::Delta(0),
         CheckpointStage::Delta(written) => {
             if written < older {
                 CheckpointStage::Delta(written + 1)
@@ -65,12 +65,14 @@ fn checkpoint_behind(checkpoint: Checkpointing) -> Checkpointing
         made,
         next,
         stage: _,
+        placed,
     } = checkpoint;
     Checkpointing {
         pair,
         made,
         next,
         stage,
+        placed,
     }
 }
 
@@ -114,7 +116,7 @@ pub fn with_step(step: Due, jobs: Jobs) -> Jobs
 {
     match jobs {
         Jobs::Rotation(fresh, install) => Jobs::Rotation(fresh, stepped(install)),
-        Jobs::Merge(seen, install) => Jobs::Merge(seen, stepped(install)),
+        Jobs::Merge(seen, placed, install) => Jobs::Merge(seen, placed, stepped(install)),
         Jobs::Beside(checkpoint, merge) => {
             if is_of_merge(step) {
                 Jobs::Beside(checkpoint, merge_by(merge))
@@ -154,6 +156,7 @@ fn installing(next: Manifest, merge: Option<Merging>) -> Jobs
             let Merging { seen, stage: _ } = merge;
             Jobs::Merge(
                 seen,
+                0,
                 Install {
                     next,
                     step: InstallStep::Close,

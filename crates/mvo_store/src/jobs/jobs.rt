@@ -25,8 +25,9 @@ pub enum Jobs {
     /// A rotation of the log, alone: the fresh segment is written, and takes frames once the
     /// manifest is installed.
     Rotation(Segment, Install),
-    /// A merge whose files are written, alone.
-    Merge(SeenPairs, Install),
+    /// A merge whose files are written, alone, and how many of its records have been given their
+    /// places.
+    Merge(SeenPairs, usize, Install),
     /// A checkpoint of the oldest sealed segment, a merge of two neighbouring pairs whose files
     /// aren't all written, both, or none.
     Beside(Option<Checkpointing>, Option<Merging>),
@@ -37,7 +38,7 @@ fn due_of(stage: CheckpointStage) -> Due
     ensures { result ≡ due_of stage }
 {
     match stage {
-        CheckpointStage::Data => Due::Data,
+        CheckpointStage::Data(_) => Due::Data,
         CheckpointStage::Delta(_) => Due::Delta,
         CheckpointStage::Install(step) => Due::Install(step),
     }
@@ -48,7 +49,7 @@ fn merge_due_of(stage: MergeStage) -> Due
     ensures { result ≡ merge_due_of stage }
 {
     match stage {
-        MergeStage::Data => Due::MergeData,
+        MergeStage::Data(_) => Due::MergeData,
         MergeStage::Delta => Due::MergeDelta,
     }
 }
@@ -160,7 +161,7 @@ impl Jobs {
     {
         match self {
             Jobs::Rotation(_, install) => Due::Install(install.step) == step,
-            Jobs::Merge(_, install) => Due::Install(install.step) == step,
+            Jobs::Merge(_, _, install) => Due::Install(install.step) == step,
             Jobs::Beside(checkpoint, merge) => {
                 checkpoint_is_due(step, checkpoint) || merge_is_due(step, merge)
             }
@@ -173,7 +174,7 @@ impl Jobs {
     {
         match self {
             Jobs::Rotation(_, install) => Some(Due::Install(install.step)),
-            Jobs::Merge(_, install) => Some(Due::Install(install.step)),
+            Jobs::Merge(_, _, install) => Some(Due::Install(install.step)),
             Jobs::Beside(Some(checkpoint), _) => Some(due_of(checkpoint.stage)),
             Jobs::Beside(None, Some(merge)) => Some(merge_due_of(merge.stage)),
             Jobs::Beside(None, None) => None,
@@ -186,7 +187,7 @@ impl Jobs {
     {
         match self {
             Jobs::Rotation(fresh, _) => fresh.file == file,
-            Jobs::Merge(seen, _) => seen.pair.data_file == file || seen.pair.delta_file == file,
+            Jobs::Merge(seen, _, _) => seen.pair.data_file == file || seen.pair.delta_file == file,
             Jobs::Beside(checkpoint, merge) => {
                 checkpoint_takes(checkpoint, file) || merge_takes(merge, file)
             }

@@ -2,11 +2,10 @@
 ghost use Rattle.std.specs.Prelude.{◌≡◌, ◌≢◌, ◌<◌, ◌+◌, ◌^◌, IfSome, IsTrue};
 ghost use Rattle.mvo_disk.specs.Disk.{IsHonest};
 ghost use Rattle.mvo_store.specs.Safe.{IsSafeCheckpoint, IsSafeMerge, AreSafe};
-ghost use Rattle.mvo_store.specs.Jobs.{job_due, is_step_due};
+ghost use Rattle.mvo_store.specs.Jobs.{job_due, is_step_due, merge_due_of};
 ghost use Rattle.mvo_store.specs.Jobs.Job.{Checkpoint, Merge};
 ghost use Rattle.mvo_store.specs.Writing.{JobStandsFor, IsJobStep, IsDueStep, InstallStands, IsInstallStep};
-ghost use Rattle.mvo_store.specs.declared.jobs.due.Due.TheVariants.{MergeDelta};
-ghost use Rattle.mvo_store.specs.declared.merge.stage.MergeStage.TheVariants.{Data as MergeAtData};
+ghost use Rattle.mvo_store.specs.declared.jobs.due.Due.TheVariants.{MergeData, MergeDelta};
 ghost use Rattle.mvo_store.specs.declared.install.install_step.InstallStep.TheVariants.{Close, Body, Open};
 
 use crate::checkpoint::checkpointing::Checkpointing;
@@ -88,7 +87,7 @@ fn write_checkpoint<D: Disk>(
         result }
 {
     match checkpoint.stage {
-        CheckpointStage::Data => {
+        CheckpointStage::Data(_) => {
             let records = &checkpoint.made.records;
             write_data(alloc, disk, LAST_FORMAT, checkpoint.pair, records)
         }
@@ -108,7 +107,7 @@ fn write_merge_data<D: Disk>(
 ) -> Result<(), Refusal>
     requires room { D.fault_count disk.old + 1 < 2 ^ 64 }
     requires safe { IsSafeMerge manifest.now merge.now }
-    requires at { merge.now.stage ≡ MergeAtData }
+    requires at { merge_due_of merge.now.stage ≡ MergeData }
     ensures { IsJobStep D.Disk disk.old disk.new manifest.now (Merge merge.now) result }
 {
     let records = &merge.seen.made.records;
@@ -133,7 +132,7 @@ pub fn write_step<D: Disk>(
     ensures { IsDueStep D.Disk disk.old disk.new manifest.now (job_due step jobs.now) result }
 {
     match jobs {
-        Jobs::Rotation(_, install) | Jobs::Merge(_, install) => {
+        Jobs::Rotation(_, install) | Jobs::Merge(_, _, install) => {
             write_install(alloc, disk, &install.next, install.step)
         }
         Jobs::Beside(checkpoint, merge) => {

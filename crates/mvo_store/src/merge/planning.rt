@@ -98,6 +98,6 @@ pub fn planned_merge(
     };
     Merging {
         seen,
-        stage: MergeStage::Data,
+        stage: MergeStage::Data(0),
     }
 }

@@ -3,10 +3,10 @@ ghost use Rattle.std.specs.Prelude.{◌≡◌, ◌⊎◌, ◌<◌, ◌+◌, ◌^
 ghost use Rattle.mvo_format.specs.declared.format.TheConstants.{LAST_FORMAT};
 ghost use Rattle.mvo_disk.specs.Disk.{IsHonest};
 ghost use Rattle.mvo_load.specs.Read.{HasRead, IsMisread, MayBeLive};
-ghost use Rattle.mvo_store.specs.Calls.StoreStep.{Call};
+ghost use Rattle.mvo_store.specs.Calls.StoreStep.{Call, Slice};
 ghost use Rattle.mvo_store.specs.declared.call.StoreCall.TheVariants.{MergeRead, Step};
 ghost use Rattle.mvo_store.specs.declared.jobs.due.Due.TheVariants.{MergeData, MergeDelta};
-ghost use Rattle.mvo_store.specs.Calls.{IsStoreStep};
+ghost use Rattle.mvo_store.specs.Calls.{IsStoreStep, AnswersSlice};
 ghost use Rattle.mvo_store.specs.Causes.{why_not_merge, why_not_merge_delta};
 ghost use Rattle.mvo_store.specs.Merging.{HaveFiles};
 ghost use Rattle.mvo_store.specs.Files.{files_taken};
@@ -20,6 +20,7 @@ use crate::fault::brings_down;
 use crate::jobs::advance::{with_manifest, with_merge};
 use crate::jobs::due::Due;
 use crate::jobs::jobs::Jobs;
+use crate::jobs::progress::Progress;
 use crate::limits::MAX_GENERATION;
 use crate::merge::late::end_merge;
 use crate::merge::merging::Merging;
@@ -177,6 +178,19 @@ impl<D: Disk> Store<D> {
         ensures { IsStoreStep D.Disk self.old (Call (Step MergeData)) result self.new }
     {
         self.write_due(Due::MergeData)
+    }
+
+    /// Writes the next slice of the data file of the merge that runs, of at most 4 MiB, and syncs
+    /// it: the first gives the file new content, and the others stand behind it. More comes with
+    /// each but the last, and Ready with that: then its last file is due. While a slice is due,
+    /// `merge_data` is too, which writes the whole file.
+    ///
+    /// Refused: Down, then NothingToDo where this isn't due, then OutOfMemory, then DiskFault.
+    pub fn merge_slice(&mut self) -> Result<Progress, Refusal>
+        ensures step { IsStoreStep D.Disk self.old (Slice MergeData) result self.new }
+        ensures progress { IfOk result (AnswersSlice MergeData self.new) }
+    {
+        self.slice_due(Due::MergeData)
     }
 
     /// Reads the numbers that came to the deltas of the two pairs since `merge_read`, writes them

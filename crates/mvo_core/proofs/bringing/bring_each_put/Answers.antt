@@ -10,7 +10,7 @@ loop-place-init c = front_first (is_put_by c.args.tx.0) c.args.versions.now
 
 pub loop-place-preserved : goal.loop-place-preserved
 loop-place-preserved c =
-    let words = c.args.work.now.words in
+    let words = c.args.writes.now.words in
     elim c.match-word_at.branch [
       | in-Some w ↦
           subst (λ v. AreInFront (is_put_by c.args.tx.0) c.args.versions.now v (take (c.loop-place.place + 1) words)) (sym w.versions-is)
@@ -25,4 +25,4 @@ loop-place-preserved c =
 pub returns : goal.returns
 returns c =
     let e : c.loop-place.place ≡ c.word_count-place-end.result = omega arith in
-    front_all (is_put_by c.args.tx.0) c.args.versions.now c.loop-place.versions c.args.work.now.words c.loop-place.place (e ∙ c.word_count-place-end.ensures) c.loop-place.invariant
+    front_all (is_put_by c.args.tx.0) c.args.versions.now c.loop-place.versions c.args.writes.now.words c.loop-place.place (e ∙ c.word_count-place-end.ensures) c.loop-place.invariant

@@ -9,7 +9,7 @@ use Rattle.mvo_core.proofs.bringing.draw_all.Goals.{in-Some, in_default}
 pub loop-place-init : goal.loop-place-init
 loop-place-init c = record {
   fronts = front_first (comes_at_draw (state_of c.args.table.now) c.args.tx.0) c.args.versions.now;
-  waits = awaited_first c.args.waiting.now c.args.end c.args.work.now.words c.requires;
+  waits = awaited_first c.args.waiting.now c.args.end c.args.writes.now.words c.requires;
 }
 
 pub await_end-requires : goal.await_end-requires
@@ -20,7 +20,7 @@ await_end-requires c =
 
 pub loop-place-preserved : goal.loop-place-preserved
 loop-place-preserved c =
-    let words = c.args.work.now.words in
+    let words = c.args.writes.now.words in
     let test = comes_at_draw (state_of c.args.table.now) c.args.tx.0 in
     elim c.match-word_at.branch [
       | in-Some w ↦
@@ -49,9 +49,9 @@ loop-place-preserved c =
 pub returns-clause-fronts : goal.returns-clause-fronts
 returns-clause-fronts c =
     let e : c.loop-place.place ≡ c.word_count-place-end.result = omega arith in
-    front_all (comes_at_draw (state_of c.args.table.now) c.args.tx.0) c.args.versions.now c.loop-place.versions c.args.work.now.words c.loop-place.place (e ∙ c.word_count-place-end.ensures) c.loop-place.invariant.fronts
+    front_all (comes_at_draw (state_of c.args.table.now) c.args.tx.0) c.args.versions.now c.loop-place.versions c.args.writes.now.words c.loop-place.place (e ∙ c.word_count-place-end.ensures) c.loop-place.invariant.fronts
 
 pub returns-clause-waits : goal.returns-clause-waits
 returns-clause-waits c =
     let e : c.loop-place.place ≡ c.word_count-place-end.result = omega arith in
-    awaited_last c.args.waiting.now c.loop-place.waiting c.args.end c.args.work.now.words c.loop-place.place (e ∙ c.word_count-place-end.ensures) c.loop-place.invariant.waits
+    awaited_last c.args.waiting.now c.loop-place.waiting c.args.end c.args.writes.now.words c.loop-place.place (e ∙ c.word_count-place-end.ensures) c.loop-place.invariant.waits

@@ -6,6 +6,6 @@ use Rattle.mvo_core.proofs.bringing.draw_all.Given as goal
 
 abbrev pub invariant-loop-place : goal.invariant-loop-place
 invariant-loop-place l = record {
-  fronts : AreInFront (comes_at_draw (state_of l.table) l.tx.0) l.fn.versions l.versions (take l.place l.work.words);
-  waits : IsAwaitedTo l.fn.waiting l.waiting l.end l.work.words l.place;
+  fronts : AreInFront (comes_at_draw (state_of l.table) l.tx.0) l.fn.versions l.versions (take l.place l.writes.words);
+  waits : IsAwaitedTo l.fn.waiting l.waiting l.end l.writes.words l.place;
 }

@@ -1,4 +1,4 @@
-use Rattle.std.proofs.Common.{ap, refl}
+use Rattle.std.proofs.Common.{refl}
 use Rattle.mvo_types.specs.AnswerData.{answer_data}
 use Rattle.mvo_core.specs.declared.kept_transaction.KeptTransaction.{KeptTransaction}
 use Rattle.mvo_core.specs.Keeping.{IsTold}
@@ -10,8 +10,8 @@ returns c =
     let node = c.in-Some.node.now in
     let after : KeptTransaction = record node.own { work = c.tell.new.self } in
     let told : IsTold c.args.op (answer_data c.args.answer) node.own after = record {
-      history = ap (λ w. w.history) c.tell.ensures;
-      words = ap (λ w. w.words) c.tell.ensures;
+      history = c.tell.ensures;
+      words = refl;
       place = refl;
       checked = refl;
       valid = refl;

@@ -1,4 +1,4 @@
-use Rattle.std.proofs.Common.{ap, sym, refl}
+use Rattle.std.proofs.Common.{sym, refl}
 use Rattle.mvo_txn.specs.declared.state.TxState.TheVariants.{Committed}
 use Rattle.mvo_core.specs.declared.kept_transaction.KeptTransaction.{KeptTransaction}
 use Rattle.mvo_core.specs.Keeping.{HasHandedOver}
@@ -10,8 +10,8 @@ returns-clause-left c =
     let node = c.commit-node.result.1.now in
     let after : KeptTransaction = record node.own { work = c.take_operations.new.self } in
     let handed : HasHandedOver node.own after = record {
-      history = ap (λ w. w.history) c.take_operations.ensures.left;
-      words = ap (λ w. w.words) c.take_operations.ensures.left;
+      history = c.take_operations.ensures.left;
+      words = refl;
       place = refl;
       checked = refl;
       valid = refl;

@@ -3,10 +3,7 @@ use Rattle.mvo_core.specs.Finishing.{from_own}
 use Rattle.mvo_core.proofs.finishing.pass_others.Given as goal
 
 abbrev pub invariant-loop-place : goal.invariant-loop-place
-invariant-loop-place l = record {
-  history : l.work.history ≡ l.fn.work.history;
-  words : from_own l.versions.slots l.tx.0 l.work.words ≡ from_own l.versions.slots l.tx.0 l.fn.work.words;
-}
+invariant-loop-place l = from_own l.versions.slots l.tx.0 l.writes.words ≡ from_own l.versions.slots l.tx.0 l.fn.writes.words
 
 abbrev pub decreases-loop-place : goal.decreases-loop-place
-decreases-loop-place l = length l.work.words
+decreases-loop-place l = length l.writes.words

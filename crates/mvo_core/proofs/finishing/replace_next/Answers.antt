@@ -22,8 +22,8 @@ returns-then-not-has_words-clause-next c =
 
 pub returns-clause-replaced : goal.returns-clause-replaced
 returns-clause-replaced c =
-    one_replaced c.args.versions.now c.replace_first.new.versions c.args.table.now c.args.tx.id.0 c.args.word c.in-Some.node.now c.replace_first.new.work c.replace_first.result.0
-    c.in-Some.ensures.value c.replace_first.ensures.history c.replace_first.ensures.first c.replace_first.ensures.replaced c.replace_first.ensures.words
+    one_replaced c.args.versions.now c.replace_first.new.versions c.args.table.now c.args.tx.id.0 c.args.word c.in-Some.node.now c.replace_first.new.writes c.replace_first.result.0
+    c.in-Some.ensures.value c.replace_first.ensures.first c.replace_first.ensures.replaced c.replace_first.ensures.words
 
 pub returns-clause-first : goal.returns-clause-first
 returns-clause-first c =
@@ -35,4 +35,4 @@ returns-clause-next c =
     let node = c.in-Some.node.now in
     c.replace_first.ensures.next
     ∙ ap (λ o. slice_get (own_words_of o) 0)
-    (sym (own_here c.args.table.now c.args.tx.id.0 node (record node { own = record node.own { work = c.replace_first.new.work } }) (sym c.in-Some.ensures.value)))
+    (sym (own_here c.args.table.now c.args.tx.id.0 node (record node { own = record node.own { writes = c.replace_first.new.writes } }) (sym c.in-Some.ensures.value)))

@@ -131,6 +131,34 @@ fn takes_over(rt: &impl Abort, places: &mut Places, records: &[DataRecord]) -> R
     Ok(())
 }
 
+/// The same in two parts: the keys and the first record, and then the second one.
+fn takes_over_in_parts(
+    rt: &impl Abort,
+    places: &mut Places,
+    records: &[DataRecord],
+) -> Result<(), Fail> {
+    put_three(places)?;
+    holds(rt, records.len() < 3);
+    places.reserve(records.len())?;
+    places.take_over_upto(6, records, &[key_of(0), key_of(7)], 0, 3);
+    let at = |data_file, number| Some(RecordPlace { data_file, number });
+    same(rt, &places.get(key_of(0)), &None);
+    same(rt, &places.get(key_of(1)), &at(6, 0));
+    same(rt, &places.get(key_of(9)), &None);
+    places.take_over_upto(6, records, &[key_of(0), key_of(7)], 3, 4);
+    same(rt, &places.get(key_of(1)), &at(6, 0));
+    same(rt, &places.get(key_of(9)), &at(6, 1));
+    Ok(())
+}
+
+#[test]
+fn a_checkpoint_is_taken_over_in_parts(rt: HostRuntime) -> Result<(), Fail> {
+    let alloc = rt.alloc();
+    let mut places = Places::new(alloc, 3);
+    let records = two_records(alloc)?;
+    takes_over_in_parts(&rt, &mut places, &records)
+}
+
 #[test]
 fn a_checkpoint_is_taken_over(rt: HostRuntime) -> Result<(), Fail> {
     let alloc = rt.alloc();

@@ -1,6 +1,6 @@
 //! The calls that are tested, each where it may be made.
 use crate::files::merge::making::{have_own_keys, key_of, rises};
-use mvo_merge::{Merged, build, move_places};
+use mvo_merge::{Merged, build, move_places, move_places_upto};
 use mvo_pair::{DataRecord, Live};
 use mvo_places::{Places, RecordPlace};
 use std::alloc::Global;
@@ -44,5 +44,20 @@ pub fn moved(places: &mut Places, data_file: u16, records: &[DataRecord]) -> Res
         return Err(Fail::from("a few records with keys of their own"));
     }
     move_places(places, 2, 4, data_file, records);
+    Ok(())
+}
+
+/// The same in two parts.
+pub fn moved_in_parts(
+    places: &mut Places,
+    data_file: u16,
+    records: &[DataRecord],
+    first: usize,
+) -> Result<(), Fail> {
+    if data_file > 15 || records.len() > 199 || first > records.len() || !have_own_keys(records) {
+        return Err(Fail::from("a few records with keys of their own"));
+    }
+    move_places_upto(places, 2, 4, data_file, records, 0, first);
+    move_places_upto(places, 2, 4, data_file, records, first, records.len());
     Ok(())
 }

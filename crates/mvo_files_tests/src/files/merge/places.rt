@@ -1,6 +1,6 @@
 //! Places after a merge.
 use crate::equal::same_at;
-use crate::files::merge::calls::{moved, place_of, put};
+use crate::files::merge::calls::{moved, moved_in_parts, place_of, put};
 use crate::files::merge::vectors::two_and_two;
 use mvo_pair::DataRecord;
 use mvo_places::Places;
@@ -37,6 +37,16 @@ fn have(rt: &impl Abort, places: &Places, wanted: &[(u64, Option<(u16, usize)>)]
 fn moves(rt: &impl Abort, places: &mut Places, records: &[DataRecord]) -> Result<(), Fail> {
     moved(places, 10, records)?;
     have(rt, places, &AFTER);
+    Ok(())
+}
+
+// So they are where the first record goes before the others.
+#[test]
+fn places_are_moved_in_parts(rt: HostRuntime) -> Result<(), Fail> {
+    let merged = two_and_two(rt.alloc())?;
+    let mut places = before(rt.alloc())?;
+    moved_in_parts(&mut places, 10, &merged.records, 1)?;
+    have(&rt, &places, &AFTER);
     Ok(())
 }
 

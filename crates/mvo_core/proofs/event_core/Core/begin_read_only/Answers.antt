@@ -64,8 +64,8 @@ invariant_of-self-in-Ok c =
       stands =
           whole_stands_on i BeginReadOnly Accepted (record old { table = c.begin.new.self; tale = c.open_reading.new.self })
           (begins_whole i.opening i.steps i.own i.whole old i.stands c.begun_reading.result c.begun_reading.ensures.dependencies
-          (ap (λ w. w.history) c.begun_reading.ensures.work ∙ c.give_list.ensures.history ∙ c.in_ok-work.ensures.history)
-          (ap (λ w. w.words) c.begun_reading.ensures.work ∙ c.give_list.ensures.words ∙ c.in_ok-work.ensures.words) c.begun_reading.ensures.kind (c.begun_reading.ensures.place ∙ place_is)
+          (ap (λ w. w.history) c.begun_reading.ensures.work ∙ c.give_list.ensures.history ∙ c.in_ok-work.ensures)
+          (ap (λ w. w.words) c.begun_reading.ensures.writes ∙ c.take_writes-writes.ensures) c.begun_reading.ensures.kind (c.begun_reading.ensures.place ∙ place_is)
           c.clock-clock.result.0 c.clock-clock.ensures.value c.in-Ok.ensures.no_cause c.begin.new.self c.in-Ok.ensures.ok c.open_reading.new.self tale_is);
       waiting = begun_waits f.table c.begin.new.self c.begun_reading.result f.versions.slots f.waiting c.begin.result c.begin.ensures.ok c.begin.ensures.err c.self.invariant.waiting;
     }
@@ -79,8 +79,8 @@ returns-in-Ok-clause-whole c = λ opening steps own w h.
     let tale_is = c.in_ok-place.ensures.ok ∙ ap (λ (xs : List TalePlace). xs ++ Reading b ∷ []) c.give_list.ensures.tale in
     let place_is = c.in_ok-place.ensures.place ∙ ap (λ (xs : List TalePlace). length xs) c.give_list.ensures.tale in
     begins_whole opening steps own w old g c.begun_reading.result c.begun_reading.ensures.dependencies
-    (ap (λ w. w.history) c.begun_reading.ensures.work ∙ c.give_list.ensures.history ∙ c.in_ok-work.ensures.history)
-    (ap (λ w. w.words) c.begun_reading.ensures.work ∙ c.give_list.ensures.words ∙ c.in_ok-work.ensures.words) c.begun_reading.ensures.kind (c.begun_reading.ensures.place ∙ place_is)
+    (ap (λ w. w.history) c.begun_reading.ensures.work ∙ c.give_list.ensures.history ∙ c.in_ok-work.ensures)
+    (ap (λ w. w.words) c.begun_reading.ensures.writes ∙ c.take_writes-writes.ensures) c.begun_reading.ensures.kind (c.begun_reading.ensures.place ∙ place_is)
     c.clock-clock.result.0 c.clock-clock.ensures.value c.in-Ok.ensures.no_cause c.begin.new.self c.in-Ok.ensures.ok c.open_reading.new.self tale_is
 
 -- ---- the table has no memory: the place that was opened is left

@@ -42,8 +42,8 @@ invariant_of-self-2 c =
           whole_stands_on i (CoreCall Begin) (came c.begin.result) (record old { table = c.begin.new.self })
           (others_lead i.opening i.steps i.own i.whole Begin (came c.begin.result) old (record old { table = c.begin.new.self }) i.stands refl tt
           (begin_leads (readers_of i.whole) i.opening i.own i.whole.core old i.stands.core c.begun.result c.begun.ensures.dependencies
-          (ap (λ w. w.history) c.begun.ensures.work ∙ c.give_list.ensures.history ∙ c.in_ok-work.ensures.history)
-          (ap (λ w. w.words) c.begun.ensures.work ∙ c.give_list.ensures.words ∙ c.in_ok-work.ensures.words) c.begun.ensures.kind
+          (ap (λ w. w.history) c.begun.ensures.work ∙ c.give_list.ensures.history ∙ c.in_ok-work.ensures)
+          (ap (λ w. w.words) c.begun.ensures.writes ∙ c.take_writes-writes.ensures) c.begun.ensures.kind
           c.begin.result c.begin.new.self c.begin.ensures.ok c.begin.ensures.no_cause c.begin.ensures.refused c.begin.ensures.err));
       waiting = begun_waits f.table c.begin.new.self c.begun.result f.versions.slots f.waiting c.begin.result c.begin.ensures.ok c.begin.ensures.err c.self.invariant.waiting;
     }
@@ -55,8 +55,8 @@ returns-clause-step c = λ opening steps s h.
     let g : StandsFor opening steps s (core_data f) = subst (StandsFor opening steps s) (sym c.self.view_is) h in
     let stands : StandsFor opening steps s old = subst (λ (t : List TalePlace). StandsFor opening steps s (record (core_data f) { tale = t })) (sym c.give_list.ensures.tale) g in
     begin_leads no_readers opening steps s old stands c.begun.result c.begun.ensures.dependencies
-    (ap (λ w. w.history) c.begun.ensures.work ∙ c.give_list.ensures.history ∙ c.in_ok-work.ensures.history)
-    (ap (λ w. w.words) c.begun.ensures.work ∙ c.give_list.ensures.words ∙ c.in_ok-work.ensures.words) c.begun.ensures.kind
+    (ap (λ w. w.history) c.begun.ensures.work ∙ c.give_list.ensures.history ∙ c.in_ok-work.ensures)
+    (ap (λ w. w.words) c.begun.ensures.writes ∙ c.take_writes-writes.ensures) c.begun.ensures.kind
     c.begin.result c.begin.new.self c.begin.ensures.ok c.begin.ensures.no_cause c.begin.ensures.refused c.begin.ensures.err
 
 -- ---- beside read-only ones
@@ -83,6 +83,6 @@ returns-clause-whole c = λ opening steps own w h.
     let stands : StandsWhole opening steps own w old = subst (λ (t : List TalePlace). StandsWhole opening steps own w (record (core_data f) { tale = t })) (sym c.give_list.ensures.tale) g in
     others_lead opening steps own w Begin (came c.begin.result) old (record old { table = c.begin.new.self }) stands refl tt
     (begin_leads (readers_of w) opening own w.core old stands.core c.begun.result c.begun.ensures.dependencies
-    (ap (λ w. w.history) c.begun.ensures.work ∙ c.give_list.ensures.history ∙ c.in_ok-work.ensures.history)
-    (ap (λ w. w.words) c.begun.ensures.work ∙ c.give_list.ensures.words ∙ c.in_ok-work.ensures.words) c.begun.ensures.kind
+    (ap (λ w. w.history) c.begun.ensures.work ∙ c.give_list.ensures.history ∙ c.in_ok-work.ensures)
+    (ap (λ w. w.words) c.begun.ensures.writes ∙ c.take_writes-writes.ensures) c.begun.ensures.kind
     c.begin.result c.begin.new.self c.begin.ensures.ok c.begin.ensures.no_cause c.begin.ensures.refused c.begin.ensures.err)

@@ -90,7 +90,7 @@ invariant_of-self g c =
             (
               now,
               c.push_reserved.ensures.sent.0 ∙ ap (λ xs. xs ++ c.unwrap.result ∷ []) c.is_full.ensures.looked.1 ∙ ap (λ (x : GroupData). sent c.args.ring.now ++ x ∷ []) (sym is.1),
-              closed_now (readers_of i.whole) i.opening i.own i.whole.core old i.stands.core low c.low_water-low_water.ensures n c.in_ok-next.ensures.next c.in_ok-next.ensures.rules.above f.closed refl is.0
+              closed_now (readers_of i.whole) i.opening i.own i.whole.core old i.stands.core low c.low_water-low_water.ensures n c.in_ok-next.ensures.next c.in_ok-next.ensures.rules.above (sym c.eq.ensures ∙ c.if-eq.false) f.closed refl is.0
                   c.forget.new.self (c.forget.ensures ∙ ap (λ (n : ℕ). forgotten n f.tale) c.lesser.ensures),
             ),
           )).2.leads;
@@ -110,7 +110,7 @@ returns-clause-step g c = λ opening steps s h.
       (
         now,
         c.push_reserved.ensures.sent.0 ∙ ap (λ xs. xs ++ c.unwrap.result ∷ []) c.is_full.ensures.looked.1 ∙ ap (λ (x : GroupData). sent c.args.ring.now ++ x ∷ []) (sym is.1),
-        closed_now no_readers opening steps s old stands low c.low_water-low_water.ensures n c.in_ok-next.ensures.next c.in_ok-next.ensures.rules.above f.closed refl is.0
+        closed_now no_readers opening steps s old stands low c.low_water-low_water.ensures n c.in_ok-next.ensures.next c.in_ok-next.ensures.rules.above (sym c.eq.ensures ∙ c.if-eq.false) f.closed refl is.0
             c.forget.new.self (c.forget.ensures ∙ ap (λ (n : ℕ). forgotten n f.tale) c.lesser.ensures),
       ),
     )
@@ -166,7 +166,7 @@ returns-clause-whole g c = λ opening steps own w h.
       (
         now,
         c.push_reserved.ensures.sent.0 ∙ ap (λ xs. xs ++ c.unwrap.result ∷ []) c.is_full.ensures.looked.1 ∙ ap (λ (x : GroupData). sent c.args.ring.now ++ x ∷ []) (sym is.1),
-        closed_now (readers_of w) opening own w.core old stands.core low c.low_water-low_water.ensures n c.in_ok-next.ensures.next c.in_ok-next.ensures.rules.above f.closed refl is.0
+        closed_now (readers_of w) opening own w.core old stands.core low c.low_water-low_water.ensures n c.in_ok-next.ensures.next c.in_ok-next.ensures.rules.above (sym c.eq.ensures ∙ c.if-eq.false) f.closed refl is.0
             c.forget.new.self (c.forget.ensures ∙ ap (λ (n : ℕ). forgotten n f.tale) c.lesser.ensures),
       ),
     )

@@ -3,6 +3,7 @@ use Rattle.mvo_store.specs.Seen.{mark_of, pending_of}
 use Rattle.mvo_store.specs.StoreData.{StoreData}
 use Rattle.mvo_store.specs.Causes.{why_not_take}
 use Rattle.mvo_world.proofs.Moves.{nothing_taken}
+use Rattle.mvo_engine.proofs.Passing.{one_more}
 use Rattle.mvo_engine.proofs.Rings.{same_from}
 use Rattle.mvo_engine.proofs.StoreSound.{taken_in, next_follows}
 use Rattle.mvo_engine.proofs.locked_store.LockedStore.take.Goals as goal
@@ -24,7 +25,10 @@ invariant_of-self-2 g c =
       taken_in g.D.Disk i.0 t _ x c.mark.ensures.group none got.0 (ap (λ (y : StoreData _). pending_of y) made) mark (next_follows g.D.Disk i.0 none x got.2) step.honest step.keeps,
       i.1,
       omega (arith, p, mark),
-      same_from f.ring c.pop.new.self c.in-Ok.ensures.ring ∙ i.3,
+      (
+        same_from f.ring c.pop.new.self c.in-Ok.ensures.ring ∙ i.3.0,
+        one_more _ _ _ _ x i.3.1 c.saturating_add-self-inside.ensures got.0,
+      ),
     )
 
 pub accept_group-requires-clause-follows : goal.accept_group-requires-clause-follows

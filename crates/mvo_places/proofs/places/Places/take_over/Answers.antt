@@ -1,14 +1,6 @@
-use Rattle.std.proofs.Common.{arith, ap, ◌∙◌}
-use Rattle.std.specs.FinMap.{insert}
-use Rattle.mvo_types.specs.declared.row.RowKey.{RowKey}
-use Rattle.mvo_pair.specs.Data.{EntryData}
-use Rattle.mvo_places.specs.Places.{place, without_keys}
-use Rattle.mvo_places.proofs.Putting.{took}
+use Rattle.std.proofs.Common.{sym, ◌∙◌}
+use Rattle.mvo_places.proofs.Upto.{none_taken, all_taken}
 use Rattle.mvo_places.proofs.places.Places.take_over.Goals as goal
 
-pub loop-number-preserved : goal.loop-number-preserved
-loop-number-preserved c = (
-  took c.args.data_file c.args.records.now c.loop-number.number c.index-records-number.result (without_keys c.args.gone.now c.args.self.now.at) c.loop-number.self.at c.put.new.self.at c.loop-number-test.true c.index-records-number.is c.loop-number.invariant.0
-      (c.in-Ok.ensures.ok ∙ ap (λ (k : RowKey). insert c.loop-number.self.at k (place c.args.data_file c.loop-number.number)) (ap (λ x. x.row.key) c.entry-inside.view_is ∙ ap (λ (e : EntryData). e.row.key) c.entry.view_is)),
-  omega (arith, c.in-Ok.ensures.room, c.loop-number.invariant.1),
-)
+pub returns : goal.returns
+returns c = c.take_over_upto.ensures.taken c.args.self.now.at (sym (none_taken c.args.data_file c.args.records.now c.args.gone.now c.args.self.now.at)) ∙ all_taken c.args.data_file c.args.records.now c.args.gone.now c.args.self.now.at

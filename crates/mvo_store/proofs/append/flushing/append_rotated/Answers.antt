@@ -1,4 +1,4 @@
-use Rattle.std.proofs.Common.{inr, Ok, subst}
+use Rattle.std.proofs.Common.{inr, subst}
 use Rattle.mvo_store.specs.Wholes.{AreToRefusal, rotation}
 use Rattle.mvo_store.proofs.append.flushing.append_rotated.Goals as goal
 

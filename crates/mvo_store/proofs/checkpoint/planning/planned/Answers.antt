@@ -20,7 +20,8 @@ plan_with c next = record {
   pair = record { data_file = c.two_free-data_file.result.0; delta_file = c.two_free-data_file.result.1; lo = c.checkpoint_mark.result; hi = c.args.contents.mark; records = length c.as_slice-records.result.now; entries = 0 };
   made = c.in_ok-made.made;
   next = next;
-  stage = Data;
+  stage = Data 0;
+  placed = 0;
 }
 
 counts_of : (c : goal.After-deref) (ps : List Pair) → HaveCounts c.deref.result.now ps → HaveCounts c.in_ok-made.made.deltas ps

@@ -1,15 +1,16 @@
 use Rattle.std.proofs.Common.{◌≡◌, ◌∙◌, ap, sym}
-use Rattle.mvo_store.specs.declared.checkpoint.stage.CheckpointStage.TheVariants.{Install as AtInstall}
+use Rattle.mvo_store.specs.declared.checkpoint.stage.CheckpointStage.TheVariants.{Data as AtData, Install as AtInstall}
 use Rattle.mvo_store.specs.declared.checkpoint.checkpointing.Checkpointing.{Checkpointing}
 use Rattle.mvo_store.specs.Jobs.{install_at}
 use Rattle.mvo_store.specs.Jobs.Job.{Checkpoint}
+use Rattle.mvo_store.proofs.Unwritten.{data_step}
 use Rattle.mvo_store.proofs.Written.{fill_step, data_fills, records_hold}
 use Rattle.mvo_store.proofs.jobs.step_files.write_checkpoint.Goals as goal
 
 pub returns-in-Data : goal.returns-in-Data
 returns-in-Data g c =
     let e = c.write_data.ensures in
-    rw (← c.checkpoint.view_is) (fill_step g.D.Disk _ _ _ _ _ c.write_data.result e.count e.refused _ _ (data_fills g.D.Disk _ _ _ _ c.in-Data.is) e.rest e.any_moment (records_hold g.D.Disk _ c.write_data.result _ _ (rw c.deref.ensures.value at e.holds) e.durable))
+    rw (← c.checkpoint.view_is) (data_step g.D.Disk _ _ _ _ _ c.in-Data.is c.write_data.result (fill_step g.D.Disk _ _ _ _ _ c.write_data.result e.count e.refused _ _ (data_fills g.D.Disk _ _ _ (record { pair = _; made = _; next = _; stage = AtData 0; placed = _ })) e.rest e.any_moment (records_hold g.D.Disk _ c.write_data.result _ _ (rw c.deref.ensures.value at e.holds) e.durable)))
 
 pub write_install-requires-clause-stands : goal.write_install-requires-clause-stands
 write_install-requires-clause-stands g c =

@@ -1,0 +1,105 @@
+ghost use Rattle.std.specs.Prelude.{◌≡◌, [], IfOk, OnOk, IsSome, option_copied};
+ghost use Rattle.mvo_types.specs.AnswerData.{answer_data};
+ghost use Rattle.mvo_theory.specs.Entries.{entry_of};
+ghost use Rattle.mvo_shared.specs.Held.{empty_work};
+ghost use Rattle.mvo_shared.specs.Kept.{after_op};
+ghost use Rattle.mvo_content.specs.Shown.{rows_in, AreRowsOf};
+ghost use Rattle.mvo_content.specs.Works.{done_at, work_if_there, works_in};
+ghost use Rattle.mvo_content.specs.Works.{HaveSameWorks, HasWorkFor, IsPreparedAt, MayBeTold};
+
+use crate::content::WorkContent;
+use crate::next_operation::NextOperation;
+use crate::rows_shown::RowsShown;
+use indexmap::IndexMap;
+use mvo_types::{Answer, Op, TxId};
+use std::alloc::{AllocError, Global};
+use std::marker::Model;
+
+/// The works of unfinished transactions, by id. Contracts see what lies in memory, and by it the
+/// work of each id: nothing done, where none lies there. Each call takes constant time, but for
+/// what it does in the work.
+#[derive(Drop)]
+pub struct Works {
+    held: IndexMap<u64, WorkContent>,
+}
+
+impl Model for Works {
+    ghost use Rattle.mvo_content.specs.Works.{WorksData};
+
+    ghost Value = { WorksData };
+
+    ghost view = { λ w. w.held.entries };
+}
+
+impl Works {
+    /// None. It takes no memory.
+    pub fn new(alloc: Global) -> Works
+        ensures { result ≡ [] }
+    {
+        Works {
+            held: IndexMap::new(alloc),
+        }
+    }
+
+    /// The work of the transaction, if one lies there: else it has done nothing.
+    pub fn work(&self, id: TxId) -> Option<&WorkContent>
+        ensures { work_if_there (option_copied result) ≡ works_in self.now id.0 }
+    {
+        self.held.get(&id.0)
+    }
+
+    /// The operation of the transaction with its answer where others show these rows in its entry,
+    /// and room for it, so that telling it takes no memory. Until it is told, nothing is done.
+    pub fn prepare(
+        &mut self,
+        id: TxId,
+        op: Op,
+        others: RowsShown,
+    ) -> Result<NextOperation, AllocError>
+        requires { AreRowsOf (entry_of op) (rows_in others) }
+        ensures same { HaveSameWorks self.old self.new }
+        ensures next { IfOk result (IsPreparedAt self.new id.0 op (rows_in others)) }
+    {
+        self.make_work(id)?;
+        match self.held.get_mut(&id.0) {
+            Some(content) => content.prepare(op, others),
+            None => unreachable!(),
+        }
+    }
+
+    /// A work in which nothing is done lies there, unless one does.
+    fn make_work(&mut self, id: TxId) -> Result<(), AllocError>
+        ensures same { HaveSameWorks self.old self.new }
+        ensures there { OnOk result (IsSome (done_at self.new id.0)) }
+    {
+        if self.held.contains_key(&id.0) {
+            return Ok(());
+        }
+        let content = WorkContent::new(*self.held.allocator());
+        match self.held.insert(id.0, content) {
+            Ok(_) => Ok(()),
+            Err(_) => Err(AllocError),
+        }
+    }
+
+    /// Does the operation that was prepared for the transaction, and answers what it is answered.
+    /// It takes no memory.
+    pub fn tell(&mut self, id: TxId, next: NextOperation) -> Answer
+        requires { MayBeTold self.old id.0 next }
+        ensures told { HasWorkFor self.old self.new id.0
+            (after_op (works_in self.old id.0) next.op next.rows) }
+        ensures answer { answer_data result ≡ next.answer }
+    {
+        match self.held.get_mut(&id.0) {
+            Some(content) => content.tell(next),
+            None => unreachable!(),
+        }
+    }
+
+    /// Forgets what the transaction did, with its memory.
+    pub fn forget(&mut self, id: TxId)
+        ensures { HasWorkFor self.old self.new id.0 empty_work }
+    {
+        let _ = self.held.swap_remove(&id.0);
+    }
+}

@@ -1,0 +1,10 @@
+/// What the store does slice by slice, with its lock taken for each of them.
+#[derive(Clone, Copy, Debug, PartialEq, Eq)]
+pub enum Slice {
+    /// The data file of the checkpoint that runs is written.
+    Checkpoint,
+    /// That of the merge is.
+    Merge,
+    /// The places of the records are put of the job whose manifest is the next to be installed.
+    Places,
+}

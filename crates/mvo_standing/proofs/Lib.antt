@@ -1,0 +1,12 @@
+pub mod Each
+pub mod Versions
+pub mod Table
+pub mod Lists
+pub mod SameRising
+pub mod Scans
+pub mod Others
+pub mod Together
+pub mod Fits
+pub mod Telling
+pub mod Absent
+pub mod Beside
