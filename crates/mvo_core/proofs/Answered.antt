@@ -52,7 +52,9 @@ use Rattle.mvo_core.specs.Readers.{Readers, reader_in, HasTalePlaces}
 use Rattle.mvo_core.specs.Steps.{LeadsAmong}
 use Rattle.mvo_core.proofs.Laws.{answer_in_table, call_keeps}
 use Rattle.mvo_core.proofs.Carried.{stands_roomy, some_own}
-use Rattle.mvo_core.proofs.GoesBeside.{called_beside}
+use Rattle.mvo_content.specs.Works.{WorksData, works_in}
+use Rattle.mvo_standing.specs.Beside.{WasTold}
+use Rattle.mvo_standing.proofs.Beside.{told_beside}
 use Rattle.mvo_core.proofs.OwnChanged.{IsOwnChanged, own_registered_all, state_registered_all, own_changed, own_weaker, words_stay, words_registered}
 use Rattle.mvo_core.proofs.ReaderStages.{AreSameReaders, stages_same, same_reader, readers_but}
 
@@ -141,7 +143,7 @@ pub record IsAnswered (s : State) (c : CoreData) (t : TxId) (r : ActiveTx) (op :
   pub words : HasWordLists (after_answer s t.0 op (answer_in s t.0 op)) v.slots (words_in table)
 
 module _ (rs : Readers) (opening : Map) (steps : List Step) (s : State) (c : CoreData) (h : StandsAmong rs opening steps s c) (t : TxId) (r : ActiveTx) (op : Op) (ids : List TxId)
-    (v : VersionsData) (table : Txns (Node KeptTransaction)) (w : IsAnswered s c t r op ids v table) where
+    (v : VersionsData) (table : Txns (Node KeptTransaction)) (w : IsAnswered s c t r op ids v table) (more : WorksData) (was_told : WasTold s (works_in c.works) t.0 op (works_in more)) where
   abbrev a : AnswerData
   a = answer_in s t.0 op
 
@@ -166,7 +168,7 @@ module _ (rs : Readers) (opening : Map) (steps : List Step) (s : State) (c : Cor
   beside : IsBeside after s
   beside = beside_taken (new_claim s t.0 op a) s (after_operation s t.0 op a).active
 
-  stands_answered : StandsAmong rs opening (steps ++ Answers t.0 op a ∷ []) after (record c { versions = v; table = table })
+  stands_answered : StandsAmong rs opening (steps ++ Answers t.0 op a ∷ []) after (record c { versions = v; table = table; works = more })
   stands_answered = record {
     kept = kept_after_call opening steps s (Do t.0 op) Accepted may_come h.kept;
     versions = record {
@@ -189,10 +191,10 @@ module _ (rs : Readers) (opening : Map) (steps : List Step) (s : State) (c : Cor
     grouped = h.grouped;
     start = beside.0 ∙ h.start;
     over = each_call_keeps_over opening s (phases_of (state_of c.table)) (all_versions c.versions.slots) (Do t.0 op) Accepted h.versions.kept may_come h.versions.versions h.over;
-    beside = called_beside opening steps s (Do t.0 op) Accepted tt may_come h.beside;
+    beside = told_beside opening steps s (works_in c.works) h.beside t.0 op (works_in more) may_come was_told;
   }
 
-  pub answer_leads : LeadsAmong rs opening steps s (Do t.0 op) Accepted (record c { versions = v; table = table })
+  pub answer_leads : LeadsAmong rs opening steps s (Do t.0 op) Accepted (record c { versions = v; table = table; works = more })
   answer_leads = record { may = may_come; stands = stands_answered }
 
 -- ---- an answer by which nothing is written
@@ -253,18 +255,19 @@ module _ (rs : Readers) (opening : Map) (steps : List Step) (s : State) (c : Cor
     words = words;
   }
 
-  pub answer_only_leads : LeadsAmong rs opening steps s (Do t.0 op) Accepted (record c { table = table })
-  answer_only_leads = answer_leads rs opening steps s c h t r op ids c.versions table answered
+  pub answer_only_leads : (more : WorksData) → WasTold s (works_in c.works) t.0 op (works_in more) → LeadsAmong rs opening steps s (Do t.0 op) Accepted (record c { table = table; works = more })
+  answer_only_leads more was_told = answer_leads rs opening steps s c h t r op ids c.versions table answered more was_told
 
 -- so it is where the answer is recorded
 module _ (rs : Readers) (opening : Map) (steps : List Step) (s : State) (c : CoreData) (h : StandsAmong rs opening steps s c) (t : TxId) (r : ActiveTx) (found : active_of t.0 s.active ≡ Some r) (op : Op) (a : AnswerData) where
   pub recorded_leads : why_not_do s t.0 op ≡ None → a ≡ answer_in s t.0 op → write_of op a ≡ None → (ids : List TxId) → AreDependencies s op r ids
-      → (table : Txns (Node KeptTransaction)) → IsRecorded c.table table t ids op a → LeadsAmong rs opening steps s (Do t.0 op) Accepted (record c { table = table })
-  recorded_leads may is unwritten ids on table w =
+      → (table : Txns (Node KeptTransaction)) → IsRecorded c.table table t ids op a → (more : WorksData) → WasTold s (works_in c.works) t.0 op (works_in more)
+      → LeadsAmong rs opening steps s (Do t.0 op) Accepted (record c { table = table; works = more })
+  recorded_leads may is unwritten ids on table w more was_told =
       answer_only_leads rs opening steps s (record c { table = w.roomy }) (stands_roomy rs opening steps s c h t.0 w.roomy w.room) t r op ids table (record {
         found = found;
         may = may;
         on = on;
         told = subst (λ x. IsOwnChanged (after_register_all w.roomy t ids) table t.0 (IsTold op x)) is (own_changed (after_register_all w.roomy t ids) table t.0 (IsTold op a) w.told);
         unwritten = subst (λ x. write_of op x ≡ None) is unwritten;
-      })
+      }) more was_told

@@ -43,7 +43,8 @@ use Rattle.mvo_core.specs.Standing.{HasWorks, IsKeptActive, Stands, own_words_of
 use Rattle.mvo_core.specs.Steps.{came, LeadsOn, LeadsAmong}
 use Rattle.mvo_core.proofs.Laws.{why_not_begun_told, begin_in_table, begin_in_order, begin_in_lists, call_keeps}
 use Rattle.mvo_core.proofs.Carried.{SaysAsMuch, as_much, works_carried}
-use Rattle.mvo_core.proofs.GoesBeside.{called_beside}
+use Rattle.mvo_content.specs.Works.{works_in}
+use Rattle.mvo_standing.proofs.Beside.{begun_beside}
 use Rattle.mvo_core.proofs.ReaderStages.{AreSameReaders, stages_same, readers_but}
 use Rattle.mvo_core.proofs.ReaderTales.{places_later}
 use Rattle.mvo_core.proofs.WrittenThen.{none_own}
@@ -70,6 +71,9 @@ module _ (rs : Readers) (opening : Map) (steps : List Step) (s : State) (c : Cor
       go : (o : Option (TableSeat (Node KeptTransaction))) → get c.table.seats (c.table.clock + 1) ≡ o → o ≡ None
       go None e = refl
       go (Some x) e = let le = h.dependencies.graph.drawn (tx_id (c.table.clock + 1)) (ap is_some e) in absurd (omega (arith, le))
+
+  pub fresh_state : state_of c.table (c.table.clock + 1) ≡ None
+  fresh_state = ap (λ o. option_map (λ x. x.state) o) fresh
 
   pub fresh_own : own_of c.table (c.table.clock + 1) ≡ None
   fresh_own = ap (λ o. option_map (λ n. n.own) (option_map (λ x. x.kept) o)) fresh
@@ -151,7 +155,7 @@ module _ (rs : Readers) (opening : Map) (steps : List Step) (s : State) (c : Cor
       grouped = h.grouped;
       start = h.start;
       over = each_call_keeps_over opening s (phases_of (state_of c.table)) (all_versions c.versions.slots) Begin Accepted h.versions.kept may h.versions.versions h.over;
-      beside = called_beside opening steps s Begin Accepted tt may h.beside;
+      beside = begun_beside opening steps s (works_in c.works) h.beside may;
     }
 
     pub begin_leads : (r : Result TxId Refusal) (table : Txns (Node KeptTransaction)) → OnOk r (table ≡ table_after_begin c.table node) → OnOk r (why_not_begun c.table ≡ None)

@@ -50,12 +50,13 @@ use Rattle.mvo_collect.specs.Begun.{AreOver}
 use Rattle.mvo_core.proofs.ReaderLeaves.{Leaves, own_left}
 use Rattle.mvo_core.specs.declared.kept_transaction.KeptTransaction.{KeptTransaction}
 use Rattle.mvo_core.specs.Data.{CoreData, own_of}
-use Rattle.mvo_core.specs.Beside.{GoesBeside}
+use Rattle.mvo_standing.specs.Beside.{WorksGoBeside}
+use Rattle.mvo_content.specs.Works.{works_in}
 use Rattle.mvo_core.specs.Standing.{HasWorks, IsKeptActive, IsKeptPreparing, own_words_of, words_in, StandsAmong}
 use Rattle.mvo_core.specs.Keeping.{IsWritten, with_own_at}
 use Rattle.mvo_core.specs.Readers.{Readers, reader_in, HaveStages, HasTalePlaces}
 use Rattle.mvo_core.proofs.Carried.{own_here, own_beside}
-use Rattle.mvo_core.proofs.GoesBeside.{called_beside}
+use Rattle.mvo_standing.proofs.Beside.{called_beside}
 use Rattle.mvo_core.proofs.Laws.{write_in_table, call_keeps}
 use Rattle.mvo_core.proofs.ReaderStages.{stages_same, readers_but}
 use Rattle.mvo_core.proofs.FinishLaws.{word_in_table, leave_in_table, finished_stands_for, finish_in_order, leaving_in_order, changed_now}
@@ -74,7 +75,7 @@ pub record StandsBeside (rs : Readers) (opening : Map) (steps : List Step) (s : 
   pub grouped : AreGroupedTo c.tale c.grouped c.closed
   pub start : s.start ≡ c.start
   pub over : AreOver s
-  pub goes : GoesBeside opening steps s
+  pub goes : WorksGoBeside opening steps s (works_in c.works)
 
 pub beside : (rs : Readers) (opening : Map) (steps : List Step) (s : State) (c : CoreData) → StandsAmong rs opening steps s c → StandsBeside rs opening steps s c
 beside rs opening steps s c h = record {
@@ -276,7 +277,7 @@ module _ (rs : Readers) (opening : Map) (steps : List Step) (s : State) (c : Cor
     grouped = h.grouped;
     start = ap (λ (x : State). x.start) (finish_is s u.id) ∙ h.start;
     over = over;
-    goes = called_beside opening steps s (Finish u.id) Accepted tt may h.goes;
+    goes = called_beside opening steps s (works_in c.works) h.goes (Finish u.id) Accepted tt may (λ g ws. refl);
   }
 
   over_finished : MayCome s (Finish u.id) Accepted → AreOver (changes.after_finish s u.id)

@@ -262,7 +262,7 @@ module _ (rs : Readers) (opening : Map) (steps : List Step) (s : State) (c : Cor
 
       stands_committed : HasNoneOpen c.table (data_of c.table t).on → is_own_valid (own_of c.table t.0) ≡ true
           → StandsAmong rs opening (steps ++ Rattle.mvo_theory.specs.Calls.steps_of s (Settle t.0) Accepted) (after_settle s t.0) (record c { table = table; tale = slice_set c.tale place (Settled entry) })
-      stands_committed least v = stands_then rs opening steps s c h (Settle t.0) Accepted table c.versions.lists (slice_set c.tale place (Settled entry)) tt (may v) refl h.versions.numbers
+      stands_committed least v = stands_then rs opening steps s c h (Settle t.0) Accepted table c.versions.lists (slice_set c.tale place (Settled entry)) tt (λ g ws. refl) (may v) refl h.versions.numbers
           (subst (λ z. Rattle.mvo_representation.specs.Dependencies.HasDependencies z table) (ap (after_commit_of s t.0) there.1 ∙ sym (after_is least))
           (commit_in_table opening s taken untold table t end' h.versions.kept (change.dependencies s h.dependencies) before handed.is tells graph))
           (commit_in_order s.start (state_of c.table) (state_of table) c.versions.slots c.versions.lists t.0 end' others was here h.order)

@@ -2,6 +2,7 @@
 use Rattle.std.proofs.Common.{◌≡◌, ℕ, cond, List, [], ◌∷◌, ◌++◌, Option, None, Some, refl, sym, ap, ◌∙◌, subst}
 use Rattle.std.specs.Prelude.{IsSome}
 use Rattle.std.specs.Option.{is_some, option_to_list}
+use Rattle.mvo_types.specs.declared.entry.Entry.TheVariants.{Key}
 use Rattle.mvo_types.specs.declared.ids.TxId.{TxId}
 use Rattle.mvo_types.specs.declared.cause.Cause.{Cause}
 use Rattle.mvo_types.specs.declared.op.Op.TheVariants.{Delete}
@@ -9,6 +10,7 @@ use Rattle.mvo_types.specs.declared.refusal.Refusal.{Refusal}
 use Rattle.mvo_types.specs.declared.refusal.Refusal.TheVariants.{OutOfMemory, WriteConflict}
 use Rattle.mvo_types.specs.declared.row.RowKey.{RowKey}
 use Rattle.mvo_types.specs.AnswerData.AnswerData.{Deleted, Absent}
+use Rattle.mvo_types.specs.RowData.{RowData}
 use Rattle.mvo_types.specs.Keys.{Map}
 use Rattle.mvo_model.specs.Trace.{Step}
 use Rattle.mvo_theory.specs.State.{State, active_of}
@@ -40,9 +42,12 @@ use Rattle.mvo_core.specs.Causes.{why_not_remove}
 use Rattle.mvo_core.specs.Data.{CoreData}
 use Rattle.mvo_core.specs.Ending.{IsRemoved}
 use Rattle.mvo_core.specs.Keeping.{IsWritten, HasDoneAsMuch, HasMadeRoom, HasDoneMore, IsRecorded}
-use Rattle.mvo_core.specs.Looking.{cause_at}
+use Rattle.mvo_core.specs.Looking.{cause_at, row_shown}
 use Rattle.mvo_core.specs.Standing.{StandsAmong}
 use Rattle.mvo_core.specs.Steps.{LeadsAmong}
+use Rattle.mvo_content.specs.Shown.{AreRowsOf}
+use Rattle.mvo_content.specs.Next.{NextData}
+use Rattle.mvo_content.specs.Works.{WorksData, IsPreparedAt, MayBeTold}
 use Rattle.mvo_core.proofs.Answered.{IsAnswered, answer_leads, recorded_leads}
 use Rattle.mvo_core.proofs.Asked.{active_if_removed}
 use Rattle.mvo_core.proofs.Carried.{stands_as_much, stands_roomy}
@@ -52,6 +57,7 @@ use Rattle.mvo_core.proofs.Looked.{IsActiveHere, active_here, shown_in, versions
 use Rattle.mvo_core.proofs.OwnChanged.{IsOwnChanged, own_changed}
 use Rattle.mvo_core.proofs.Refused.{refused_leads, spent_leads}
 use Rattle.mvo_core.proofs.Removed.{deleted}
+use Rattle.mvo_core.proofs.WorksHeld.{IsNextTold, may_be_told, key_fits, key_told}
 
 module _ (rs : Readers) (opening : Map) (steps : List Step) (s : State) (c : CoreData) (h : StandsAmong rs opening steps s c) (t : TxId) (k : RowKey) (other : stage_of t.0 rs.unfinished ≡ None) where
   pub delete_refused : (r : Refusal) → why_not_remove c.table t.0 k ≡ Some r → (new : CoreData) → StandsAmong rs opening (steps ++ steps_of_refusal t.0 r) (after_refusal s t.0 r) new
@@ -107,13 +113,20 @@ module _ (rs : Readers) (opening : Map) (steps : List Step) (s : State) (c : Cor
             → LeadsAmong rs opening steps s (Do t.0 (Delete k)) (Refused OutOfMemory) (record c { versions = versions; table = table })
         delete_left versions same table w = subst (λ (v : VersionsData). LeadsAmong rs opening steps s (Do t.0 (Delete k)) (Refused OutOfMemory) (record c { versions = v; table = table })) (sym same) (delete_spent table w)
 
+        -- its work may be told
+        pub delete_may_be_told : (rows : List RowData) (n : NextData) → IsPreparedAt c.works t.0 (Delete k) rows n → MayBeTold c.works t.0 n
+        delete_may_be_told rows n p = may_be_told rs opening steps s c h t.0 (Delete k) may rows n p
+
+        pub delete_fits : AreRowsOf (Key k) (option_to_list (row_shown c.versions.slots found.version))
+        delete_fits = key_fits rs opening steps s c h t.0 here k found is
+
         -- nothing is there
         pub absent_answers : found.version ≡ None → Absent ≡ answer_in s t.0 (Delete k)
         absent_answers e = sym (answer_is ∙ ap (λ (o : Option VersionNo). cond (is_some o) Deleted Absent) e)
 
         pub absent_leads : found.version ≡ None → (table : Txns (Node KeptTransaction)) → IsRecorded c.table table t (option_to_list found.depends_on) (Delete k) Absent
-            → LeadsAmong rs opening steps s (Do t.0 (Delete k)) Accepted (record c { table = table })
-        absent_leads e table w = recorded_leads rs opening steps s c h t here.tx here.found (Delete k) Absent may (absent_answers e) refl (option_to_list found.depends_on) on table w
+            → (more : WorksData) → IsNextTold c.works t.0 (Delete k) (option_to_list (row_shown c.versions.slots found.version)) more → LeadsAmong rs opening steps s (Do t.0 (Delete k)) Accepted (record c { table = table; works = more })
+        absent_leads e table w more next = recorded_leads rs opening steps s c h t here.tx here.found (Delete k) Absent may (absent_answers e) refl (option_to_list found.depends_on) on table w more (key_told rs opening steps s c h t.0 here k found is (Delete k) refl may more next)
 
         -- the version is ended
         module _ (n : VersionNo) (e : found.version ≡ Some n) where
@@ -144,9 +157,10 @@ module _ (rs : Readers) (opening : Map) (steps : List Step) (s : State) (c : Cor
             claim : Claim here.tx.id
             claim e' free' w' told' may' = deleted rs opening steps s (record c { table = w.recorded.roomy }) stands here.tx mine k n e' free' (option_to_list found.depends_on) versions table w' told' on may'
 
-            pub deleted_leads : LeadsAmong rs opening steps s (Do t.0 (Delete k)) Accepted (record c { versions = versions; table = table })
-            deleted_leads = answer_leads rs opening steps s (record c { table = w.recorded.roomy }) stands t here.tx (Delete k) (option_to_list found.depends_on) versions table
+            pub deleted_leads : (more : WorksData) → IsNextTold c.works t.0 (Delete k) (option_to_list (row_shown c.versions.slots found.version)) more → LeadsAmong rs opening steps s (Do t.0 (Delete k)) Accepted (record c { versions = versions; table = table; works = more })
+            deleted_leads more next = answer_leads rs opening steps s (record c { table = w.recorded.roomy }) stands t here.tx (Delete k) (option_to_list found.depends_on) versions table
                 (subst Claim id claim
                 (subst (λ (st : States). (shown_to st t.0 t.0 (versions_at c.versions.slots c.versions.lists k)).version ≡ Some n) states (ap (λ (x : Shown). x.version) (sym shown) ∙ e))
                 (subst (λ (st : States). cause_at st c.versions.slots t.0 (Some n) ≡ None) states (ap (cause_at (state_of c.table) c.versions.slots t.0) (sym e) ∙ free))
-                w.ended told may)
+                w.ended told may) more
+                (key_told rs opening steps s c h t.0 here k found is (Delete k) refl may more next)

@@ -238,7 +238,7 @@ module _ (rs : Readers) (opening : Map) (steps : List Step) (s : State) (c : Cor
       state_then = ap (after_precommit_of s) found.1
 
       drawn : stage_of t.0 rs.unfinished ≡ None → why_not_precommit s t.0 ≡ None → StandsAmong rs opening (steps ++ theory.steps_of s (Precommit t.0) Accepted) (after_precommit s t.0) (record c { versions = record c.versions { lists = lists }; table = table; tale = tale })
-      drawn other free = stands_then rs opening steps s c h (Precommit t.0) Accepted table lists tale tt (free, tt) refl
+      drawn other free = stands_then rs opening steps s c h (Precommit t.0) Accepted table lists tale tt (λ g ws. refl) (free, tt) refl
           (fronts_in_numbers (comes_at_draw (state_of c.table) t.0) c.versions.slots c.versions.lists numbers h.versions.numbers)
           (precommit_in_table opening s placed t.0 h.versions.kept deps still_active)
           (draw_in_order opening s (state_of c.table) (state_of table) c.versions.slots c.versions.lists c.versions.places t.0 end' numbers h.versions was_active others here end_is written h.order)

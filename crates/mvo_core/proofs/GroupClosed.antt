@@ -48,7 +48,9 @@ use Rattle.mvo_core.specs.Data.{CoreData}
 use Rattle.mvo_core.specs.Standing.{words_in, StandsAmong}
 use Rattle.mvo_core.specs.Closing.{IsClosedAmong, IsNotClosedAmong, HasClosedAmong}
 use Rattle.mvo_standing.proofs.Fits.{fits_alike}
-use Rattle.mvo_core.proofs.GoesBeside.{called_beside, called_beside_so}
+use Rattle.mvo_content.specs.Works.{works_in}
+use Rattle.mvo_standing.proofs.Beside.{called_beside}
+use Rattle.mvo_core.proofs.GoesBeside.{called_beside_so}
 use Rattle.mvo_core.proofs.KeptTale.{opens_above_among, next_group_among}
 use Rattle.mvo_core.proofs.Trimmed.{stands_forgotten, low_water_told}
 use Rattle.rtrb.specs.declared.producer.Producer.{Producer}
@@ -138,8 +140,8 @@ module _ (rs : Readers) (opening : Map) (steps : List Step) (s : State) (c : Cor
         grouped = are.next;
         start = h.start;
         over = h.over;
-        beside = called_beside_so opening steps s (after_close s n.mark.0)
-            (called_beside opening steps s (Close fits (record { prev = s.marks.closed; mark = n.mark.0; commits = in_state.taken }) false) Accepted fits_alike (closes moved, next_is) h.beside);
+        beside = called_beside_so opening steps (after_close s n.mark.0) (works_in c.works)
+            (called_beside opening steps s (works_in c.works) h.beside (Close fits (record { prev = s.marks.closed; mark = n.mark.0; commits = in_state.taken }) false) Accepted fits_alike (closes moved, next_is) (λ g ws. refl));
       }
 
       -- and what is both in a group and trimmed is forgotten

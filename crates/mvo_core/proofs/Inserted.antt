@@ -40,6 +40,8 @@ use Rattle.mvo_core.specs.Inserting.{IsInserted}
 use Rattle.mvo_core.specs.Keeping.{HasDoneMore}
 use Rattle.mvo_core.specs.Standing.{words_in, StandsAmong}
 use Rattle.mvo_core.specs.Steps.{LeadsAmong}
+use Rattle.mvo_content.specs.Works.{WorksData, works_in}
+use Rattle.mvo_standing.specs.Beside.{WasTold}
 use Rattle.mvo_core.proofs.Answered.{HasAnswered, IsAnswered, answer_leads, done_so}
 use Rattle.mvo_core.proofs.Carried.{stands_roomy}
 use Rattle.mvo_core.proofs.Looked.{IsActiveHere, shown_in, none_is, key_is}
@@ -127,5 +129,5 @@ module _ (rs : Readers) (opening : Map) (steps : List Step) (s : State) (c : Cor
     words = subst (λ a. HasWordLists (after_answer s t.0 (Insert row) a) new.slots (words_in table)) insert_answers words;
   }
 
-  pub inserted_leads : LeadsAmong rs opening steps s (Do t.0 (Insert row)) Accepted (record c { versions = new; table = table })
-  inserted_leads = answer_leads rs opening steps s (record c { table = w.recorded.roomy }) stands t here.tx (Insert row) ids new table answered
+  pub inserted_leads : (more : WorksData) → WasTold s (works_in c.works) t.0 (Insert row) (works_in more) → LeadsAmong rs opening steps s (Do t.0 (Insert row)) Accepted (record c { versions = new; table = table; works = more })
+  inserted_leads more was_told = answer_leads rs opening steps s (record c { table = w.recorded.roomy }) stands t here.tx (Insert row) ids new table answered more was_told

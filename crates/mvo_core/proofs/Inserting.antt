@@ -2,6 +2,7 @@
 use Rattle.std.proofs.Common.{◌≡◌, true, false, cond, List, ◌++◌, Option, None, Some, refl, sym, ap, ◌∙◌, subst}
 use Rattle.std.specs.Option.{option_to_list, is_some}
 use Rattle.std.proofs.lemmas.Bool.{false≢true}
+use Rattle.mvo_types.specs.declared.entry.Entry.TheVariants.{Key}
 use Rattle.mvo_types.specs.declared.ids.TxId.{TxId}
 use Rattle.mvo_types.specs.declared.op.Op.TheVariants.{Insert}
 use Rattle.mvo_types.specs.declared.refusal.Refusal.{Refusal}
@@ -31,9 +32,12 @@ use Rattle.mvo_core.specs.Causes.{why_not_put}
 use Rattle.mvo_core.specs.Data.{CoreData}
 use Rattle.mvo_core.specs.Inserting.{IsInserted}
 use Rattle.mvo_core.specs.Keeping.{IsWritten, HasDoneAsMuch, IsRecorded}
-use Rattle.mvo_core.specs.Looking.{HasSameVersions}
+use Rattle.mvo_core.specs.Looking.{HasSameVersions, row_shown}
 use Rattle.mvo_core.specs.Standing.{StandsAmong}
 use Rattle.mvo_core.specs.Steps.{LeadsAmong}
+use Rattle.mvo_content.specs.Shown.{AreRowsOf}
+use Rattle.mvo_content.specs.Next.{NextData}
+use Rattle.mvo_content.specs.Works.{WorksData, IsPreparedAt, MayBeTold}
 use Rattle.mvo_core.proofs.Answered.{recorded_leads}
 use Rattle.mvo_core.proofs.Asked.{active_if_put}
 use Rattle.mvo_core.proofs.Carried.{stands_as_much}
@@ -42,6 +46,7 @@ use Rattle.mvo_core.proofs.Inserted.{inserted_leads}
 use Rattle.mvo_core.proofs.Looked.{IsActiveHere, active_here, shown_in, versions_in_order, key_is, names_just}
 use Rattle.mvo_core.proofs.Refused.{refused_leads, spent_leads}
 use Rattle.mvo_core.proofs.SameVersions.{stands_same_versions}
+use Rattle.mvo_core.proofs.WorksHeld.{IsNextTold, may_be_told, key_fits, key_told}
 
 none_shown : (o : Option VersionNo) → is_some o ≡ false → o ≡ None
 none_shown None e = refl
@@ -72,6 +77,13 @@ module _ (rs : Readers) (opening : Map) (steps : List Step) (s : State) (c : Cor
         spent_leads rs opening steps s t.0 (Insert row) (record c { versions = new; table = table }) may
         (stands_same_versions rs opening steps s (record c { table = table }) (stands_as_much rs opening steps s c h t.0 table w) new same (indexed (record { numbers = h.versions.numbers; order = h.versions.order })))
 
+    -- its work may be told
+    pub insert_may_be_told : (rows : List RowData) (n : NextData) → IsPreparedAt c.works t.0 (Insert row) rows n → MayBeTold c.works t.0 n
+    insert_may_be_told rows n p = may_be_told rs opening steps s c h t.0 (Insert row) may rows n p
+
+    pub insert_fits : (found : Shown) → (AreVersionsInOrder (state_of c.table) t.0 t.0 (versions_at c.versions.slots c.versions.lists row.key) → found ≡ shown_in c t.0 row.key) → AreRowsOf (Key row.key) (option_to_list (row_shown c.versions.slots found.version))
+    insert_fits found is = key_fits rs opening steps s c h t.0 here row.key found is
+
     -- answered
     module _ (found : Shown) (is : AreVersionsInOrder (state_of c.table) t.0 t.0 (versions_at c.versions.slots c.versions.lists row.key) → found ≡ shown_in c t.0 row.key) where
       shown : found ≡ shown_in c t.0 row.key
@@ -86,17 +98,18 @@ module _ (rs : Readers) (opening : Map) (steps : List Step) (s : State) (c : Cor
       exists_answers seen = sym (ap (λ b. cond b Exists Inserted) (key_is rs opening steps s c h t.0 here.tx here.found row.key ∙ ap (λ (x : Shown). is_some x.version) (sym shown) ∙ seen))
 
       pub exists_leads : is_some found.version ≡ true → (table : Txns (Node KeptTransaction)) → IsRecorded c.table table t (option_to_list found.depends_on) (Insert row) Exists
-          → LeadsAmong rs opening steps s (Do t.0 (Insert row)) Accepted (record c { table = table })
-      exists_leads seen table w = recorded_leads rs opening steps s c h t here.tx here.found (Insert row) Exists may (exists_answers seen) refl (option_to_list found.depends_on) on table w
+          → (more : WorksData) → IsNextTold c.works t.0 (Insert row) (option_to_list (row_shown c.versions.slots found.version)) more → LeadsAmong rs opening steps s (Do t.0 (Insert row)) Accepted (record c { table = table; works = more })
+      exists_leads seen table w more next = recorded_leads rs opening steps s c h t here.tx here.found (Insert row) Exists may (exists_answers seen) refl (option_to_list found.depends_on) on table w more (key_told rs opening steps s c h t.0 here row.key found is (Insert row) refl may more next)
 
       -- and where none does
       unseen : is_some found.version ≡ false → (shown_in c t.0 row.key).version ≡ None
       unseen e = ap (λ (x : Shown). x.version) (sym shown) ∙ none_shown found.version e
 
       pub insert_leads : is_some found.version ≡ false → (new : VersionsData) (table : Txns (Node KeptTransaction)) → IsInserted c.versions new c.table table t (option_to_list found.depends_on) row → (AreIndexed c.versions → AreIndexed new)
-          → LeadsAmong rs opening steps s (Do t.0 (Insert row)) Accepted (record c { versions = new; table = table })
-      insert_leads e new table w indexed =
-          inserted_leads rs opening steps s c h t row may here (unseen e) (option_to_list found.depends_on) on new table w (indexed (record { numbers = h.versions.numbers; order = h.versions.order }))
+          → (more : WorksData) → IsNextTold c.works t.0 (Insert row) (option_to_list (row_shown c.versions.slots found.version)) more → LeadsAmong rs opening steps s (Do t.0 (Insert row)) Accepted (record c { versions = new; table = table; works = more })
+      insert_leads e new table w indexed more next =
+          inserted_leads rs opening steps s c h t row may here (unseen e) (option_to_list found.depends_on) on new table w (indexed (record { numbers = h.versions.numbers; order = h.versions.order })) more
+          (key_told rs opening steps s c h t.0 here row.key found is (Insert row) refl may more next)
 
       pub inserted_answers : is_some found.version ≡ false → Inserted ≡ answer_in s t.0 (Insert row)
       inserted_answers e = sym (ap (λ b. cond b Exists Inserted) (key_is rs opening steps s c h t.0 here.tx here.found row.key ∙ ap is_some (unseen e)))

@@ -1,6 +1,7 @@
 pub mod Begun
 pub mod Carried
 pub mod GoesBeside
+pub mod WorksHeld
 pub mod CausesTold
 pub mod Laws
 pub mod TakenBack
@@ -78,6 +79,7 @@ pub mod ScanDepends
 pub mod SameRising
 pub mod ScanRefused
 pub mod ScanSame
+pub mod OthersShown
 pub mod ScanAnswered
 pub mod Awaiting
 pub mod Waits

@@ -39,7 +39,7 @@ use Rattle.mvo_core.specs.declared.kept_transaction.KeptTransaction.{KeptTransac
 use Rattle.mvo_core.specs.Data.{CoreData, own_of}
 use Rattle.mvo_core.specs.Standing.{HasOpenedOver, own_words_of, words_in}
 use Rattle.mvo_core.specs.WholeStanding.{StandsInWhole}
-use Rattle.mvo_core.proofs.GoesBeside.{opens_beside}
+use Rattle.mvo_standing.proofs.Beside.{opens_beside}
 use Rattle.mvo_readonly.specs.Whole.{opened_whole}
 use Rattle.mvo_readonly.proofs.WholeRuns.{whole_opened}
 
@@ -76,7 +76,7 @@ module _ (rows : Map) (mark : ℕ) (v : VersionsData) (is : AreLoaded rows mark 
   words : HasWordLists (opened rows mark) v.slots (words_in (no_txns {P = Node KeptTransaction} mark))
   words = subst (HasWordLists (opened rows mark) v.slots) (sym no_words) (opening_has_lists rows mark (state_of (no_txns {P = Node KeptTransaction} mark)) v.slots versions)
 
-  pub opens : HasOpenedOver rows mark (record { versions = v; table = no_txns mark; tale = []; start = mark; opening = mark; closed = mark; grouped = 0 })
+  pub opens : HasOpenedOver rows mark (record { versions = v; table = no_txns mark; tale = []; works = []; start = mark; opening = mark; closed = mark; grouped = 0 })
   opens = record {
     kept = kept_opened rows mark;
     versions = record { kept = standing_opened rows mark; versions = versions; numbers = indexed.numbers; order = indexed.order };
@@ -99,10 +99,10 @@ module _ (rows : Map) (mark : ℕ) (v : VersionsData) (is : AreLoaded rows mark 
   opened_waits clock states w nothing = opening_waits clock mark states v.slots w (subst (AllByRecursion (IsLoadedAt mark)) (sym is) (all_loaded mark (fin.entries rows))) nothing
 
   -- what the table and the tale are
-  pub opens_as : (c : CoreData) → c.versions ≡ v → c.table ≡ no_txns mark → c.tale ≡ [] → c.start ≡ mark → c.opening ≡ mark → c.closed ≡ mark → c.grouped ≡ 0 → HasOpenedOver rows mark c
-  opens_as c is_versions is_table is_tale is_start is_opening is_closed is_grouped =
+  pub opens_as : (c : CoreData) → c.versions ≡ v → c.table ≡ no_txns mark → c.tale ≡ [] → c.works ≡ [] → c.start ≡ mark → c.opening ≡ mark → c.closed ≡ mark → c.grouped ≡ 0 → HasOpenedOver rows mark c
+  opens_as c is_versions is_table is_tale is_works is_start is_opening is_closed is_grouped =
       subst (HasOpenedOver rows mark)
-      (λ i. record { versions = sym is_versions i; table = sym is_table i; tale = sym is_tale i; start = sym is_start i; opening = sym is_opening i; closed = sym is_closed i; grouped = sym is_grouped i }) opens
+      (λ i. record { versions = sym is_versions i; table = sym is_table i; tale = sym is_tale i; works = sym is_works i; start = sym is_start i; opening = sym is_opening i; closed = sym is_closed i; grouped = sym is_grouped i }) opens
 
 pub opened_stands : (rows : Map) (mark : ℕ) (c : CoreData) → HasOpenedOver rows mark c → StandsInWhole c
 opened_stands rows mark c h = record { opening = rows; steps = []; own = []; whole = opened_whole rows mark; stands = record { core = h; kept = whole_opened rows mark }; closed = (chained_opened rows mark).closed }

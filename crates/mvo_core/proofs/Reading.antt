@@ -32,12 +32,16 @@ use Rattle.mvo_core.specs.Looking.{row_shown}
 use Rattle.mvo_core.specs.Standing.{StandsAmong}
 use Rattle.mvo_core.specs.Steps.{LeadsAmong}
 use Rattle.mvo_representation.specs.Dependencies.{AreDependencies}
+use Rattle.mvo_content.specs.Shown.{AreRowsOf}
+use Rattle.mvo_content.specs.Next.{NextData}
+use Rattle.mvo_content.specs.Works.{WorksData, IsPreparedAt, MayBeTold}
 use Rattle.mvo_core.proofs.Answered.{recorded_leads}
 use Rattle.mvo_core.proofs.Asked.{active_if_looked}
 use Rattle.mvo_core.proofs.Carried.{stands_as_much}
 use Rattle.mvo_core.proofs.CausesTold.{not_read_is, MayLook}
 use Rattle.mvo_core.proofs.Looked.{IsActiveHere, active_here, shown_in, versions_in_order, row_is, names_just}
 use Rattle.mvo_core.proofs.Refused.{refused_leads, spent_leads}
+use Rattle.mvo_core.proofs.WorksHeld.{IsNextTold, may_be_told, key_fits, key_told}
 
 module _ (rs : Readers) (opening : Map) (steps : List Step) (s : State) (c : CoreData) (h : StandsAmong rs opening steps s c) (t : TxId) (k : RowKey) (looks : MayLook (stage_of t.0 rs.unfinished)) where
   pub read_refused : (r : Refusal) → why_not_look c.table t.0 k.table (Key k) ≡ Some r → (new : CoreData) → StandsAmong rs opening (steps ++ steps_of_refusal t.0 r) (after_refusal s t.0 r) new
@@ -58,6 +62,13 @@ module _ (rs : Readers) (opening : Map) (steps : List Step) (s : State) (c : Cor
     pub read_spent_roomy : (table : Txns (Node KeptTransaction)) → IsWritten c.table table t.0 HasDoneAsMuch → LeadsAmong rs opening steps s (Do t.0 (Read k)) (Refused OutOfMemory) (record c { table = table })
     read_spent_roomy table w = spent_leads rs opening steps s t.0 (Read k) (record c { table = table }) may (stands_as_much rs opening steps s c h t.0 table w)
 
+    -- its work may be told
+    pub read_may_be_told : (rows : List RowData) (n : NextData) → IsPreparedAt c.works t.0 (Read k) rows n → MayBeTold c.works t.0 n
+    read_may_be_told rows n p = may_be_told rs opening steps s c h t.0 (Read k) may rows n p
+
+    pub read_fits : (found : Shown) → (AreVersionsInOrder (state_of c.table) t.0 t.0 (versions_at c.versions.slots c.versions.lists k) → found ≡ shown_in c t.0 k) → AreRowsOf (Key k) (option_to_list (row_shown c.versions.slots found.version))
+    read_fits found is = key_fits rs opening steps s c h t.0 here k found is
+
     -- answered
     module _ (found : Shown) (is : AreVersionsInOrder (state_of c.table) t.0 t.0 (versions_at c.versions.slots c.versions.lists k) → found ≡ shown_in c t.0 k) (row : Option RowData)
         (told : row ≡ row_shown c.versions.slots found.version) where
@@ -71,7 +82,8 @@ module _ (rs : Readers) (opening : Map) (steps : List Step) (s : State) (c : Cor
       read_answers = ap Found row_there
 
       pub read_leads : (table : Txns (Node KeptTransaction)) → IsRecorded c.table table t (option_to_list found.depends_on) (Read k) (Found row)
-          → LeadsAmong rs opening steps s (Do t.0 (Read k)) Accepted (record c { table = table })
-      read_leads table w =
+          → (more : WorksData) → IsNextTold c.works t.0 (Read k) (option_to_list (row_shown c.versions.slots found.version)) more → LeadsAmong rs opening steps s (Do t.0 (Read k)) Accepted (record c { table = table; works = more })
+      read_leads table w more next =
           recorded_leads rs opening steps s c h t here.tx here.found (Read k) (Found row) may read_answers refl (option_to_list found.depends_on)
-          (subst (λ (x : Shown). AreDependencies s (Read k) here.tx (option_to_list x.depends_on)) (sym shown) (names_just rs opening steps s c h t.0 here.tx here.found k (Read k) refl)) table w
+          (subst (λ (x : Shown). AreDependencies s (Read k) here.tx (option_to_list x.depends_on)) (sym shown) (names_just rs opening steps s c h t.0 here.tx here.found k (Read k) refl)) table w more
+          (key_told rs opening steps s c h t.0 here k found is (Read k) refl may more next)

@@ -33,7 +33,9 @@ use Rattle.mvo_collect.proofs.Over.{each_call_keeps_over}
 use Rattle.mvo_core.specs.Data.{CoreData}
 use Rattle.mvo_core.specs.Standing.{HasWorks, words_in, StandsAmong}
 use Rattle.mvo_core.proofs.Laws.{call_keeps}
-use Rattle.mvo_core.proofs.GoesBeside.{called_beside}
+use Rattle.mvo_standing.specs.Beside.{LeavesWorks}
+use Rattle.mvo_content.specs.Works.{works_in}
+use Rattle.mvo_standing.proofs.Beside.{called_beside}
 
 -- the rest is that of the state: what is kept of each, the tale and the marks
 pub record HasRest (rs : Readers) (s : State) (table : Txns (Node KeptTransaction)) (slots : List TalePlace) (c : CoreData) : Type 0 where
@@ -61,7 +63,7 @@ module _ (rs : Readers) (opening : Map) (steps : List Step) (s : State) (c : Cor
   phases = λ i u. h.dependencies.stands.phases u i
 
   -- a call that changes no version, and brings some to the front of their keys
-  pub stands_then : (call : Call) (r : Result) (table : Txns (Node KeptTransaction)) (lists : Lists) (tale : List TalePlace) → IsByWrites call → MayCome s call r
+  pub stands_then : (call : Call) (r : Result) (table : Txns (Node KeptTransaction)) (lists : Lists) (tale : List TalePlace) → IsByWrites call → LeavesWorks call r → MayCome s call r
       → IsAfterCall s (phase_in s) call r (all_versions c.versions.slots) (all_versions c.versions.slots)
       → HasNumbers c.versions.slots lists
       → HasDependencies (after_call s call r) table
@@ -69,7 +71,7 @@ module _ (rs : Readers) (opening : Map) (steps : List Step) (s : State) (c : Cor
       → HasWordLists (after_call s call r) c.versions.slots (words_in table)
       → HasRest rs (after_call s call r) table tale c
       → StandsAmong rs opening (steps ++ steps_of s call r) (after_call s call r) (record c { versions = record c.versions { lists = lists }; table = table; tale = tale })
-  stands_then call r table lists tale by may same numbers deps order words rest = record {
+  stands_then call r table lists tale by leaves may same numbers deps order words rest = record {
     kept = kept_after_call opening steps s call r may h.kept;
     versions = record {
       kept = standing_of opening (steps ++ steps_of s call r) (after_call s call r) (kept_after_call opening steps s call r may h.kept);
@@ -90,5 +92,5 @@ module _ (rs : Readers) (opening : Map) (steps : List Step) (s : State) (c : Cor
     grouped = rest.grouped;
     start = rest.start;
     over = each_call_keeps_over opening s (phases_of (state_of c.table)) (all_versions c.versions.slots) call r h.versions.kept may h.versions.versions h.over;
-    beside = called_beside opening steps s call r by may h.beside;
+    beside = called_beside opening steps s (works_in c.works) h.beside call r by may leaves;
   }

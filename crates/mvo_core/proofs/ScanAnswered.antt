@@ -22,18 +22,28 @@ use Rattle.mvo_core.specs.Causes.{why_not_look}
 use Rattle.mvo_core.specs.Data.{CoreData}
 use Rattle.mvo_core.specs.Keeping.{IsRecorded}
 use Rattle.mvo_core.specs.Scanning.{IsSeen, IsScanned}
+use Rattle.mvo_core.specs.Others.{AreOthersShown}
 use Rattle.mvo_core.specs.Standing.{StandsAmong}
 use Rattle.mvo_core.specs.Steps.{LeadsAmong}
+use Rattle.mvo_content.specs.Shown.{AreRowsOf}
+use Rattle.mvo_content.specs.Next.{NextData}
+use Rattle.mvo_content.specs.Works.{WorksData, IsPreparedAt, MayBeTold}
 use Rattle.mvo_core.proofs.Answered.{recorded_leads}
 use Rattle.mvo_core.proofs.Asked.{active_if_looked}
 use Rattle.mvo_core.proofs.Looked.{IsActiveHere, active_here}
 use Rattle.mvo_core.proofs.ScanDepends.{scan_seen, scan_depends}
 use Rattle.mvo_core.proofs.ScanRefused.{may_scan}
 use Rattle.mvo_core.proofs.ScanSame.{rows_are_scan}
+use Rattle.mvo_core.proofs.OthersShown.{others_are, others_fit}
+use Rattle.mvo_core.proofs.WorksHeld.{IsNextTold, may_be_told, was_told}
 
 module _ (rs : Readers) (opening : Map) (steps : List Step) (s : State) (c : CoreData) (h : StandsAmong rs opening steps s c) (t : TxId) (of lo hi : ℕ) (none : why_not_look c.table t.0 of (Range of lo hi) ≡ None) (looks : MayLook (stage_of t.0 rs.unfinished)) where
   here : IsActiveHere s c t.0
   here = active_here rs opening steps s c h t.0 (active_if_looked c.table t.0 of (Range of lo hi) none)
+
+  -- its work may be told
+  pub scan_may_be_told : (others : List RowData) (n : NextData) → IsPreparedAt c.works t.0 (Scan of lo hi) others n → MayBeTold c.works t.0 n
+  scan_may_be_told others n p = may_be_told rs opening steps s c h t.0 (Scan of lo hi) (may_scan rs opening steps s c h t of lo hi looks none) others n p
 
   module _ (rows : List RowData) (on : List TxId) (w : IsScanned (state_of c.table) c.versions c.start t.0 of lo hi rows on) where
     seen : IsSeen (state_of c.table) c.versions s.start t.0 of lo hi rows on
@@ -45,10 +55,14 @@ module _ (rs : Readers) (opening : Map) (steps : List Step) (s : State) (c : Cor
     pub scan_answers : Rows rows ≡ answer_in s t.0 (Scan of lo hi)
     scan_answers = ap Rows rows_there
 
+    pub scan_fits : (others : List RowData) → AreOthersShown c.table c.versions t.0 of lo hi rows others → AreRowsOf (Range of lo hi) others
+    scan_fits others o = others_fit rs opening steps s c h t.0 here of lo hi rows others rows_there o
+
     -- with these ids, and these rows
     pub scan_leads : (told : List RowData) → told ≡ rows → (ids : List TxId) → ids ≡ on → (table : Txns (Node KeptTransaction)) → IsRecorded c.table table t ids (Scan of lo hi) (Rows told)
-        → LeadsAmong rs opening steps s (Do t.0 (Scan of lo hi)) Accepted (record c { table = table })
-    scan_leads told same ids all table k =
+        → (others : List RowData) → AreOthersShown c.table c.versions t.0 of lo hi rows others → (more : WorksData) → IsNextTold c.works t.0 (Scan of lo hi) others more → LeadsAmong rs opening steps s (Do t.0 (Scan of lo hi)) Accepted (record c { table = table; works = more })
+    scan_leads told same ids all table k others o more next =
         recorded_leads rs opening steps s c h t here.tx here.found (Scan of lo hi) (Rows told) (may_scan rs opening steps s c h t of lo hi looks none) (ap Rows (same ∙ rows_there)) refl on
         (scan_depends rs opening steps s c h t.0 of lo hi rows on here.tx here.found seen) table
-        (subst (λ (xs : List TxId). IsRecorded c.table table t xs (Scan of lo hi) (Rows told)) all k)
+        (subst (λ (xs : List TxId). IsRecorded c.table table t xs (Scan of lo hi) (Rows told)) all k) more
+        (was_told rs opening steps s c h t.0 (Scan of lo hi) (may_scan rs opening steps s c h t of lo hi looks none) others (λ new. others_are rs opening steps s c h t.0 here of lo hi rows others rows_there o) more next)

@@ -51,7 +51,9 @@ use Rattle.mvo_core.specs.Data.{CoreData}
 use Rattle.mvo_core.specs.Standing.{StandsFor, IsKeptPreparing, words_in, StandsAmong}
 use Rattle.mvo_core.specs.Steps.{LeadsAmong}
 use Rattle.mvo_core.specs.Trimming.{may_trim_to, IsTaleOf}
-use Rattle.mvo_core.proofs.GoesBeside.{called_beside, called_beside_so}
+use Rattle.mvo_content.specs.Works.{works_in}
+use Rattle.mvo_standing.proofs.Beside.{called_beside}
+use Rattle.mvo_core.proofs.GoesBeside.{called_beside_so}
 use Rattle.mvo_core.proofs.ReaderStages.{stages_told}
 use Rattle.mvo_core.proofs.ReaderTales.{each_forgotten, stored_others}
 use Rattle.mvo_core.proofs.KeptTale.{open_forgotten, stored_is}
@@ -175,7 +177,7 @@ module _ (rs : Readers) (opening : Map) (steps : List Step) (s : State) (c : Cor
         grouped = h.grouped;
         start = refl;
         over = over_trimmed s m free h.over;
-        beside = called_beside_so opening steps s (after_trim s m) (called_beside opening steps s (Trim m) Accepted tt (free, tt) h.beside);
+        beside = called_beside_so opening steps (after_trim s m) (works_in c.works) (called_beside opening steps s (works_in c.works) h.beside (Trim m) Accepted tt (free, tt) (λ g ws. refl));
       }
 
       pub trim_leads : (tale : List TalePlace) → tale ≡ forgotten (min m c.closed) c.tale → LeadsAmong rs opening steps s (Trim m) Accepted (record c { start = m; tale = tale })

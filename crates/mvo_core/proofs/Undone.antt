@@ -206,7 +206,7 @@ module _ (rs : Readers) (opening : Map) (steps : List Step) (s : State) (c : Cor
       table = table;
       tale = tale_left (state_of c.table t.0) Other c.tale (own_place (own_of c.table t.0));
     })
-    undone = stands_then rs opening steps s c h (Rollback t.0) Accepted table (with_fronts (is_put_by t.0) c.versions.slots c.versions.lists numbers) (tale_left (state_of c.table t.0) Other c.tale (own_place (own_of c.table t.0))) tt may refl
+    undone = stands_then rs opening steps s c h (Rollback t.0) Accepted table (with_fronts (is_put_by t.0) c.versions.slots c.versions.lists numbers) (tale_left (state_of c.table t.0) Other c.tale (own_place (own_of c.table t.0))) tt (λ g ws. refl) may refl
         (fronts_in_numbers (is_put_by t.0) c.versions.slots c.versions.lists numbers h.versions.numbers)
         (abort_in_table opening s c.table untold table t h.versions.kept h.dependencies unended is told graph)
         (abort_in_order opening s (state_of c.table) (state_of table) c.versions.slots c.versions.lists c.versions.places t.0 numbers h.versions open'

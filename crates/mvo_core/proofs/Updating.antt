@@ -2,6 +2,7 @@
 use Rattle.std.proofs.Common.{◌≡◌, ℕ, cond, List, [], ◌∷◌, ◌++◌, Option, None, Some, refl, sym, ap, ◌∙◌, subst}
 use Rattle.std.specs.Prelude.{IsSome}
 use Rattle.std.specs.Option.{is_some, option_to_list}
+use Rattle.mvo_types.specs.declared.entry.Entry.TheVariants.{Key}
 use Rattle.mvo_types.specs.declared.ids.TxId.{TxId}
 use Rattle.mvo_types.specs.declared.cause.Cause.{Cause}
 use Rattle.mvo_types.specs.declared.op.Op.TheVariants.{Update}
@@ -40,9 +41,12 @@ use Rattle.mvo_core.specs.Causes.{why_not_put}
 use Rattle.mvo_core.specs.Data.{CoreData}
 use Rattle.mvo_core.specs.Ending.{IsReplaced, IsLeft}
 use Rattle.mvo_core.specs.Keeping.{IsWritten, HasDoneAsMuch, HasMadeRoom, HasDoneMore, IsRecorded}
-use Rattle.mvo_core.specs.Looking.{cause_at}
+use Rattle.mvo_core.specs.Looking.{cause_at, row_shown}
 use Rattle.mvo_core.specs.Standing.{StandsAmong}
 use Rattle.mvo_core.specs.Steps.{LeadsAmong}
+use Rattle.mvo_content.specs.Shown.{AreRowsOf}
+use Rattle.mvo_content.specs.Next.{NextData}
+use Rattle.mvo_content.specs.Works.{WorksData, IsPreparedAt, MayBeTold}
 use Rattle.mvo_core.proofs.Answered.{IsAnswered, answer_leads, recorded_leads}
 use Rattle.mvo_core.proofs.Asked.{active_if_put}
 use Rattle.mvo_core.proofs.Carried.{stands_as_much, stands_roomy}
@@ -53,6 +57,7 @@ use Rattle.mvo_core.proofs.OwnChanged.{IsOwnChanged, own_changed}
 use Rattle.mvo_core.proofs.Refused.{refused_leads, spent_leads}
 use Rattle.mvo_core.proofs.Removed.{updated}
 use Rattle.mvo_core.proofs.SameVersions.{stands_same_versions}
+use Rattle.mvo_core.proofs.WorksHeld.{IsNextTold, may_be_told, key_fits, key_told}
 
 module _ (rs : Readers) (opening : Map) (steps : List Step) (s : State) (c : CoreData) (h : StandsAmong rs opening steps s c) (t : TxId) (row : RowData) (other : stage_of t.0 rs.unfinished ≡ None) where
   pub update_refused : (r : Refusal) → why_not_put c.table t.0 row ≡ Some r → (new : CoreData) → StandsAmong rs opening (steps ++ steps_of_refusal t.0 r) (after_refusal s t.0 r) new
@@ -110,13 +115,20 @@ module _ (rs : Readers) (opening : Map) (steps : List Step) (s : State) (c : Cor
             (stands_same_versions rs opening steps s (record c { table = table }) (stands_as_much rs opening steps s c h t.0 table w.own) versions w.versions
             (w.indexed (record { numbers = h.versions.numbers; order = h.versions.order })))
 
+        -- its work may be told
+        pub update_may_be_told : (rows : List RowData) (n : NextData) → IsPreparedAt c.works t.0 (Update row) rows n → MayBeTold c.works t.0 n
+        update_may_be_told rows n p = may_be_told rs opening steps s c h t.0 (Update row) may rows n p
+
+        pub update_fits : AreRowsOf (Key row.key) (option_to_list (row_shown c.versions.slots found.version))
+        update_fits = key_fits rs opening steps s c h t.0 here row.key found is
+
         -- nothing is there
         pub absent_answers : found.version ≡ None → Absent ≡ answer_in s t.0 (Update row)
         absent_answers e = sym (answer_is ∙ ap (λ (o : Option VersionNo). cond (is_some o) Updated Absent) e)
 
         pub absent_leads : found.version ≡ None → (table : Txns (Node KeptTransaction)) → IsRecorded c.table table t (option_to_list found.depends_on) (Update row) Absent
-            → LeadsAmong rs opening steps s (Do t.0 (Update row)) Accepted (record c { table = table })
-        absent_leads e table w = recorded_leads rs opening steps s c h t here.tx here.found (Update row) Absent may (absent_answers e) refl (option_to_list found.depends_on) on table w
+            → (more : WorksData) → IsNextTold c.works t.0 (Update row) (option_to_list (row_shown c.versions.slots found.version)) more → LeadsAmong rs opening steps s (Do t.0 (Update row)) Accepted (record c { table = table; works = more })
+        absent_leads e table w more next = recorded_leads rs opening steps s c h t here.tx here.found (Update row) Absent may (absent_answers e) refl (option_to_list found.depends_on) on table w more (key_told rs opening steps s c h t.0 here row.key found is (Update row) refl may more next)
 
         -- the row is put in place of the version
         module _ (n : VersionNo) (e : found.version ≡ Some n) where
@@ -148,9 +160,10 @@ module _ (rs : Readers) (opening : Map) (steps : List Step) (s : State) (c : Cor
             claim e' free' p' w' told' may' = updated rs opening steps s (record c { table = w.recorded.roomy }) stands here.tx mine row.key n e' free' row refl w.place w.between versions p'
                 (w.indexed (record { numbers = h.versions.numbers; order = h.versions.order })) w' (option_to_list found.depends_on) table told' on may'
 
-            pub updated_leads : LeadsAmong rs opening steps s (Do t.0 (Update row)) Accepted (record c { versions = versions; table = table })
-            updated_leads = answer_leads rs opening steps s (record c { table = w.recorded.roomy }) stands t here.tx (Update row) (option_to_list found.depends_on) versions table
+            pub updated_leads : (more : WorksData) → IsNextTold c.works t.0 (Update row) (option_to_list (row_shown c.versions.slots found.version)) more → LeadsAmong rs opening steps s (Do t.0 (Update row)) Accepted (record c { versions = versions; table = table; works = more })
+            updated_leads more next = answer_leads rs opening steps s (record c { table = w.recorded.roomy }) stands t here.tx (Update row) (option_to_list found.depends_on) versions table
                 (subst Claim id claim
                 (subst (λ (st : States). (shown_to st t.0 t.0 (versions_at c.versions.slots c.versions.lists row.key)).version ≡ Some n) states (ap (λ (x : Shown). x.version) (sym shown) ∙ e))
                 (subst (λ (st : States). cause_at st c.versions.slots t.0 (Some n) ≡ None) states (ap (cause_at (state_of c.table) c.versions.slots t.0) (sym e) ∙ free))
-                w.put w.ended told may)
+                w.put w.ended told may) more
+                (key_told rs opening steps s c h t.0 here row.key found is (Update row) refl may more next)

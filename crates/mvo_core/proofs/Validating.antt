@@ -134,7 +134,7 @@ module _ (rs : Readers) (opening : Map) (steps : List Step) (s : State) (c : Cor
       pub valid_leads : LeadsAmong rs opening steps s (Validate t) Accepted c
       valid_leads = record {
         may = (why None none_differs, tt);
-        stands = stands_then rs opening steps s c h (Validate t) Accepted c.table c.versions.lists c.tale tt (why None none_differs, tt) refl h.versions.numbers
+        stands = stands_then rs opening steps s c h (Validate t) Accepted c.table c.versions.lists c.tale tt (λ g ws. refl) (why None none_differs, tt) refl h.versions.numbers
             (check_in_table s c.table t h.dependencies) h.order (check_in_lists s c.versions.slots (words_in c.table) t h.words)
             (subst (λ z. HasRest rs z c.table c.tale c) (sym same_state) rest_same);
       }
@@ -255,7 +255,7 @@ module _ (rs : Readers) (opening : Map) (steps : List Step) (s : State) (c : Cor
         pub counted_leads : None ≡ change_for (state_of c.table t) (state_of c.table) c.versions t (own_entry (own_of c.table t)) → LeadsAmong rs opening steps s (Validate t) Accepted (record c { table = table })
         counted_leads is = record {
           may = (why None (named None is), tt);
-          stands = stands_then rs opening steps s c h (Validate t) Accepted table c.versions.lists c.tale tt (why None (named None is), tt) refl h.versions.numbers
+          stands = stands_then rs opening steps s c h (Validate t) Accepted table c.versions.lists c.tale tt (λ g ws. refl) (why None (named None is), tt) refl h.versions.numbers
               (change.dependencies (after_validate s t) (check_in_table s c.table t h.dependencies))
               (subst (λ states. AllStandInOrder s.start states c.versions.slots c.versions.lists) same_states h.order)
               (subst (HasWordLists (after_validate s t) c.versions.slots) (sym (words_stay c.table table t IsCounted change (ap (λ w. w.words) change.changed.writes))) (check_in_lists s c.versions.slots (words_in c.table) t h.words))

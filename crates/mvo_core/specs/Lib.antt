@@ -5,7 +5,6 @@ pub mod Data
 pub mod Seen
 pub mod Causes
 pub mod Readers
-pub mod Beside
 pub mod Standing
 pub mod View
 pub mod Steps
@@ -26,6 +25,7 @@ pub mod Settling
 pub mod Collecting
 pub mod Counting
 pub mod Scanning
+pub mod Others
 pub mod Spare
 pub mod Holding
 pub mod Receipts

@@ -1,8 +1,8 @@
 -- What is told of what is kept of a transaction, if something is.
-use Rattle.std.specs.Prelude.{ℕ, ◌+◌, nat_le, length, Bool, false, if◌then◌else◌, slice_get, [], Option, None, Some}
+use Rattle.std.specs.Prelude.{ℕ, ◌+◌, ◌==◌, not, nat_le, length, Bool, false, if◌then◌else◌, slice_get, [], Option, None, Some}
 use Rattle.mvo_model.specs.History.{History}
 use Rattle.mvo_types.specs.declared.entry.Entry.{Entry}
-use Rattle.mvo_theory.specs.Entries.{entries}
+use Rattle.mvo_theory.specs.Entries.{entries, written_keys}
 use Rattle.mvo_core.specs.declared.kept_transaction.KeptTransaction.{KeptTransaction}
 use Rattle.mvo_core.specs.declared.answers.Validation.{Validation}
 use Rattle.mvo_core.specs.declared.answers.Validation.TheVariants.{More, Valid}
@@ -21,6 +21,11 @@ own_place (Some own) = own.place
 abbrev pub own_history : Option KeptTransaction → History
 own_history None = []
 own_history (Some own) = own.work.history
+
+-- whether it has written
+abbrev pub has_own_writes : Option KeptTransaction → Bool
+has_own_writes None = false
+has_own_writes (Some own) = not (length (written_keys own.work.history) == 0)
 
 -- its next entry to check
 abbrev pub own_entry : Option KeptTransaction → Option Entry

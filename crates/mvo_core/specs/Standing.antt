@@ -22,7 +22,8 @@ use Rattle.mvo_collect.specs.Begun.{AreOver}
 use Rattle.mvo_core.specs.declared.kept_transaction.KeptTransaction.{KeptTransaction}
 use Rattle.mvo_core.specs.Data.{CoreData, own_of}
 use Rattle.mvo_core.specs.Readers.{Readers, no_readers, HaveStages, HasTalePlaces}
-use Rattle.mvo_core.specs.Beside.{GoesBeside}
+use Rattle.mvo_standing.specs.Beside.{WorksGoBeside}
+use Rattle.mvo_content.specs.Works.{works_in}
 
 -- ---- what is kept of each transaction is what the state has of it
 pub record IsKeptActive (table : Txns (Node KeptTransaction)) (r : ActiveTx) : Type 0 where
@@ -56,7 +57,7 @@ words_in table t = own_words_of (own_of table t)
 -- ---- the core
 -- It stands for the state, to which the steps since the opening lead: that of the others, in which
 -- a read-only transaction is Active until it ends. Beside it are these read-only ones, and a core
--- that is given works might go on beside it.
+-- that is given these works might go on beside it.
 pub record StandsAmong (rs : Readers) (opening : Map) (steps : List Step) (s : State)
     (c : CoreData) : Type 0 where
   pub kept : IsKept opening steps s
@@ -74,7 +75,7 @@ pub record StandsAmong (rs : Readers) (opening : Map) (steps : List Step) (s : S
   pub grouped : AreGroupedTo c.tale c.grouped c.closed
   pub start : s.start ≡ c.start
   pub over : AreOver s
-  pub beside : GoesBeside opening steps s
+  pub beside : WorksGoBeside opening steps s (works_in c.works)
 
 -- so it does where no transaction is read-only
 abbrev pub StandsFor : Map → List Step → State → CoreData → Type 0

@@ -10,6 +10,7 @@ core_data c = record {
   versions = c.versions;
   table = c.table;
   tale = c.tale;
+  works = c.works;
   start = c.start.0;
   opening = c.opening.0;
   closed = c.closed.0;

@@ -1,6 +1,7 @@
 use crate::kept_transaction::{Table, begun, begun_reading};
 use crate::spares::{Spares, give_list};
 use mvo_collect::Waiting;
+use mvo_content::Works;
 use mvo_tale::Tale;
 use mvo_txn::TxnTable;
 use mvo_types::{MAX_STAMP, Refusal, Rows, Stamp, TxId};
@@ -31,6 +32,8 @@ pub struct Core {
     /// The place in the tale from which the next group goes on.
     pub(crate) grouped: usize,
     pub(crate) spares: Spares,
+    /// What each Active transaction has done, as its own work holds it.
+    pub(crate) works: Works,
 }
 
 impl Drop for Core {
@@ -46,6 +49,7 @@ impl Drop for Core {
             closed: _,
             grouped: _,
             spares: _,
+            works: _,
         } = self;
     }
 }
@@ -133,6 +137,7 @@ impl Core {
             closed: mark,
             grouped: 0,
             spares,
+            works: Works::new(alloc),
         })
     }
 

@@ -56,6 +56,7 @@ impl Core {
         let node = self.table.terminate(tx);
         self.spares.keep(node.own.work);
         self.spares.keep_writes(node.own.writes);
+        self.works.forget(tx.id);
         Ok(Finishing::Done)
     }
 }

@@ -15,6 +15,8 @@ mod kept_transaction;
 mod next_check;
 mod operating;
 mod operation;
+mod others;
+mod preparing;
 mod readiness;
 mod refusing;
 mod scanning;

@@ -19,6 +19,7 @@ use crate::collecting::{has_open_end, owe_end};
 use crate::depending::{depend, make_room, record_answer, write};
 use crate::event_core::Core;
 use crate::kept_transaction::Table;
+use crate::preparing::{prepare, prepare_insert, prepare_update, row_at};
 use crate::refusing::{not_looked, not_put, not_removed};
 use mvo_chain::VersionNo;
 use mvo_txn::Located;
@@ -53,8 +54,17 @@ impl Core {
         let found = self.versions.shown(&self.table, tx.id, key);
         let row = row_at(&self.versions, found.version)?;
         let kept = copy_of(&row)?;
+        let versions = &self.versions;
+        let next = prepare(
+            &mut self.works,
+            versions,
+            tx.id,
+            Op::Read(key),
+            found.version,
+        )?;
         let (op, told) = (Op::Read(key), Answer::Found(kept));
         record_answer(&mut self.table, tx, found.depends_on, op, told)?;
+        self.works.tell(tx.id, next);
         Ok(Answer::Found(row))
     }
 
@@ -74,15 +84,19 @@ impl Core {
             return Err(self.give_up(tx, refusal));
         }
         let found = self.versions.shown(&self.table, tx.id, key);
+        let versions = &self.versions;
+        let next = prepare_insert(&mut self.works, versions, tx.id, &row, found.version)?;
         if found.version.is_some() {
             let (op, told) = (Op::Insert(row), Answer::Exists);
             record_answer(&mut self.table, tx, found.depends_on, op, told)?;
+            self.works.tell(tx.id, next);
             return Ok(Answer::Exists);
         }
         let on = found.depends_on;
         self.waiting.make_room()?;
         insert_row(&mut self.versions, &mut self.table, tx, row, on)?;
         self.waiting.owe();
+        self.works.tell(tx.id, next);
         Ok(Answer::Inserted)
     }
 
@@ -106,9 +120,12 @@ impl Core {
         if let Some(cause) = in_the_way(&self.versions, &self.table, tx.id, found.version) {
             return Err(self.give_up(tx, Refusal::WriteConflict(cause)));
         }
+        let versions = &self.versions;
+        let next = prepare_update(&mut self.works, versions, tx.id, &row, found.version)?;
         let on = found.depends_on;
         let Some(old) = found.version else {
             record_answer(&mut self.table, tx, on, Op::Update(row), Answer::Absent)?;
+            self.works.tell(tx.id, next);
             return Ok(Answer::Absent);
         };
         self.waiting.make_room()?;
@@ -116,6 +133,7 @@ impl Core {
         put_instead(&mut self.versions, &mut self.table, tx, old, row, on)?;
         self.waiting.owe();
         owe_end(&mut self.waiting, is_open);
+        self.works.tell(tx.id, next);
         Ok(Answer::Updated)
     }
 
@@ -138,29 +156,26 @@ impl Core {
         if let Some(cause) = in_the_way(&self.versions, &self.table, tx.id, found.version) {
             return Err(self.give_up(tx, Refusal::WriteConflict(cause)));
         }
+        let versions = &self.versions;
+        let next = prepare(
+            &mut self.works,
+            versions,
+            tx.id,
+            Op::Delete(key),
+            found.version,
+        )?;
         let on = found.depends_on;
         let Some(old) = found.version else {
             record_answer(&mut self.table, tx, on, Op::Delete(key), Answer::Absent)?;
+            self.works.tell(tx.id, next);
             return Ok(Answer::Absent);
         };
         self.waiting.make_room()?;
         let is_open = has_open_end(&self.versions, old);
         remove(&mut self.versions, &mut self.table, tx, old, key, on)?;
         owe_end(&mut self.waiting, is_open);
+        self.works.tell(tx.id, next);
         Ok(Answer::Deleted)
-    }
-}
-
-/// A copy of the row of the version, if there is one.
-pub fn row_at(versions: &Versions, number: Option<VersionNo>) -> Result<Option<Row>, AllocError>
-    ensures { IfOk result (λ row. row ≡ row_shown versions.now.slots number) }
-{
-    let Some(number) = number else {
-        return Ok(None);
-    };
-    match versions.get(number) {
-        Some(version) => Ok(Some(version.row.copy()?)),
-        None => Ok(None),
     }
 }
 

@@ -11,8 +11,10 @@ ghost use Rattle.mvo_core.specs.Scanning.{is_met_at_place, with_named, IsScanned
 use crate::depending::record_answer_on;
 use crate::event_core::Core;
 use crate::kept_transaction::Table;
+use crate::others::others_shown;
 use crate::refusing::not_looked;
 use mvo_chain::VersionNo;
+use mvo_content::RowsShown;
 use mvo_range::SortPlace;
 use mvo_txn::Located;
 use mvo_types::{Answer, Entry, MAX_DATA_LEN, Op, Refusal, Row, Stamp, TxId};
@@ -57,8 +59,12 @@ impl Core {
         let scanned = scan_places(alloc, versions, &self.table, start, tx.id, table, lo, hi)?;
         let Scanned { rows, on } = scanned;
         let kept = copies_of(alloc, &rows)?;
+        let others = others_shown(alloc, versions, &self.table, tx, table, lo, hi, &rows)?;
+        let op = Op::Scan(table, lo, hi);
+        let next = self.works.prepare(tx.id, op, RowsShown::Many(others))?;
         let (op, told) = (Op::Scan(table, lo, hi), Answer::Rows(kept));
         record_answer_on(&mut self.table, tx, &on, op, told)?;
+        self.works.tell(tx.id, next);
         Ok(Answer::Rows(rows))
     }
 }
@@ -118,7 +124,7 @@ fn has_version(versions: &Versions, place: SortPlace) -> bool {
 }
 
 /// Adds the row, if there is one.
-fn add_row(rows: &mut Vec<Row>, row: Option<Row>) -> Result<(), AllocError>
+pub fn add_row(rows: &mut Vec<Row>, row: Option<Row>) -> Result<(), AllocError>
     ensures { OnOk result (rows.new.items ≡ rows.old.items ++ option_to_list row) }
 {
     if let Some(row) = row {
@@ -152,7 +158,7 @@ fn add_named(
 }
 
 /// A copy of the version's row, if it stands at the place.
-fn row_at_place(
+pub fn row_at_place(
     versions: &Versions,
     number: Option<VersionNo>,
     place: SortPlace,
@@ -226,7 +232,7 @@ fn is_up_to(seen: Seen, stamp: Stamp) -> bool
 }
 
 /// Copies of the rows.
-fn copies_of(alloc: Global, rows: &[Row]) -> Result<Vec<Row>, AllocError>
+pub fn copies_of(alloc: Global, rows: &[Row]) -> Result<Vec<Row>, AllocError>
     ensures { IfOk result (λ copies. copies.items ≡ rows.now) }
 {
     let mut copies = Vec::new(alloc);

@@ -16,7 +16,8 @@ use Rattle.mvo_core.proofs.Asked.{own_if_active, active_if_removed, may_remove_f
 use Rattle.mvo_core.proofs.WholeStands.{whole_stands_on}
 use Rattle.mvo_core.proofs.CausesTold.{stands_active}
 use Rattle.mvo_core.proofs.Refused.{came_spent}
-use Rattle.mvo_core.proofs.Deleting.{delete_starved, delete_refused, delete_conflicts, delete_spent, delete_left, absent_answers, absent_leads, deleted_answers, deleted_live, deleted_leads}
+use Rattle.mvo_core.proofs.WorksHeld.{stands_same_works, whole_same_works}
+use Rattle.mvo_core.proofs.Deleting.{delete_starved, delete_refused, delete_conflicts, delete_spent, delete_left, absent_answers, absent_leads, deleted_answers, deleted_live, deleted_leads, delete_may_be_told, delete_fits}
 use Rattle.std.specs.Option.{option_to_list}
 use Rattle.mvo_versions.specs.Data.{VersionsData}
 use Rattle.mvo_collect.specs.Waiting.{AreWaiting}
@@ -63,17 +64,80 @@ pub record_answer-requires-clause-limits : goal.record_answer-requires-clause-li
 record_answer-requires-clause-limits c =
     may_remove c.self.inside.table c.args.tx.0 c.args.key (sym c.not_removed.ensures ∙ c.in_default.is) Absent
 
+-- ---- the work is prepared
+pub prepare-requires : goal.prepare-requires
+prepare-requires c =
+    let f = c.self.inside in
+    let i = c.self.invariant.stands in
+    let old : CoreData = core_data f in
+    delete_fits (readers_of i.whole) i.opening i.own i.whole.core old i.stands.core c.args.tx c.args.key (stage_none (readers_of i.whole) i.opening i.own i.whole.core old i.stands.core c.args.tx.0 (remove_not_reading f.table c.args.tx.0 c.args.key (sym c.not_removed.ensures ∙ c.in_default.is))) (sym c.not_removed.ensures ∙ c.in_default.is) c.shown-found.result c.shown-found.ensures (sym c.in_the_way.ensures ∙ c.in_default-in_the_way.is)
+
 pub invariant_of-self : goal.invariant_of-self
 invariant_of-self c =
     let f = c.self.inside in
     let i = c.self.invariant.stands in
     let old : CoreData = core_data f in
+    let now : CoreData = record old { works = c.prepare.new.works } in
+    let g : StandsWhole i.opening i.steps i.own i.whole now = whole_same_works i.opening i.steps i.own i.whole old i.stands c.prepare.new.works c.prepare.ensures.same in
     record {
       stands =
-          whole_stands_on i (CoreCall (Do c.args.tx.0 (Delete c.args.key))) (Refused OutOfMemory) (record old { table = c.record_answer.new.table })
-          (let other = stage_none (readers_of i.whole) i.opening i.own i.whole.core old i.stands.core c.args.tx.0 (remove_not_reading f.table c.args.tx.0 c.args.key (sym c.not_removed.ensures ∙ c.in_default.is)) in
-          (others_lead i.opening i.steps i.own i.whole (Do c.args.tx.0 (Delete c.args.key)) _ old _ i.stands other tt
-          (delete_spent (readers_of i.whole) i.opening i.own i.whole.core old i.stands.core c.args.tx c.args.key other (sym c.not_removed.ensures ∙ c.in_default.is) c.shown-found.result c.shown-found.ensures (sym c.in_the_way.ensures ∙ c.in_default-in_the_way.is) c.record_answer.new.table c.in_err-record_answer.ensures.err)));
+          whole_stands_on i (CoreCall (Do c.args.tx.0 (Delete c.args.key))) (Refused OutOfMemory) now
+          (let other = (stage_none (readers_of i.whole) i.opening i.own i.whole.core now g.core c.args.tx.0 (remove_not_reading f.table c.args.tx.0 c.args.key (sym c.not_removed.ensures ∙ c.in_default.is))) in
+          others_lead i.opening i.steps i.own i.whole (Do c.args.tx.0 (Delete c.args.key)) _ now _ g other tt
+          (delete_starved (readers_of i.whole) i.opening i.own i.whole.core now g.core c.args.tx c.args.key other (sym c.not_removed.ensures ∙ c.in_default.is) c.shown-found.result c.shown-found.ensures (sym c.in_the_way.ensures ∙ c.in_default-in_the_way.is)));
+      waiting = c.self.invariant.waiting;
+    }
+
+pub returns-in_err-next-clause-step : goal.returns-in_err-next-clause-step
+returns-in_err-next-clause-step c = λ opening steps s h.
+    let f = c.self.inside in
+    let old : CoreData = core_data f in
+    let now : CoreData = record old { works = c.prepare.new.works } in
+    subst (λ r. LeadsOn opening steps s (Do c.args.tx.0 (Delete c.args.key)) r now) (came_spent c.from_residual.result c.from_residual.ensures.1)
+    (delete_starved no_readers opening steps s now (stands_same_works no_readers opening steps s old (subst (StandsFor opening steps s) (sym c.self.view_is) h) c.prepare.new.works c.prepare.ensures.same) c.args.tx c.args.key refl (sym c.not_removed.ensures ∙ c.in_default.is) c.shown-found.result c.shown-found.ensures (sym c.in_the_way.ensures ∙ c.in_default-in_the_way.is))
+
+pub returns-in_err-next-clause-whole : goal.returns-in_err-next-clause-whole
+returns-in_err-next-clause-whole c = λ opening steps own w h.
+    let f = c.self.inside in
+    let old : CoreData = core_data f in
+    let now : CoreData = record old { works = c.prepare.new.works } in
+    let g : StandsWhole opening steps own w now = whole_same_works opening steps own w old (subst (StandsWhole opening steps own w) (sym c.self.view_is) h) c.prepare.new.works c.prepare.ensures.same in
+    let other = stage_none (readers_of w) opening own w.core now g.core c.args.tx.0 (remove_not_reading f.table c.args.tx.0 c.args.key (sym c.not_removed.ensures ∙ c.in_default.is)) in
+    subst (λ r. LeadsWhole opening steps own w (CoreCall (Do c.args.tx.0 (Delete c.args.key))) r now) (came_spent c.from_residual.result c.from_residual.ensures.1)
+    (others_lead opening steps own w (Do c.args.tx.0 (Delete c.args.key)) _ now _ g other tt
+    (delete_starved (readers_of w) opening own w.core now g.core c.args.tx c.args.key other (sym c.not_removed.ensures ∙ c.in_default.is) c.shown-found.result c.shown-found.ensures (sym c.in_the_way.ensures ∙ c.in_default-in_the_way.is)))
+
+pub tell-requires : goal.tell-requires
+tell-requires c =
+    let f = c.self.inside in
+    let i = c.self.invariant.stands in
+    let old : CoreData = core_data f in
+    let now : CoreData = record old { works = c.prepare.new.works } in
+    let g : StandsWhole i.opening i.steps i.own i.whole now = whole_same_works i.opening i.steps i.own i.whole old i.stands c.prepare.new.works c.prepare.ensures.same in
+    delete_may_be_told (readers_of i.whole) i.opening i.own i.whole.core now g.core c.args.tx c.args.key (stage_none (readers_of i.whole) i.opening i.own i.whole.core now g.core c.args.tx.0 (remove_not_reading f.table c.args.tx.0 c.args.key (sym c.not_removed.ensures ∙ c.in_default.is))) (sym c.not_removed.ensures ∙ c.in_default.is) c.shown-found.result c.shown-found.ensures (sym c.in_the_way.ensures ∙ c.in_default-in_the_way.is) _ c.in_ok-next.next c.in_ok-next.ensures.next
+
+pub tell-requires-2 : goal.tell-requires-2
+tell-requires-2 c =
+    let f = c.self.inside in
+    let i = c.self.invariant.stands in
+    let old : CoreData = core_data f in
+    let now : CoreData = record old { works = c.prepare.new.works } in
+    let g : StandsWhole i.opening i.steps i.own i.whole now = whole_same_works i.opening i.steps i.own i.whole old i.stands c.prepare.new.works c.prepare.ensures.same in
+    delete_may_be_told (readers_of i.whole) i.opening i.own i.whole.core now g.core c.args.tx c.args.key (stage_none (readers_of i.whole) i.opening i.own i.whole.core now g.core c.args.tx.0 (remove_not_reading f.table c.args.tx.0 c.args.key (sym c.not_removed.ensures ∙ c.in_default.is))) (sym c.not_removed.ensures ∙ c.in_default.is) c.shown-found.result c.shown-found.ensures (sym c.in_the_way.ensures ∙ c.in_default-in_the_way.is) _ c.in_ok-next.next c.in_ok-next.ensures.next
+
+pub invariant_of-self-in_err-record_answer : goal.invariant_of-self-in_err-record_answer
+invariant_of-self-in_err-record_answer c =
+    let f = c.self.inside in
+    let i = c.self.invariant.stands in
+    let old : CoreData = core_data f in
+    let now : CoreData = record old { works = c.prepare.new.works } in
+    let g : StandsWhole i.opening i.steps i.own i.whole now = whole_same_works i.opening i.steps i.own i.whole old i.stands c.prepare.new.works c.prepare.ensures.same in
+    record {
+      stands =
+          whole_stands_on i (CoreCall (Do c.args.tx.0 (Delete c.args.key))) (Refused OutOfMemory) (record now { table = c.record_answer.new.table })
+          (let other = stage_none (readers_of i.whole) i.opening i.own i.whole.core now g.core c.args.tx.0 (remove_not_reading f.table c.args.tx.0 c.args.key (sym c.not_removed.ensures ∙ c.in_default.is)) in
+          (others_lead i.opening i.steps i.own i.whole (Do c.args.tx.0 (Delete c.args.key)) _ now _ g other tt
+          (delete_spent (readers_of i.whole) i.opening i.own i.whole.core now g.core c.args.tx c.args.key other (sym c.not_removed.ensures ∙ c.in_default.is) c.shown-found.result c.shown-found.ensures (sym c.in_the_way.ensures ∙ c.in_default-in_the_way.is) c.record_answer.new.table c.in_err-record_answer.ensures.err)));
       waiting = waits_alike f.table c.record_answer.new.table f.versions.slots f.waiting (alike_written f.table c.record_answer.new.table c.args.tx.0 HasDoneAsMuch c.in_err-record_answer.ensures.err) c.self.invariant.waiting;
     }
 
@@ -81,20 +145,24 @@ pub returns-in_err-record_answer-clause-step : goal.returns-in_err-record_answer
 returns-in_err-record_answer-clause-step c = λ opening steps s h.
     let f = c.self.inside in
     let old : CoreData = core_data f in
-    subst (λ r. LeadsOn opening steps s (Do c.args.tx.0 (Delete c.args.key)) r (record old { table = c.record_answer.new.table })) (came_spent c.from_residual.result c.from_residual.ensures.1)
-    (delete_spent no_readers opening steps s old (subst (StandsFor opening steps s) (sym c.self.view_is) h) c.args.tx c.args.key refl (sym c.not_removed.ensures ∙ c.in_default.is) c.shown-found.result c.shown-found.ensures (sym c.in_the_way.ensures ∙ c.in_default-in_the_way.is) c.record_answer.new.table c.in_err-record_answer.ensures.err)
+    let now : CoreData = record old { works = c.prepare.new.works } in
+    subst (λ r. LeadsOn opening steps s (Do c.args.tx.0 (Delete c.args.key)) r (record now { table = c.record_answer.new.table })) (came_spent c.from_residual-in_err-record_answer.result c.from_residual-in_err-record_answer.ensures.1)
+    (delete_spent no_readers opening steps s now (stands_same_works no_readers opening steps s old (subst (StandsFor opening steps s) (sym c.self.view_is) h) c.prepare.new.works c.prepare.ensures.same) c.args.tx c.args.key refl (sym c.not_removed.ensures ∙ c.in_default.is) c.shown-found.result c.shown-found.ensures (sym c.in_the_way.ensures ∙ c.in_default-in_the_way.is) c.record_answer.new.table c.in_err-record_answer.ensures.err)
 
 pub invariant_of-self-in_default-version : goal.invariant_of-self-in_default-version
 invariant_of-self-in_default-version c =
     let f = c.self.inside in
     let i = c.self.invariant.stands in
     let old : CoreData = core_data f in
+    let now : CoreData = record old { works = c.prepare.new.works } in
+    let g : StandsWhole i.opening i.steps i.own i.whole now = whole_same_works i.opening i.steps i.own i.whole old i.stands c.prepare.new.works c.prepare.ensures.same in
     record {
       stands =
-          whole_stands_on i (CoreCall (Do c.args.tx.0 (Delete c.args.key))) Accepted (record old { table = c.record_answer.new.table })
-          (let other = stage_none (readers_of i.whole) i.opening i.own i.whole.core old i.stands.core c.args.tx.0 (remove_not_reading f.table c.args.tx.0 c.args.key (sym c.not_removed.ensures ∙ c.in_default.is)) in
-          others_lead i.opening i.steps i.own i.whole (Do c.args.tx.0 (Delete c.args.key)) _ old _ i.stands other tt
-          (absent_leads (readers_of i.whole) i.opening i.own i.whole.core old i.stands.core c.args.tx c.args.key other (sym c.not_removed.ensures ∙ c.in_default.is) c.shown-found.result c.shown-found.ensures (sym c.in_the_way.ensures ∙ c.in_default-in_the_way.is) c.in_default-version.is c.record_answer.new.table c.in_ok-record_answer.ensures.ok));
+          whole_stands_on i (CoreCall (Do c.args.tx.0 (Delete c.args.key))) Accepted (record now { table = c.record_answer.new.table; works = c.tell.new.self })
+          (let other = stage_none (readers_of i.whole) i.opening i.own i.whole.core now g.core c.args.tx.0 (remove_not_reading f.table c.args.tx.0 c.args.key (sym c.not_removed.ensures ∙ c.in_default.is)) in
+          others_lead i.opening i.steps i.own i.whole (Do c.args.tx.0 (Delete c.args.key)) _ now _ g other tt
+          (absent_leads (readers_of i.whole) i.opening i.own i.whole.core now g.core c.args.tx c.args.key other (sym c.not_removed.ensures ∙ c.in_default.is) c.shown-found.result c.shown-found.ensures (sym c.in_the_way.ensures ∙ c.in_default-in_the_way.is) c.in_default-version.is c.record_answer.new.table c.in_ok-record_answer.ensures.ok c.tell.new.self
+          (record { next = c.in_ok-next.next; prepared = c.in_ok-next.ensures.next; told = c.tell.ensures.told })));
       waiting = waits_alike f.table c.record_answer.new.table f.versions.slots f.waiting (alike_recorded f.table c.record_answer.new.table c.args.tx _ _ _ c.in_ok-record_answer.ensures.ok) c.self.invariant.waiting;
     }
 
@@ -102,7 +170,9 @@ pub returns-in_default-version-clause-step : goal.returns-in_default-version-cla
 returns-in_default-version-clause-step c = λ opening steps s h.
     let f = c.self.inside in
     let old : CoreData = core_data f in
-    absent_leads no_readers opening steps s old (subst (StandsFor opening steps s) (sym c.self.view_is) h) c.args.tx c.args.key refl (sym c.not_removed.ensures ∙ c.in_default.is) c.shown-found.result c.shown-found.ensures (sym c.in_the_way.ensures ∙ c.in_default-in_the_way.is) c.in_default-version.is c.record_answer.new.table c.in_ok-record_answer.ensures.ok
+    let now : CoreData = record old { works = c.prepare.new.works } in
+    absent_leads no_readers opening steps s now (stands_same_works no_readers opening steps s old (subst (StandsFor opening steps s) (sym c.self.view_is) h) c.prepare.new.works c.prepare.ensures.same) c.args.tx c.args.key refl (sym c.not_removed.ensures ∙ c.in_default.is) c.shown-found.result c.shown-found.ensures (sym c.in_the_way.ensures ∙ c.in_default-in_the_way.is) c.in_default-version.is c.record_answer.new.table c.in_ok-record_answer.ensures.ok c.tell.new.self
+    (record { next = c.in_ok-next.next; prepared = c.in_ok-next.ensures.next; told = c.tell.ensures.told })
 
 pub returns-in_default-version-clause-answer : goal.returns-in_default-version-clause-answer
 returns-in_default-version-clause-answer c = λ opening steps s h.
@@ -130,12 +200,14 @@ invariant_of-self-in_err-remove c =
     let f = c.self.inside in
     let i = c.self.invariant.stands in
     let old : CoreData = core_data f in
+    let now : CoreData = record old { works = c.prepare.new.works } in
+    let g : StandsWhole i.opening i.steps i.own i.whole now = whole_same_works i.opening i.steps i.own i.whole old i.stands c.prepare.new.works c.prepare.ensures.same in
     record {
       stands =
-          whole_stands_on i (CoreCall (Do c.args.tx.0 (Delete c.args.key))) (Refused OutOfMemory) (record old { versions = c.remove.new.versions; table = c.remove.new.table })
-          (let other = stage_none (readers_of i.whole) i.opening i.own i.whole.core old i.stands.core c.args.tx.0 (remove_not_reading f.table c.args.tx.0 c.args.key (sym c.not_removed.ensures ∙ c.in_default.is)) in
-          (others_lead i.opening i.steps i.own i.whole (Do c.args.tx.0 (Delete c.args.key)) _ old _ i.stands other tt
-          (delete_left (readers_of i.whole) i.opening i.own i.whole.core old i.stands.core c.args.tx c.args.key other (sym c.not_removed.ensures ∙ c.in_default.is) c.shown-found.result c.shown-found.ensures (sym c.in_the_way.ensures ∙ c.in_default-in_the_way.is) c.remove.new.versions c.in_err-remove.ensures.same c.remove.new.table c.in_err-remove.ensures.err)));
+          whole_stands_on i (CoreCall (Do c.args.tx.0 (Delete c.args.key))) (Refused OutOfMemory) (record now { versions = c.remove.new.versions; table = c.remove.new.table })
+          (let other = stage_none (readers_of i.whole) i.opening i.own i.whole.core now g.core c.args.tx.0 (remove_not_reading f.table c.args.tx.0 c.args.key (sym c.not_removed.ensures ∙ c.in_default.is)) in
+          (others_lead i.opening i.steps i.own i.whole (Do c.args.tx.0 (Delete c.args.key)) _ now _ g other tt
+          (delete_left (readers_of i.whole) i.opening i.own i.whole.core now g.core c.args.tx c.args.key other (sym c.not_removed.ensures ∙ c.in_default.is) c.shown-found.result c.shown-found.ensures (sym c.in_the_way.ensures ∙ c.in_default-in_the_way.is) c.remove.new.versions c.in_err-remove.ensures.same c.remove.new.table c.in_err-remove.ensures.err)));
       waiting = subst (λ (v : VersionsData). AreWaiting c.remove.new.table.clock (state_of c.remove.new.table) v.slots c.make_room.new.self) (sym c.in_err-remove.ensures.same) (waits_alike f.table c.remove.new.table f.versions.slots c.make_room.new.self (alike_written f.table c.remove.new.table c.args.tx.0 HasDoneAsMuch c.in_err-remove.ensures.err) (waits_roomy f.table.clock (state_of f.table) f.versions.slots f.waiting c.make_room.new.self c.make_room.new.self.room c.make_room.ensures.same c.self.invariant.waiting));
     }
 
@@ -143,28 +215,34 @@ pub returns-in_err-remove-clause-step : goal.returns-in_err-remove-clause-step
 returns-in_err-remove-clause-step c = λ opening steps s h.
     let f = c.self.inside in
     let old : CoreData = core_data f in
-    subst (λ r. LeadsOn opening steps s (Do c.args.tx.0 (Delete c.args.key)) r (record old { versions = c.remove.new.versions; table = c.remove.new.table })) (came_spent c.from_residual-in_err-remove.result c.from_residual-in_err-remove.ensures.1)
-    (delete_left no_readers opening steps s old (subst (StandsFor opening steps s) (sym c.self.view_is) h) c.args.tx c.args.key refl (sym c.not_removed.ensures ∙ c.in_default.is) c.shown-found.result c.shown-found.ensures (sym c.in_the_way.ensures ∙ c.in_default-in_the_way.is) c.remove.new.versions c.in_err-remove.ensures.same c.remove.new.table c.in_err-remove.ensures.err)
+    let now : CoreData = record old { works = c.prepare.new.works } in
+    subst (λ r. LeadsOn opening steps s (Do c.args.tx.0 (Delete c.args.key)) r (record now { versions = c.remove.new.versions; table = c.remove.new.table })) (came_spent c.from_residual-in_err-remove.result c.from_residual-in_err-remove.ensures.1)
+    (delete_left no_readers opening steps s now (stands_same_works no_readers opening steps s old (subst (StandsFor opening steps s) (sym c.self.view_is) h) c.prepare.new.works c.prepare.ensures.same) c.args.tx c.args.key refl (sym c.not_removed.ensures ∙ c.in_default.is) c.shown-found.result c.shown-found.ensures (sym c.in_the_way.ensures ∙ c.in_default-in_the_way.is) c.remove.new.versions c.in_err-remove.ensures.same c.remove.new.table c.in_err-remove.ensures.err)
 
 pub invariant_of-self-2 : goal.invariant_of-self-2
 invariant_of-self-2 c =
     let f = c.self.inside in
     let i = c.self.invariant.stands in
     let old : CoreData = core_data f in
+    let now : CoreData = record old { works = c.prepare.new.works } in
+    let g : StandsWhole i.opening i.steps i.own i.whole now = whole_same_works i.opening i.steps i.own i.whole old i.stands c.prepare.new.works c.prepare.ensures.same in
     record {
       stands =
-          whole_stands_on i (CoreCall (Do c.args.tx.0 (Delete c.args.key))) Accepted (record old { versions = c.remove.new.versions; table = c.remove.new.table })
-          (let other = stage_none (readers_of i.whole) i.opening i.own i.whole.core old i.stands.core c.args.tx.0 (remove_not_reading f.table c.args.tx.0 c.args.key (sym c.not_removed.ensures ∙ c.in_default.is)) in
-          others_lead i.opening i.steps i.own i.whole (Do c.args.tx.0 (Delete c.args.key)) _ old _ i.stands other tt
-          (deleted_leads (readers_of i.whole) i.opening i.own i.whole.core old i.stands.core c.args.tx c.args.key other (sym c.not_removed.ensures ∙ c.in_default.is) c.shown-found.result c.shown-found.ensures (sym c.in_the_way.ensures ∙ c.in_default-in_the_way.is) c.in-Some-version.old c.in-Some-version.is c.remove.new.versions c.remove.new.table c.in_ok-remove.ensures.ok));
-      waiting = waits_removed f.versions c.remove.new.versions f.table c.remove.new.table c.args.tx (option_to_list c.shown-found.result.depends_on) f.waiting c.make_room.new.self c.make_room.ensures.same c.in-Some-version.old c.args.key c.has_open_end-is_open.result c.owe_end.new.waiting (stands_active f.table c.args.tx.0 (active_if_removed f.table c.args.tx.0 c.args.key (sym c.not_removed.ensures ∙ c.in_default.is))) (deleted_live (readers_of i.whole) i.opening i.own i.whole.core old i.stands.core c.args.tx c.args.key (stage_none (readers_of i.whole) i.opening i.own i.whole.core old i.stands.core c.args.tx.0 (remove_not_reading f.table c.args.tx.0 c.args.key (sym c.not_removed.ensures ∙ c.in_default.is))) (sym c.not_removed.ensures ∙ c.in_default.is) c.shown-found.result c.shown-found.ensures (sym c.in_the_way.ensures ∙ c.in_default-in_the_way.is) c.in-Some-version.old c.in-Some-version.is) c.in_ok-remove.ensures.ok c.has_open_end-is_open.ensures c.owe_end.ensures c.self.invariant.waiting;
+          whole_stands_on i (CoreCall (Do c.args.tx.0 (Delete c.args.key))) Accepted (record now { versions = c.remove.new.versions; table = c.remove.new.table; works = c.tell-2.new.self })
+          (let other = stage_none (readers_of i.whole) i.opening i.own i.whole.core now g.core c.args.tx.0 (remove_not_reading f.table c.args.tx.0 c.args.key (sym c.not_removed.ensures ∙ c.in_default.is)) in
+          others_lead i.opening i.steps i.own i.whole (Do c.args.tx.0 (Delete c.args.key)) _ now _ g other tt
+          (deleted_leads (readers_of i.whole) i.opening i.own i.whole.core now g.core c.args.tx c.args.key other (sym c.not_removed.ensures ∙ c.in_default.is) c.shown-found.result c.shown-found.ensures (sym c.in_the_way.ensures ∙ c.in_default-in_the_way.is) c.in-Some-version.old c.in-Some-version.is c.remove.new.versions c.remove.new.table c.in_ok-remove.ensures.ok c.tell-2.new.self
+          (record { next = c.in_ok-next.next; prepared = c.in_ok-next.ensures.next; told = c.tell-2.ensures.told })));
+      waiting = waits_removed f.versions c.remove.new.versions f.table c.remove.new.table c.args.tx (option_to_list c.shown-found.result.depends_on) f.waiting c.make_room.new.self c.make_room.ensures.same c.in-Some-version.old c.args.key c.has_open_end-is_open.result c.owe_end.new.waiting (stands_active f.table c.args.tx.0 (active_if_removed f.table c.args.tx.0 c.args.key (sym c.not_removed.ensures ∙ c.in_default.is))) (deleted_live (readers_of i.whole) i.opening i.own i.whole.core now g.core c.args.tx c.args.key (stage_none (readers_of i.whole) i.opening i.own i.whole.core now g.core c.args.tx.0 (remove_not_reading f.table c.args.tx.0 c.args.key (sym c.not_removed.ensures ∙ c.in_default.is))) (sym c.not_removed.ensures ∙ c.in_default.is) c.shown-found.result c.shown-found.ensures (sym c.in_the_way.ensures ∙ c.in_default-in_the_way.is) c.in-Some-version.old c.in-Some-version.is) c.in_ok-remove.ensures.ok c.has_open_end-is_open.ensures c.owe_end.ensures c.self.invariant.waiting;
     }
 
 pub returns-clause-step : goal.returns-clause-step
 returns-clause-step c = λ opening steps s h.
     let f = c.self.inside in
     let old : CoreData = core_data f in
-    deleted_leads no_readers opening steps s old (subst (StandsFor opening steps s) (sym c.self.view_is) h) c.args.tx c.args.key refl (sym c.not_removed.ensures ∙ c.in_default.is) c.shown-found.result c.shown-found.ensures (sym c.in_the_way.ensures ∙ c.in_default-in_the_way.is) c.in-Some-version.old c.in-Some-version.is c.remove.new.versions c.remove.new.table c.in_ok-remove.ensures.ok
+    let now : CoreData = record old { works = c.prepare.new.works } in
+    deleted_leads no_readers opening steps s now (stands_same_works no_readers opening steps s old (subst (StandsFor opening steps s) (sym c.self.view_is) h) c.prepare.new.works c.prepare.ensures.same) c.args.tx c.args.key refl (sym c.not_removed.ensures ∙ c.in_default.is) c.shown-found.result c.shown-found.ensures (sym c.in_the_way.ensures ∙ c.in_default-in_the_way.is) c.in-Some-version.old c.in-Some-version.is c.remove.new.versions c.remove.new.table c.in_ok-remove.ensures.ok c.tell-2.new.self
+    (record { next = c.in_ok-next.next; prepared = c.in_ok-next.ensures.next; told = c.tell-2.ensures.told })
 
 pub returns-clause-answer : goal.returns-clause-answer
 returns-clause-answer c = λ opening steps s h.
@@ -176,8 +254,16 @@ returns-clause-answer c = λ opening steps s h.
 pub invariant_of-self-in_err-make_room : goal.invariant_of-self-in_err-make_room
 invariant_of-self-in_err-make_room c =
     let f = c.self.inside in
+    let i = c.self.invariant.stands in
+    let old : CoreData = core_data f in
+    let now : CoreData = record old { works = c.prepare.new.works } in
+    let g : StandsWhole i.opening i.steps i.own i.whole now = whole_same_works i.opening i.steps i.own i.whole old i.stands c.prepare.new.works c.prepare.ensures.same in
     record {
-      stands = c.self.invariant.stands;
+      stands =
+          whole_stands_on i (CoreCall (Do c.args.tx.0 (Delete c.args.key))) (Refused OutOfMemory) now
+          (let other = (stage_none (readers_of i.whole) i.opening i.own i.whole.core now g.core c.args.tx.0 (remove_not_reading f.table c.args.tx.0 c.args.key (sym c.not_removed.ensures ∙ c.in_default.is))) in
+          others_lead i.opening i.steps i.own i.whole (Do c.args.tx.0 (Delete c.args.key)) _ now _ g other tt
+          (delete_starved (readers_of i.whole) i.opening i.own i.whole.core now g.core c.args.tx c.args.key other (sym c.not_removed.ensures ∙ c.in_default.is) c.shown-found.result c.shown-found.ensures (sym c.in_the_way.ensures ∙ c.in_default-in_the_way.is)));
       waiting = waits_roomy f.table.clock (state_of f.table) f.versions.slots f.waiting c.make_room.new.self c.make_room.new.self.room c.make_room.ensures.same c.self.invariant.waiting;
     }
 
@@ -185,8 +271,9 @@ pub returns-in_err-make_room-clause-step : goal.returns-in_err-make_room-clause-
 returns-in_err-make_room-clause-step c = λ opening steps s h.
     let f = c.self.inside in
     let old : CoreData = core_data f in
-    subst (λ r. LeadsOn opening steps s (Do c.args.tx.0 (Delete c.args.key)) r old) (came_spent c.from_residual-in_err-make_room.result c.from_residual-in_err-make_room.ensures.1)
-    (delete_starved no_readers opening steps s old (subst (StandsFor opening steps s) (sym c.self.view_is) h) c.args.tx c.args.key refl (sym c.not_removed.ensures ∙ c.in_default.is) c.shown-found.result c.shown-found.ensures (sym c.in_the_way.ensures ∙ c.in_default-in_the_way.is))
+    let now : CoreData = record old { works = c.prepare.new.works } in
+    subst (λ r. LeadsOn opening steps s (Do c.args.tx.0 (Delete c.args.key)) r now) (came_spent c.from_residual-in_err-make_room.result c.from_residual-in_err-make_room.ensures.1)
+    (delete_starved no_readers opening steps s now (stands_same_works no_readers opening steps s old (subst (StandsFor opening steps s) (sym c.self.view_is) h) c.prepare.new.works c.prepare.ensures.same) c.args.tx c.args.key refl (sym c.not_removed.ensures ∙ c.in_default.is) c.shown-found.result c.shown-found.ensures (sym c.in_the_way.ensures ∙ c.in_default-in_the_way.is))
 
 -- ---- beside read-only ones
 pub returns-in-Some-clause-whole : goal.returns-in-Some-clause-whole
@@ -214,20 +301,23 @@ pub returns-in_err-record_answer-clause-whole : goal.returns-in_err-record_answe
 returns-in_err-record_answer-clause-whole c = λ opening steps own w h.
     let f = c.self.inside in
     let old : CoreData = core_data f in
-    let g : StandsWhole opening steps own w old = subst (StandsWhole opening steps own w) (sym c.self.view_is) h in
-    let other = stage_none (readers_of w) opening own w.core old g.core c.args.tx.0 (remove_not_reading f.table c.args.tx.0 c.args.key (sym c.not_removed.ensures ∙ c.in_default.is)) in
-    subst (λ r. LeadsWhole opening steps own w (CoreCall (Do c.args.tx.0 (Delete c.args.key))) r (record old { table = c.record_answer.new.table })) (came_spent c.from_residual.result c.from_residual.ensures.1)
-    (others_lead opening steps own w (Do c.args.tx.0 (Delete c.args.key)) _ old _ g other tt
-    (delete_spent (readers_of w) opening own w.core old g.core c.args.tx c.args.key other (sym c.not_removed.ensures ∙ c.in_default.is) c.shown-found.result c.shown-found.ensures (sym c.in_the_way.ensures ∙ c.in_default-in_the_way.is) c.record_answer.new.table c.in_err-record_answer.ensures.err))
+    let now : CoreData = record old { works = c.prepare.new.works } in
+    let g : StandsWhole opening steps own w now = whole_same_works opening steps own w old (subst (StandsWhole opening steps own w) (sym c.self.view_is) h) c.prepare.new.works c.prepare.ensures.same in
+    let other = stage_none (readers_of w) opening own w.core now g.core c.args.tx.0 (remove_not_reading f.table c.args.tx.0 c.args.key (sym c.not_removed.ensures ∙ c.in_default.is)) in
+    subst (λ r. LeadsWhole opening steps own w (CoreCall (Do c.args.tx.0 (Delete c.args.key))) r (record now { table = c.record_answer.new.table })) (came_spent c.from_residual-in_err-record_answer.result c.from_residual-in_err-record_answer.ensures.1)
+    (others_lead opening steps own w (Do c.args.tx.0 (Delete c.args.key)) _ now _ g other tt
+    (delete_spent (readers_of w) opening own w.core now g.core c.args.tx c.args.key other (sym c.not_removed.ensures ∙ c.in_default.is) c.shown-found.result c.shown-found.ensures (sym c.in_the_way.ensures ∙ c.in_default-in_the_way.is) c.record_answer.new.table c.in_err-record_answer.ensures.err))
 
 pub returns-in_default-version-clause-whole : goal.returns-in_default-version-clause-whole
 returns-in_default-version-clause-whole c = λ opening steps own w h.
     let f = c.self.inside in
     let old : CoreData = core_data f in
-    let g : StandsWhole opening steps own w old = subst (StandsWhole opening steps own w) (sym c.self.view_is) h in
-    let other = stage_none (readers_of w) opening own w.core old g.core c.args.tx.0 (remove_not_reading f.table c.args.tx.0 c.args.key (sym c.not_removed.ensures ∙ c.in_default.is)) in
-    others_lead opening steps own w (Do c.args.tx.0 (Delete c.args.key)) _ old _ g other tt
-    (absent_leads (readers_of w) opening own w.core old g.core c.args.tx c.args.key other (sym c.not_removed.ensures ∙ c.in_default.is) c.shown-found.result c.shown-found.ensures (sym c.in_the_way.ensures ∙ c.in_default-in_the_way.is) c.in_default-version.is c.record_answer.new.table c.in_ok-record_answer.ensures.ok)
+    let now : CoreData = record old { works = c.prepare.new.works } in
+    let g : StandsWhole opening steps own w now = whole_same_works opening steps own w old (subst (StandsWhole opening steps own w) (sym c.self.view_is) h) c.prepare.new.works c.prepare.ensures.same in
+    let other = stage_none (readers_of w) opening own w.core now g.core c.args.tx.0 (remove_not_reading f.table c.args.tx.0 c.args.key (sym c.not_removed.ensures ∙ c.in_default.is)) in
+    others_lead opening steps own w (Do c.args.tx.0 (Delete c.args.key)) _ now _ g other tt
+    (absent_leads (readers_of w) opening own w.core now g.core c.args.tx c.args.key other (sym c.not_removed.ensures ∙ c.in_default.is) c.shown-found.result c.shown-found.ensures (sym c.in_the_way.ensures ∙ c.in_default-in_the_way.is) c.in_default-version.is c.record_answer.new.table c.in_ok-record_answer.ensures.ok c.tell.new.self
+    (record { next = c.in_ok-next.next; prepared = c.in_ok-next.ensures.next; told = c.tell.ensures.told }))
 
 pub returns-in_default-version-clause-whole_answer : goal.returns-in_default-version-clause-whole_answer
 returns-in_default-version-clause-whole_answer c = λ opening steps own w h.
@@ -241,20 +331,23 @@ pub returns-in_err-remove-clause-whole : goal.returns-in_err-remove-clause-whole
 returns-in_err-remove-clause-whole c = λ opening steps own w h.
     let f = c.self.inside in
     let old : CoreData = core_data f in
-    let g : StandsWhole opening steps own w old = subst (StandsWhole opening steps own w) (sym c.self.view_is) h in
-    let other = stage_none (readers_of w) opening own w.core old g.core c.args.tx.0 (remove_not_reading f.table c.args.tx.0 c.args.key (sym c.not_removed.ensures ∙ c.in_default.is)) in
-    subst (λ r. LeadsWhole opening steps own w (CoreCall (Do c.args.tx.0 (Delete c.args.key))) r (record old { versions = c.remove.new.versions; table = c.remove.new.table })) (came_spent c.from_residual-in_err-remove.result c.from_residual-in_err-remove.ensures.1)
-    (others_lead opening steps own w (Do c.args.tx.0 (Delete c.args.key)) _ old _ g other tt
-    (delete_left (readers_of w) opening own w.core old g.core c.args.tx c.args.key other (sym c.not_removed.ensures ∙ c.in_default.is) c.shown-found.result c.shown-found.ensures (sym c.in_the_way.ensures ∙ c.in_default-in_the_way.is) c.remove.new.versions c.in_err-remove.ensures.same c.remove.new.table c.in_err-remove.ensures.err))
+    let now : CoreData = record old { works = c.prepare.new.works } in
+    let g : StandsWhole opening steps own w now = whole_same_works opening steps own w old (subst (StandsWhole opening steps own w) (sym c.self.view_is) h) c.prepare.new.works c.prepare.ensures.same in
+    let other = stage_none (readers_of w) opening own w.core now g.core c.args.tx.0 (remove_not_reading f.table c.args.tx.0 c.args.key (sym c.not_removed.ensures ∙ c.in_default.is)) in
+    subst (λ r. LeadsWhole opening steps own w (CoreCall (Do c.args.tx.0 (Delete c.args.key))) r (record now { versions = c.remove.new.versions; table = c.remove.new.table })) (came_spent c.from_residual-in_err-remove.result c.from_residual-in_err-remove.ensures.1)
+    (others_lead opening steps own w (Do c.args.tx.0 (Delete c.args.key)) _ now _ g other tt
+    (delete_left (readers_of w) opening own w.core now g.core c.args.tx c.args.key other (sym c.not_removed.ensures ∙ c.in_default.is) c.shown-found.result c.shown-found.ensures (sym c.in_the_way.ensures ∙ c.in_default-in_the_way.is) c.remove.new.versions c.in_err-remove.ensures.same c.remove.new.table c.in_err-remove.ensures.err))
 
 pub returns-clause-whole : goal.returns-clause-whole
 returns-clause-whole c = λ opening steps own w h.
     let f = c.self.inside in
     let old : CoreData = core_data f in
-    let g : StandsWhole opening steps own w old = subst (StandsWhole opening steps own w) (sym c.self.view_is) h in
-    let other = stage_none (readers_of w) opening own w.core old g.core c.args.tx.0 (remove_not_reading f.table c.args.tx.0 c.args.key (sym c.not_removed.ensures ∙ c.in_default.is)) in
-    others_lead opening steps own w (Do c.args.tx.0 (Delete c.args.key)) _ old _ g other tt
-    (deleted_leads (readers_of w) opening own w.core old g.core c.args.tx c.args.key other (sym c.not_removed.ensures ∙ c.in_default.is) c.shown-found.result c.shown-found.ensures (sym c.in_the_way.ensures ∙ c.in_default-in_the_way.is) c.in-Some-version.old c.in-Some-version.is c.remove.new.versions c.remove.new.table c.in_ok-remove.ensures.ok)
+    let now : CoreData = record old { works = c.prepare.new.works } in
+    let g : StandsWhole opening steps own w now = whole_same_works opening steps own w old (subst (StandsWhole opening steps own w) (sym c.self.view_is) h) c.prepare.new.works c.prepare.ensures.same in
+    let other = stage_none (readers_of w) opening own w.core now g.core c.args.tx.0 (remove_not_reading f.table c.args.tx.0 c.args.key (sym c.not_removed.ensures ∙ c.in_default.is)) in
+    others_lead opening steps own w (Do c.args.tx.0 (Delete c.args.key)) _ now _ g other tt
+    (deleted_leads (readers_of w) opening own w.core now g.core c.args.tx c.args.key other (sym c.not_removed.ensures ∙ c.in_default.is) c.shown-found.result c.shown-found.ensures (sym c.in_the_way.ensures ∙ c.in_default-in_the_way.is) c.in-Some-version.old c.in-Some-version.is c.remove.new.versions c.remove.new.table c.in_ok-remove.ensures.ok c.tell-2.new.self
+    (record { next = c.in_ok-next.next; prepared = c.in_ok-next.ensures.next; told = c.tell-2.ensures.told }))
 
 pub returns-clause-whole_answer : goal.returns-clause-whole_answer
 returns-clause-whole_answer c = λ opening steps own w h.
@@ -268,11 +361,12 @@ pub returns-in_err-make_room-clause-whole : goal.returns-in_err-make_room-clause
 returns-in_err-make_room-clause-whole c = λ opening steps own w h.
     let f = c.self.inside in
     let old : CoreData = core_data f in
-    let g : StandsWhole opening steps own w old = subst (StandsWhole opening steps own w) (sym c.self.view_is) h in
-    let other = stage_none (readers_of w) opening own w.core old g.core c.args.tx.0 (remove_not_reading f.table c.args.tx.0 c.args.key (sym c.not_removed.ensures ∙ c.in_default.is)) in
-    subst (λ r. LeadsWhole opening steps own w (CoreCall (Do c.args.tx.0 (Delete c.args.key))) r old) (came_spent c.from_residual-in_err-make_room.result c.from_residual-in_err-make_room.ensures.1)
-    (others_lead opening steps own w (Do c.args.tx.0 (Delete c.args.key)) _ old _ g other tt
-    (delete_starved (readers_of w) opening own w.core old g.core c.args.tx c.args.key other (sym c.not_removed.ensures ∙ c.in_default.is) c.shown-found.result c.shown-found.ensures (sym c.in_the_way.ensures ∙ c.in_default-in_the_way.is)))
+    let now : CoreData = record old { works = c.prepare.new.works } in
+    let g : StandsWhole opening steps own w now = whole_same_works opening steps own w old (subst (StandsWhole opening steps own w) (sym c.self.view_is) h) c.prepare.new.works c.prepare.ensures.same in
+    let other = stage_none (readers_of w) opening own w.core now g.core c.args.tx.0 (remove_not_reading f.table c.args.tx.0 c.args.key (sym c.not_removed.ensures ∙ c.in_default.is)) in
+    subst (λ r. LeadsWhole opening steps own w (CoreCall (Do c.args.tx.0 (Delete c.args.key))) r now) (came_spent c.from_residual-in_err-make_room.result c.from_residual-in_err-make_room.ensures.1)
+    (others_lead opening steps own w (Do c.args.tx.0 (Delete c.args.key)) _ now _ g other tt
+    (delete_starved (readers_of w) opening own w.core now g.core c.args.tx c.args.key other (sym c.not_removed.ensures ∙ c.in_default.is) c.shown-found.result c.shown-found.ensures (sym c.in_the_way.ensures ∙ c.in_default-in_the_way.is)))
 
 pub returns-clause-count : goal.returns-clause-count
 returns-clause-count c =

@@ -7,7 +7,8 @@ use Rattle.mvo_core.specs.View.{core_data}
 use Rattle.mvo_txn.specs.Txns.{state_of}
 use Rattle.mvo_core.specs.Standing.{StandsFor, words_in}
 use Rattle.mvo_core.proofs.WholeStands.{whole_stands_on}
-use Rattle.mvo_core.proofs.Finished.{drawn_end, finish_more, finish_done, replaced_ended}
+use Rattle.mvo_core.proofs.Finished.{drawn_end, final_ended, finish_more, finish_done, replaced_ended}
+use Rattle.mvo_core.proofs.WorksHeld.{stands_forgotten_work, whole_forgotten_work}
 use Rattle.mvo_core.specs.WholeStanding.{readers_of, StandsWhole, LeadsWhole}
 use Rattle.mvo_readonly.specs.WholeCauses.WholeCall.{CoreCall}
 use Rattle.mvo_core.specs.Finishing.{why_not_finished}
@@ -63,10 +64,11 @@ invariant_of-self-2 c =
     let f = c.self.inside in
     let i = c.self.invariant.stands in
     let old : CoreData = core_data f in
+    let now : CoreData = record old { works = c.forget.new.self } in
     record {
       stands =
-          whole_stands_on i (CoreCall (Finish c.args.tx.0)) Accepted (record old { versions = c.replace_next-replaced.new.versions; table = c.terminate-node.new.self })
-          ((finish_done_whole i.opening i.steps i.own i.whole old i.stands c.args.tx.0 c.in_ok-word.word c.in_ok-word.ensures.ok c.replace_next-replaced.new.versions c.replace_next-replaced.ensures.replaced.between c.replace_next-replaced.new.table
+          whole_stands_on i (CoreCall (Finish c.args.tx.0)) Accepted (record now { versions = c.replace_next-replaced.new.versions; table = c.terminate-node.new.self })
+          ((finish_done_whole i.opening i.steps i.own i.whole now (whole_forgotten_work i.opening i.steps i.own i.whole old i.stands c.forget.new.self c.args.tx.0 (final_ended (state_of f.table c.args.tx.0) c.in_ok-word.word c.in_ok-word.ensures.ok) c.forget.ensures) c.args.tx.0 c.in_ok-word.word c.in_ok-word.ensures.ok c.replace_next-replaced.new.versions c.replace_next-replaced.ensures.replaced.between c.replace_next-replaced.new.table
           c.replace_next-replaced.ensures.replaced.next c.replace_next-replaced.ensures.replaced.passed c.replace_next-replaced.result.1 c.replace_next-replaced.ensures.next c.if-is_some.ensures c.terminate-node.new.self c.terminate-node.ensures.gone).leads);
       waiting = waits_gone c.replace_next-replaced.new.table c.terminate-node.new.self c.args.tx.0 c.replace_next-replaced.new.versions.slots c.count_off.new.waiting c.terminate-node.ensures.gone (waits_finished f.versions c.replace_next-replaced.new.versions f.table c.replace_next-replaced.ensures.replaced.between c.replace_next-replaced.new.table c.args.tx.0 c.in_ok-word.word c.replace_next-replaced.ensures.replaced.next c.in_ok-word.ensures.ok c.replace_next-replaced.ensures.replaced.passed f.waiting c.count_off.new.waiting c.replace_next-replaced.result.0 c.replace_next-replaced.ensures.first c.count_off.ensures c.self.invariant.waiting);
     }
@@ -75,7 +77,8 @@ pub returns-clause-step : goal.returns-clause-step
 returns-clause-step c = λ opening steps s h.
     let f = c.self.inside in
     let old : CoreData = core_data f in
-    (finish_done no_readers opening steps s old (subst (StandsFor opening steps s) (sym c.self.view_is) h) c.args.tx.0 refl c.in_ok-word.word c.in_ok-word.ensures.ok
+    let now : CoreData = record old { works = c.forget.new.self } in
+    (finish_done no_readers opening steps s now (stands_forgotten_work no_readers opening steps s old (subst (StandsFor opening steps s) (sym c.self.view_is) h) c.forget.new.self c.args.tx.0 (final_ended (state_of f.table c.args.tx.0) c.in_ok-word.word c.in_ok-word.ensures.ok) c.forget.ensures) c.args.tx.0 refl c.in_ok-word.word c.in_ok-word.ensures.ok
     c.replace_next-replaced.new.versions c.replace_next-replaced.ensures.replaced.between c.replace_next-replaced.new.table c.terminate-node.new.self c.replace_next-replaced.ensures.replaced.next c.replace_next-replaced.ensures.replaced.passed c.replace_next-replaced.result.1 c.replace_next-replaced.ensures.next
     c.if-is_some.ensures c.terminate-node.ensures.gone).leads
 
@@ -105,8 +108,9 @@ pub returns-clause-whole : goal.returns-clause-whole
 returns-clause-whole c = λ opening steps own w h.
     let f = c.self.inside in
     let old : CoreData = core_data f in
-    let g : StandsWhole opening steps own w old = subst (StandsWhole opening steps own w) (sym c.self.view_is) h in
-    (finish_done_whole opening steps own w old g c.args.tx.0 c.in_ok-word.word c.in_ok-word.ensures.ok c.replace_next-replaced.new.versions c.replace_next-replaced.ensures.replaced.between c.replace_next-replaced.new.table
+    let now : CoreData = record old { works = c.forget.new.self } in
+    let g : StandsWhole opening steps own w now = whole_forgotten_work opening steps own w old (subst (StandsWhole opening steps own w) (sym c.self.view_is) h) c.forget.new.self c.args.tx.0 (final_ended (state_of f.table c.args.tx.0) c.in_ok-word.word c.in_ok-word.ensures.ok) c.forget.ensures in
+    (finish_done_whole opening steps own w now g c.args.tx.0 c.in_ok-word.word c.in_ok-word.ensures.ok c.replace_next-replaced.new.versions c.replace_next-replaced.ensures.replaced.between c.replace_next-replaced.new.table
     c.replace_next-replaced.ensures.replaced.next c.replace_next-replaced.ensures.replaced.passed c.replace_next-replaced.result.1 c.replace_next-replaced.ensures.next c.if-is_some.ensures c.terminate-node.new.self c.terminate-node.ensures.gone).leads
 
 pub returns-then-is_some-clause-whole_answer : goal.returns-then-is_some-clause-whole_answer

@@ -13,9 +13,10 @@ use Rattle.mvo_core.specs.View.{core_data}
 use Rattle.mvo_core.specs.Standing.{StandsFor}
 use Rattle.mvo_core.specs.Steps.{LeadsOn}
 use Rattle.mvo_core.proofs.WholeStands.{whole_stands_on}
-use Rattle.mvo_core.proofs.Inserting.{insert_starved, insert_refused, insert_spent, insert_spent_same, exists_answers, exists_leads, insert_leads, inserted_answers}
+use Rattle.mvo_core.proofs.Inserting.{insert_starved, insert_refused, insert_spent, insert_spent_same, exists_answers, exists_leads, insert_leads, inserted_answers, insert_may_be_told, insert_fits}
 use Rattle.mvo_core.proofs.Looked.{shown_in}
 use Rattle.mvo_core.proofs.Refused.{came_spent}
+use Rattle.mvo_core.proofs.WorksHeld.{stands_same_works, whole_same_works}
 use Rattle.std.specs.Option.{option_to_list}
 use Rattle.mvo_core.specs.Keeping.{HasDoneAsMuch}
 use Rattle.mvo_core.proofs.Waits.{waits_roomy, waits_alike, alike_written, alike_recorded, waits_spent, waits_inserted}
@@ -34,17 +35,81 @@ returns-in-Some-clause-step c = λ opening steps s h.
     (ap (λ (x : CoreData). why_not_put x.table c.args.tx.0 c.args.row) (sym c.self.view_is) ∙ sym c.not_put.ensures ∙ c.in-Some.is) c.give_up.new.self
     (c.give_up.ensures.left no_readers opening steps s refl h))
 
+-- ---- the work is prepared
+pub prepare_insert-requires : goal.prepare_insert-requires
+prepare_insert-requires c =
+    let f = c.self.inside in
+    let i = c.self.invariant.stands in
+    let old : CoreData = core_data f in
+    let is = subst (λ k. AreVersionsInOrder (state_of f.table) c.args.tx.0 c.args.tx.0 (versions_at f.versions.slots f.versions.lists k) → c.shown-found.result ≡ shown_in old c.args.tx.0 k) c.row_key-key.ensures c.shown-found.ensures in
+    insert_fits (readers_of i.whole) i.opening i.own i.whole.core old i.stands.core c.args.tx c.args.row (stage_none (readers_of i.whole) i.opening i.own i.whole.core old i.stands.core c.args.tx.0 (put_not_reading f.table c.args.tx.0 c.args.row (sym c.not_put.ensures ∙ c.in_default.is))) (sym c.not_put.ensures ∙ c.in_default.is) c.shown-found.result is
+
 pub invariant_of-self : goal.invariant_of-self
 invariant_of-self c =
     let f = c.self.inside in
     let i = c.self.invariant.stands in
     let old : CoreData = core_data f in
+    let now : CoreData = record old { works = c.prepare_insert.new.works } in
+    let g : StandsWhole i.opening i.steps i.own i.whole now = whole_same_works i.opening i.steps i.own i.whole old i.stands c.prepare_insert.new.works c.prepare_insert.ensures.same in
     record {
       stands =
-          whole_stands_on i (CoreCall (Do c.args.tx.0 (Insert c.args.row))) (Refused OutOfMemory) (record old { table = c.record_answer.new.table })
-          (let other = stage_none (readers_of i.whole) i.opening i.own i.whole.core old i.stands.core c.args.tx.0 (put_not_reading f.table c.args.tx.0 c.args.row (sym c.not_put.ensures ∙ c.in_default.is)) in
-          (others_lead i.opening i.steps i.own i.whole (Do c.args.tx.0 (Insert c.args.row)) _ old _ i.stands other tt
-          (insert_spent (readers_of i.whole) i.opening i.own i.whole.core old i.stands.core c.args.tx c.args.row other (sym c.not_put.ensures ∙ c.in_default.is) c.record_answer.new.table c.in_err-record_answer.ensures.err)));
+          whole_stands_on i (CoreCall (Do c.args.tx.0 (Insert c.args.row))) (Refused OutOfMemory) now
+          (let other = (stage_none (readers_of i.whole) i.opening i.own i.whole.core now g.core c.args.tx.0 (put_not_reading f.table c.args.tx.0 c.args.row (sym c.not_put.ensures ∙ c.in_default.is))) in
+          others_lead i.opening i.steps i.own i.whole (Do c.args.tx.0 (Insert c.args.row)) _ now _ g other tt
+          (insert_starved (readers_of i.whole) i.opening i.own i.whole.core now g.core c.args.tx c.args.row other (sym c.not_put.ensures ∙ c.in_default.is)));
+      waiting = c.self.invariant.waiting;
+    }
+
+pub returns-in_err-next-clause-step : goal.returns-in_err-next-clause-step
+returns-in_err-next-clause-step c = λ opening steps s h.
+    let f = c.self.inside in
+    let old : CoreData = core_data f in
+    let now : CoreData = record old { works = c.prepare_insert.new.works } in
+    subst (λ r. LeadsOn opening steps s (Do c.args.tx.0 (Insert c.args.row)) r now) (came_spent c.from_residual.result c.from_residual.ensures.1)
+    (insert_starved no_readers opening steps s now (stands_same_works no_readers opening steps s old (subst (StandsFor opening steps s) (sym c.self.view_is) h) c.prepare_insert.new.works c.prepare_insert.ensures.same) c.args.tx c.args.row refl (sym c.not_put.ensures ∙ c.in_default.is))
+
+pub returns-in_err-next-clause-whole : goal.returns-in_err-next-clause-whole
+returns-in_err-next-clause-whole c = λ opening steps own w h.
+    let f = c.self.inside in
+    let old : CoreData = core_data f in
+    let now : CoreData = record old { works = c.prepare_insert.new.works } in
+    let g : StandsWhole opening steps own w now = whole_same_works opening steps own w old (subst (StandsWhole opening steps own w) (sym c.self.view_is) h) c.prepare_insert.new.works c.prepare_insert.ensures.same in
+    let other = stage_none (readers_of w) opening own w.core now g.core c.args.tx.0 (put_not_reading f.table c.args.tx.0 c.args.row (sym c.not_put.ensures ∙ c.in_default.is)) in
+    subst (λ r. LeadsWhole opening steps own w (CoreCall (Do c.args.tx.0 (Insert c.args.row))) r now) (came_spent c.from_residual.result c.from_residual.ensures.1)
+    (others_lead opening steps own w (Do c.args.tx.0 (Insert c.args.row)) _ now _ g other tt
+    (insert_starved (readers_of w) opening own w.core now g.core c.args.tx c.args.row other (sym c.not_put.ensures ∙ c.in_default.is)))
+
+pub tell-requires : goal.tell-requires
+tell-requires c =
+    let f = c.self.inside in
+    let i = c.self.invariant.stands in
+    let old : CoreData = core_data f in
+    let now : CoreData = record old { works = c.prepare_insert.new.works } in
+    let g : StandsWhole i.opening i.steps i.own i.whole now = whole_same_works i.opening i.steps i.own i.whole old i.stands c.prepare_insert.new.works c.prepare_insert.ensures.same in
+    insert_may_be_told (readers_of i.whole) i.opening i.own i.whole.core now g.core c.args.tx c.args.row (stage_none (readers_of i.whole) i.opening i.own i.whole.core now g.core c.args.tx.0 (put_not_reading f.table c.args.tx.0 c.args.row (sym c.not_put.ensures ∙ c.in_default.is))) (sym c.not_put.ensures ∙ c.in_default.is) _ c.in_ok-next.next c.in_ok-next.ensures.next
+
+pub tell-requires-2 : goal.tell-requires-2
+tell-requires-2 c =
+    let f = c.self.inside in
+    let i = c.self.invariant.stands in
+    let old : CoreData = core_data f in
+    let now : CoreData = record old { works = c.prepare_insert.new.works } in
+    let g : StandsWhole i.opening i.steps i.own i.whole now = whole_same_works i.opening i.steps i.own i.whole old i.stands c.prepare_insert.new.works c.prepare_insert.ensures.same in
+    insert_may_be_told (readers_of i.whole) i.opening i.own i.whole.core now g.core c.args.tx c.args.row (stage_none (readers_of i.whole) i.opening i.own i.whole.core now g.core c.args.tx.0 (put_not_reading f.table c.args.tx.0 c.args.row (sym c.not_put.ensures ∙ c.in_default.is))) (sym c.not_put.ensures ∙ c.in_default.is) _ c.in_ok-next.next c.in_ok-next.ensures.next
+
+pub invariant_of-self-in_err-record_answer : goal.invariant_of-self-in_err-record_answer
+invariant_of-self-in_err-record_answer c =
+    let f = c.self.inside in
+    let i = c.self.invariant.stands in
+    let old : CoreData = core_data f in
+    let now : CoreData = record old { works = c.prepare_insert.new.works } in
+    let g : StandsWhole i.opening i.steps i.own i.whole now = whole_same_works i.opening i.steps i.own i.whole old i.stands c.prepare_insert.new.works c.prepare_insert.ensures.same in
+    record {
+      stands =
+          whole_stands_on i (CoreCall (Do c.args.tx.0 (Insert c.args.row))) (Refused OutOfMemory) (record now { table = c.record_answer.new.table })
+          (let other = stage_none (readers_of i.whole) i.opening i.own i.whole.core now g.core c.args.tx.0 (put_not_reading f.table c.args.tx.0 c.args.row (sym c.not_put.ensures ∙ c.in_default.is)) in
+          (others_lead i.opening i.steps i.own i.whole (Do c.args.tx.0 (Insert c.args.row)) _ now _ g other tt
+          (insert_spent (readers_of i.whole) i.opening i.own i.whole.core now g.core c.args.tx c.args.row other (sym c.not_put.ensures ∙ c.in_default.is) c.record_answer.new.table c.in_err-record_answer.ensures.err)));
       waiting = waits_alike f.table c.record_answer.new.table f.versions.slots f.waiting (alike_written f.table c.record_answer.new.table c.args.tx.0 HasDoneAsMuch c.in_err-record_answer.ensures.err) c.self.invariant.waiting;
     }
 
@@ -52,23 +117,27 @@ pub returns-in_err-record_answer-clause-step : goal.returns-in_err-record_answer
 returns-in_err-record_answer-clause-step c = λ opening steps s h.
     let f = c.self.inside in
     let old : CoreData = core_data f in
-    subst (λ r. LeadsOn opening steps s (Do c.args.tx.0 (Insert c.args.row)) r (record old { table = c.record_answer.new.table })) (came_spent c.from_residual.result c.from_residual.ensures.1)
-    (insert_spent no_readers opening steps s old (subst (StandsFor opening steps s) (sym c.self.view_is) h) c.args.tx c.args.row refl (sym c.not_put.ensures ∙ c.in_default.is) c.record_answer.new.table c.in_err-record_answer.ensures.err)
+    let now : CoreData = record old { works = c.prepare_insert.new.works } in
+    subst (λ r. LeadsOn opening steps s (Do c.args.tx.0 (Insert c.args.row)) r (record now { table = c.record_answer.new.table })) (came_spent c.from_residual-in_err-record_answer.result c.from_residual-in_err-record_answer.ensures.1)
+    (insert_spent no_readers opening steps s now (stands_same_works no_readers opening steps s old (subst (StandsFor opening steps s) (sym c.self.view_is) h) c.prepare_insert.new.works c.prepare_insert.ensures.same) c.args.tx c.args.row refl (sym c.not_put.ensures ∙ c.in_default.is) c.record_answer.new.table c.in_err-record_answer.ensures.err)
 
 pub invariant_of-self-then-is_some : goal.invariant_of-self-then-is_some
 invariant_of-self-then-is_some c =
     let f = c.self.inside in
     let i = c.self.invariant.stands in
     let old : CoreData = core_data f in
-    let is = subst (λ k. AreVersionsInOrder (state_of f.table) c.args.tx.0 c.args.tx.0 (versions_at f.versions.slots f.versions.lists k) → c.shown-found.result ≡ shown_in old c.args.tx.0 k) c.row_key-key.ensures c.shown-found.ensures in
+    let now : CoreData = record old { works = c.prepare_insert.new.works } in
+    let g : StandsWhole i.opening i.steps i.own i.whole now = whole_same_works i.opening i.steps i.own i.whole old i.stands c.prepare_insert.new.works c.prepare_insert.ensures.same in
+    let is = subst (λ k. AreVersionsInOrder (state_of f.table) c.args.tx.0 c.args.tx.0 (versions_at f.versions.slots f.versions.lists k) → c.shown-found.result ≡ shown_in now c.args.tx.0 k) c.row_key-key.ensures c.shown-found.ensures in
     record {
       stands =
-          whole_stands_on i (CoreCall (Do c.args.tx.0 (Insert c.args.row))) Accepted (record old { table = c.record_answer.new.table })
-          (let other = stage_none (readers_of i.whole) i.opening i.own i.whole.core old i.stands.core c.args.tx.0 (put_not_reading f.table c.args.tx.0 c.args.row (sym c.not_put.ensures ∙ c.in_default.is)) in
-          let is = subst (λ k. AreVersionsInOrder (state_of f.table) c.args.tx.0 c.args.tx.0 (versions_at f.versions.slots f.versions.lists k) → c.shown-found.result ≡ shown_in old c.args.tx.0 k) c.row_key-key.ensures c.shown-found.ensures in
-          others_lead i.opening i.steps i.own i.whole (Do c.args.tx.0 (Insert c.args.row)) _ old _ i.stands other tt
-          (exists_leads (readers_of i.whole) i.opening i.own i.whole.core old i.stands.core c.args.tx c.args.row other (sym c.not_put.ensures ∙ c.in_default.is) c.shown-found.result is (sym c.is_some.ensures ∙ c.if-is_some.true)
-          c.record_answer.new.table c.in_ok-record_answer.ensures.ok));
+          whole_stands_on i (CoreCall (Do c.args.tx.0 (Insert c.args.row))) Accepted (record now { table = c.record_answer.new.table; works = c.tell.new.self })
+          (let other = stage_none (readers_of i.whole) i.opening i.own i.whole.core now g.core c.args.tx.0 (put_not_reading f.table c.args.tx.0 c.args.row (sym c.not_put.ensures ∙ c.in_default.is)) in
+          let is = subst (λ k. AreVersionsInOrder (state_of f.table) c.args.tx.0 c.args.tx.0 (versions_at f.versions.slots f.versions.lists k) → c.shown-found.result ≡ shown_in now c.args.tx.0 k) c.row_key-key.ensures c.shown-found.ensures in
+          others_lead i.opening i.steps i.own i.whole (Do c.args.tx.0 (Insert c.args.row)) _ now _ g other tt
+          (exists_leads (readers_of i.whole) i.opening i.own i.whole.core now g.core c.args.tx c.args.row other (sym c.not_put.ensures ∙ c.in_default.is) c.shown-found.result is (sym c.is_some.ensures ∙ c.if-is_some.true)
+          c.record_answer.new.table c.in_ok-record_answer.ensures.ok c.tell.new.self
+          (record { next = c.in_ok-next.next; prepared = c.in_ok-next.ensures.next; told = c.tell.ensures.told })));
       waiting = waits_alike f.table c.record_answer.new.table f.versions.slots f.waiting (alike_recorded f.table c.record_answer.new.table c.args.tx _ _ _ c.in_ok-record_answer.ensures.ok) c.self.invariant.waiting;
     }
 
@@ -76,9 +145,11 @@ pub returns-then-is_some-clause-step : goal.returns-then-is_some-clause-step
 returns-then-is_some-clause-step c = λ opening steps s h.
     let f = c.self.inside in
     let old : CoreData = core_data f in
-    let is = subst (λ k. AreVersionsInOrder (state_of f.table) c.args.tx.0 c.args.tx.0 (versions_at f.versions.slots f.versions.lists k) → c.shown-found.result ≡ shown_in old c.args.tx.0 k) c.row_key-key.ensures c.shown-found.ensures in
-    exists_leads no_readers opening steps s old (subst (StandsFor opening steps s) (sym c.self.view_is) h) c.args.tx c.args.row refl (sym c.not_put.ensures ∙ c.in_default.is) c.shown-found.result is (sym c.is_some.ensures ∙ c.if-is_some.true)
-    c.record_answer.new.table c.in_ok-record_answer.ensures.ok
+    let now : CoreData = record old { works = c.prepare_insert.new.works } in
+    let is = subst (λ k. AreVersionsInOrder (state_of f.table) c.args.tx.0 c.args.tx.0 (versions_at f.versions.slots f.versions.lists k) → c.shown-found.result ≡ shown_in now c.args.tx.0 k) c.row_key-key.ensures c.shown-found.ensures in
+    exists_leads no_readers opening steps s now (stands_same_works no_readers opening steps s old (subst (StandsFor opening steps s) (sym c.self.view_is) h) c.prepare_insert.new.works c.prepare_insert.ensures.same) c.args.tx c.args.row refl (sym c.not_put.ensures ∙ c.in_default.is) c.shown-found.result is (sym c.is_some.ensures ∙ c.if-is_some.true)
+    c.record_answer.new.table c.in_ok-record_answer.ensures.ok c.tell.new.self
+    (record { next = c.in_ok-next.next; prepared = c.in_ok-next.ensures.next; told = c.tell.ensures.told })
 
 pub returns-then-is_some-clause-answer : goal.returns-then-is_some-clause-answer
 returns-then-is_some-clause-answer c = λ opening steps s h.
@@ -92,12 +163,14 @@ invariant_of-self-in_err-insert_row c =
     let f = c.self.inside in
     let i = c.self.invariant.stands in
     let old : CoreData = core_data f in
+    let now : CoreData = record old { works = c.prepare_insert.new.works } in
+    let g : StandsWhole i.opening i.steps i.own i.whole now = whole_same_works i.opening i.steps i.own i.whole old i.stands c.prepare_insert.new.works c.prepare_insert.ensures.same in
     record {
       stands =
-          whole_stands_on i (CoreCall (Do c.args.tx.0 (Insert c.args.row))) (Refused OutOfMemory) (record old { versions = c.insert_row.new.versions; table = c.insert_row.new.table })
-          (let other = stage_none (readers_of i.whole) i.opening i.own i.whole.core old i.stands.core c.args.tx.0 (put_not_reading f.table c.args.tx.0 c.args.row (sym c.not_put.ensures ∙ c.in_default.is)) in
-          (others_lead i.opening i.steps i.own i.whole (Do c.args.tx.0 (Insert c.args.row)) _ old _ i.stands other tt
-          (insert_spent_same (readers_of i.whole) i.opening i.own i.whole.core old i.stands.core c.args.tx c.args.row other (sym c.not_put.ensures ∙ c.in_default.is) c.insert_row.new.versions c.in_err-insert_row.ensures.err
+          whole_stands_on i (CoreCall (Do c.args.tx.0 (Insert c.args.row))) (Refused OutOfMemory) (record now { versions = c.insert_row.new.versions; table = c.insert_row.new.table })
+          (let other = stage_none (readers_of i.whole) i.opening i.own i.whole.core now g.core c.args.tx.0 (put_not_reading f.table c.args.tx.0 c.args.row (sym c.not_put.ensures ∙ c.in_default.is)) in
+          (others_lead i.opening i.steps i.own i.whole (Do c.args.tx.0 (Insert c.args.row)) _ now _ g other tt
+          (insert_spent_same (readers_of i.whole) i.opening i.own i.whole.core now g.core c.args.tx c.args.row other (sym c.not_put.ensures ∙ c.in_default.is) c.insert_row.new.versions c.in_err-insert_row.ensures.err
           c.insert_row.ensures.indexed c.insert_row.new.table c.in_err-insert_row.ensures.alone)));
       waiting = waits_spent f.table c.insert_row.new.table c.args.tx.0 f.versions c.insert_row.new.versions f.waiting c.make_room.new.self c.make_room.ensures.same c.in_err-insert_row.ensures.err c.in_err-insert_row.ensures.alone c.self.invariant.waiting;
     }
@@ -106,9 +179,10 @@ pub returns-in_err-insert_row-clause-step : goal.returns-in_err-insert_row-claus
 returns-in_err-insert_row-clause-step c = λ opening steps s h.
     let f = c.self.inside in
     let old : CoreData = core_data f in
-    subst (λ r. LeadsOn opening steps s (Do c.args.tx.0 (Insert c.args.row)) r (record old { versions = c.insert_row.new.versions; table = c.insert_row.new.table }))
+    let now : CoreData = record old { works = c.prepare_insert.new.works } in
+    subst (λ r. LeadsOn opening steps s (Do c.args.tx.0 (Insert c.args.row)) r (record now { versions = c.insert_row.new.versions; table = c.insert_row.new.table }))
     (came_spent c.from_residual-in_err-insert_row.result c.from_residual-in_err-insert_row.ensures.1)
-    (insert_spent_same no_readers opening steps s old (subst (StandsFor opening steps s) (sym c.self.view_is) h) c.args.tx c.args.row refl (sym c.not_put.ensures ∙ c.in_default.is) c.insert_row.new.versions c.in_err-insert_row.ensures.err
+    (insert_spent_same no_readers opening steps s now (stands_same_works no_readers opening steps s old (subst (StandsFor opening steps s) (sym c.self.view_is) h) c.prepare_insert.new.works c.prepare_insert.ensures.same) c.args.tx c.args.row refl (sym c.not_put.ensures ∙ c.in_default.is) c.insert_row.new.versions c.in_err-insert_row.ensures.err
     c.insert_row.ensures.indexed c.insert_row.new.table c.in_err-insert_row.ensures.alone)
 
 pub invariant_of-self-2 : goal.invariant_of-self-2
@@ -116,15 +190,18 @@ invariant_of-self-2 c =
     let f = c.self.inside in
     let i = c.self.invariant.stands in
     let old : CoreData = core_data f in
-    let is = subst (λ k. AreVersionsInOrder (state_of f.table) c.args.tx.0 c.args.tx.0 (versions_at f.versions.slots f.versions.lists k) → c.shown-found.result ≡ shown_in old c.args.tx.0 k) c.row_key-key.ensures c.shown-found.ensures in
+    let now : CoreData = record old { works = c.prepare_insert.new.works } in
+    let g : StandsWhole i.opening i.steps i.own i.whole now = whole_same_works i.opening i.steps i.own i.whole old i.stands c.prepare_insert.new.works c.prepare_insert.ensures.same in
+    let is = subst (λ k. AreVersionsInOrder (state_of f.table) c.args.tx.0 c.args.tx.0 (versions_at f.versions.slots f.versions.lists k) → c.shown-found.result ≡ shown_in now c.args.tx.0 k) c.row_key-key.ensures c.shown-found.ensures in
     record {
       stands =
-          whole_stands_on i (CoreCall (Do c.args.tx.0 (Insert c.args.row))) Accepted (record old { versions = c.insert_row.new.versions; table = c.insert_row.new.table })
-          (let other = stage_none (readers_of i.whole) i.opening i.own i.whole.core old i.stands.core c.args.tx.0 (put_not_reading f.table c.args.tx.0 c.args.row (sym c.not_put.ensures ∙ c.in_default.is)) in
-          let is = subst (λ k. AreVersionsInOrder (state_of f.table) c.args.tx.0 c.args.tx.0 (versions_at f.versions.slots f.versions.lists k) → c.shown-found.result ≡ shown_in old c.args.tx.0 k) c.row_key-key.ensures c.shown-found.ensures in
-          others_lead i.opening i.steps i.own i.whole (Do c.args.tx.0 (Insert c.args.row)) _ old _ i.stands other tt
-          (insert_leads (readers_of i.whole) i.opening i.own i.whole.core old i.stands.core c.args.tx c.args.row other (sym c.not_put.ensures ∙ c.in_default.is) c.shown-found.result is (sym c.is_some.ensures ∙ c.if-is_some.false)
-          c.insert_row.new.versions c.insert_row.new.table c.in_ok-insert_row.ensures.ok c.insert_row.ensures.indexed));
+          whole_stands_on i (CoreCall (Do c.args.tx.0 (Insert c.args.row))) Accepted (record now { versions = c.insert_row.new.versions; table = c.insert_row.new.table; works = c.tell-2.new.self })
+          (let other = stage_none (readers_of i.whole) i.opening i.own i.whole.core now g.core c.args.tx.0 (put_not_reading f.table c.args.tx.0 c.args.row (sym c.not_put.ensures ∙ c.in_default.is)) in
+          let is = subst (λ k. AreVersionsInOrder (state_of f.table) c.args.tx.0 c.args.tx.0 (versions_at f.versions.slots f.versions.lists k) → c.shown-found.result ≡ shown_in now c.args.tx.0 k) c.row_key-key.ensures c.shown-found.ensures in
+          others_lead i.opening i.steps i.own i.whole (Do c.args.tx.0 (Insert c.args.row)) _ now _ g other tt
+          (insert_leads (readers_of i.whole) i.opening i.own i.whole.core now g.core c.args.tx c.args.row other (sym c.not_put.ensures ∙ c.in_default.is) c.shown-found.result is (sym c.is_some.ensures ∙ c.if-is_some.false)
+          c.insert_row.new.versions c.insert_row.new.table c.in_ok-insert_row.ensures.ok c.insert_row.ensures.indexed c.tell-2.new.self
+          (record { next = c.in_ok-next.next; prepared = c.in_ok-next.ensures.next; told = c.tell-2.ensures.told })));
       waiting = waits_inserted f.versions c.insert_row.new.versions f.table c.insert_row.new.table c.args.tx (option_to_list c.shown-found.result.depends_on) f.waiting c.make_room.new.self c.make_room.ensures.same c.args.row c.owe.new.self c.in_ok-insert_row.ensures.ok c.owe.ensures c.self.invariant.waiting;
     }
 
@@ -132,9 +209,11 @@ pub returns-clause-step : goal.returns-clause-step
 returns-clause-step c = λ opening steps s h.
     let f = c.self.inside in
     let old : CoreData = core_data f in
-    let is = subst (λ k. AreVersionsInOrder (state_of f.table) c.args.tx.0 c.args.tx.0 (versions_at f.versions.slots f.versions.lists k) → c.shown-found.result ≡ shown_in old c.args.tx.0 k) c.row_key-key.ensures c.shown-found.ensures in
-    insert_leads no_readers opening steps s old (subst (StandsFor opening steps s) (sym c.self.view_is) h) c.args.tx c.args.row refl (sym c.not_put.ensures ∙ c.in_default.is) c.shown-found.result is (sym c.is_some.ensures ∙ c.if-is_some.false)
-    c.insert_row.new.versions c.insert_row.new.table c.in_ok-insert_row.ensures.ok c.insert_row.ensures.indexed
+    let now : CoreData = record old { works = c.prepare_insert.new.works } in
+    let is = subst (λ k. AreVersionsInOrder (state_of f.table) c.args.tx.0 c.args.tx.0 (versions_at f.versions.slots f.versions.lists k) → c.shown-found.result ≡ shown_in now c.args.tx.0 k) c.row_key-key.ensures c.shown-found.ensures in
+    insert_leads no_readers opening steps s now (stands_same_works no_readers opening steps s old (subst (StandsFor opening steps s) (sym c.self.view_is) h) c.prepare_insert.new.works c.prepare_insert.ensures.same) c.args.tx c.args.row refl (sym c.not_put.ensures ∙ c.in_default.is) c.shown-found.result is (sym c.is_some.ensures ∙ c.if-is_some.false)
+    c.insert_row.new.versions c.insert_row.new.table c.in_ok-insert_row.ensures.ok c.insert_row.ensures.indexed c.tell-2.new.self
+    (record { next = c.in_ok-next.next; prepared = c.in_ok-next.ensures.next; told = c.tell-2.ensures.told })
 
 pub returns-clause-answer : goal.returns-clause-answer
 returns-clause-answer c = λ opening steps s h.
@@ -147,8 +226,16 @@ returns-clause-answer c = λ opening steps s h.
 pub invariant_of-self-in_err-make_room : goal.invariant_of-self-in_err-make_room
 invariant_of-self-in_err-make_room c =
     let f = c.self.inside in
+    let i = c.self.invariant.stands in
+    let old : CoreData = core_data f in
+    let now : CoreData = record old { works = c.prepare_insert.new.works } in
+    let g : StandsWhole i.opening i.steps i.own i.whole now = whole_same_works i.opening i.steps i.own i.whole old i.stands c.prepare_insert.new.works c.prepare_insert.ensures.same in
     record {
-      stands = c.self.invariant.stands;
+      stands =
+          whole_stands_on i (CoreCall (Do c.args.tx.0 (Insert c.args.row))) (Refused OutOfMemory) now
+          (let other = (stage_none (readers_of i.whole) i.opening i.own i.whole.core now g.core c.args.tx.0 (put_not_reading f.table c.args.tx.0 c.args.row (sym c.not_put.ensures ∙ c.in_default.is))) in
+          others_lead i.opening i.steps i.own i.whole (Do c.args.tx.0 (Insert c.args.row)) _ now _ g other tt
+          (insert_starved (readers_of i.whole) i.opening i.own i.whole.core now g.core c.args.tx c.args.row other (sym c.not_put.ensures ∙ c.in_default.is)));
       waiting = waits_roomy f.table.clock (state_of f.table) f.versions.slots f.waiting c.make_room.new.self c.make_room.new.self.room c.make_room.ensures.same c.self.invariant.waiting;
     }
 
@@ -156,8 +243,9 @@ pub returns-in_err-make_room-clause-step : goal.returns-in_err-make_room-clause-
 returns-in_err-make_room-clause-step c = λ opening steps s h.
     let f = c.self.inside in
     let old : CoreData = core_data f in
-    subst (λ r. LeadsOn opening steps s (Do c.args.tx.0 (Insert c.args.row)) r old) (came_spent c.from_residual-in_err-make_room.result c.from_residual-in_err-make_room.ensures.1)
-    (insert_starved no_readers opening steps s old (subst (StandsFor opening steps s) (sym c.self.view_is) h) c.args.tx c.args.row refl (sym c.not_put.ensures ∙ c.in_default.is))
+    let now : CoreData = record old { works = c.prepare_insert.new.works } in
+    subst (λ r. LeadsOn opening steps s (Do c.args.tx.0 (Insert c.args.row)) r now) (came_spent c.from_residual-in_err-make_room.result c.from_residual-in_err-make_room.ensures.1)
+    (insert_starved no_readers opening steps s now (stands_same_works no_readers opening steps s old (subst (StandsFor opening steps s) (sym c.self.view_is) h) c.prepare_insert.new.works c.prepare_insert.ensures.same) c.args.tx c.args.row refl (sym c.not_put.ensures ∙ c.in_default.is))
 
 -- ---- beside read-only ones
 pub returns-in-Some-clause-whole : goal.returns-in-Some-clause-whole
@@ -174,22 +262,25 @@ pub returns-in_err-record_answer-clause-whole : goal.returns-in_err-record_answe
 returns-in_err-record_answer-clause-whole c = λ opening steps own w h.
     let f = c.self.inside in
     let old : CoreData = core_data f in
-    let g : StandsWhole opening steps own w old = subst (StandsWhole opening steps own w) (sym c.self.view_is) h in
-    let other = stage_none (readers_of w) opening own w.core old g.core c.args.tx.0 (put_not_reading f.table c.args.tx.0 c.args.row (sym c.not_put.ensures ∙ c.in_default.is)) in
-    subst (λ r. LeadsWhole opening steps own w (CoreCall (Do c.args.tx.0 (Insert c.args.row))) r (record old { table = c.record_answer.new.table })) (came_spent c.from_residual.result c.from_residual.ensures.1)
-    (others_lead opening steps own w (Do c.args.tx.0 (Insert c.args.row)) _ old _ g other tt
-    (insert_spent (readers_of w) opening own w.core old g.core c.args.tx c.args.row other (sym c.not_put.ensures ∙ c.in_default.is) c.record_answer.new.table c.in_err-record_answer.ensures.err))
+    let now : CoreData = record old { works = c.prepare_insert.new.works } in
+    let g : StandsWhole opening steps own w now = whole_same_works opening steps own w old (subst (StandsWhole opening steps own w) (sym c.self.view_is) h) c.prepare_insert.new.works c.prepare_insert.ensures.same in
+    let other = stage_none (readers_of w) opening own w.core now g.core c.args.tx.0 (put_not_reading f.table c.args.tx.0 c.args.row (sym c.not_put.ensures ∙ c.in_default.is)) in
+    subst (λ r. LeadsWhole opening steps own w (CoreCall (Do c.args.tx.0 (Insert c.args.row))) r (record now { table = c.record_answer.new.table })) (came_spent c.from_residual-in_err-record_answer.result c.from_residual-in_err-record_answer.ensures.1)
+    (others_lead opening steps own w (Do c.args.tx.0 (Insert c.args.row)) _ now _ g other tt
+    (insert_spent (readers_of w) opening own w.core now g.core c.args.tx c.args.row other (sym c.not_put.ensures ∙ c.in_default.is) c.record_answer.new.table c.in_err-record_answer.ensures.err))
 
 pub returns-then-is_some-clause-whole : goal.returns-then-is_some-clause-whole
 returns-then-is_some-clause-whole c = λ opening steps own w h.
     let f = c.self.inside in
     let old : CoreData = core_data f in
-    let g : StandsWhole opening steps own w old = subst (StandsWhole opening steps own w) (sym c.self.view_is) h in
-    let other = stage_none (readers_of w) opening own w.core old g.core c.args.tx.0 (put_not_reading f.table c.args.tx.0 c.args.row (sym c.not_put.ensures ∙ c.in_default.is)) in
-    let is = subst (λ k. AreVersionsInOrder (state_of f.table) c.args.tx.0 c.args.tx.0 (versions_at f.versions.slots f.versions.lists k) → c.shown-found.result ≡ shown_in old c.args.tx.0 k) c.row_key-key.ensures c.shown-found.ensures in
-    others_lead opening steps own w (Do c.args.tx.0 (Insert c.args.row)) _ old _ g other tt
-    (exists_leads (readers_of w) opening own w.core old g.core c.args.tx c.args.row other (sym c.not_put.ensures ∙ c.in_default.is) c.shown-found.result is (sym c.is_some.ensures ∙ c.if-is_some.true)
-    c.record_answer.new.table c.in_ok-record_answer.ensures.ok)
+    let now : CoreData = record old { works = c.prepare_insert.new.works } in
+    let g : StandsWhole opening steps own w now = whole_same_works opening steps own w old (subst (StandsWhole opening steps own w) (sym c.self.view_is) h) c.prepare_insert.new.works c.prepare_insert.ensures.same in
+    let other = stage_none (readers_of w) opening own w.core now g.core c.args.tx.0 (put_not_reading f.table c.args.tx.0 c.args.row (sym c.not_put.ensures ∙ c.in_default.is)) in
+    let is = subst (λ k. AreVersionsInOrder (state_of f.table) c.args.tx.0 c.args.tx.0 (versions_at f.versions.slots f.versions.lists k) → c.shown-found.result ≡ shown_in now c.args.tx.0 k) c.row_key-key.ensures c.shown-found.ensures in
+    others_lead opening steps own w (Do c.args.tx.0 (Insert c.args.row)) _ now _ g other tt
+    (exists_leads (readers_of w) opening own w.core now g.core c.args.tx c.args.row other (sym c.not_put.ensures ∙ c.in_default.is) c.shown-found.result is (sym c.is_some.ensures ∙ c.if-is_some.true)
+    c.record_answer.new.table c.in_ok-record_answer.ensures.ok c.tell.new.self
+    (record { next = c.in_ok-next.next; prepared = c.in_ok-next.ensures.next; told = c.tell.ensures.told }))
 
 pub returns-then-is_some-clause-whole_answer : goal.returns-then-is_some-clause-whole_answer
 returns-then-is_some-clause-whole_answer c = λ opening steps own w h.
@@ -204,24 +295,27 @@ pub returns-in_err-insert_row-clause-whole : goal.returns-in_err-insert_row-clau
 returns-in_err-insert_row-clause-whole c = λ opening steps own w h.
     let f = c.self.inside in
     let old : CoreData = core_data f in
-    let g : StandsWhole opening steps own w old = subst (StandsWhole opening steps own w) (sym c.self.view_is) h in
-    let other = stage_none (readers_of w) opening own w.core old g.core c.args.tx.0 (put_not_reading f.table c.args.tx.0 c.args.row (sym c.not_put.ensures ∙ c.in_default.is)) in
-    subst (λ r. LeadsWhole opening steps own w (CoreCall (Do c.args.tx.0 (Insert c.args.row))) r (record old { versions = c.insert_row.new.versions; table = c.insert_row.new.table }))
+    let now : CoreData = record old { works = c.prepare_insert.new.works } in
+    let g : StandsWhole opening steps own w now = whole_same_works opening steps own w old (subst (StandsWhole opening steps own w) (sym c.self.view_is) h) c.prepare_insert.new.works c.prepare_insert.ensures.same in
+    let other = stage_none (readers_of w) opening own w.core now g.core c.args.tx.0 (put_not_reading f.table c.args.tx.0 c.args.row (sym c.not_put.ensures ∙ c.in_default.is)) in
+    subst (λ r. LeadsWhole opening steps own w (CoreCall (Do c.args.tx.0 (Insert c.args.row))) r (record now { versions = c.insert_row.new.versions; table = c.insert_row.new.table }))
     (came_spent c.from_residual-in_err-insert_row.result c.from_residual-in_err-insert_row.ensures.1)
-    (others_lead opening steps own w (Do c.args.tx.0 (Insert c.args.row)) _ old _ g other tt
-    (insert_spent_same (readers_of w) opening own w.core old g.core c.args.tx c.args.row other (sym c.not_put.ensures ∙ c.in_default.is) c.insert_row.new.versions c.in_err-insert_row.ensures.err
+    (others_lead opening steps own w (Do c.args.tx.0 (Insert c.args.row)) _ now _ g other tt
+    (insert_spent_same (readers_of w) opening own w.core now g.core c.args.tx c.args.row other (sym c.not_put.ensures ∙ c.in_default.is) c.insert_row.new.versions c.in_err-insert_row.ensures.err
     c.insert_row.ensures.indexed c.insert_row.new.table c.in_err-insert_row.ensures.alone))
 
 pub returns-clause-whole : goal.returns-clause-whole
 returns-clause-whole c = λ opening steps own w h.
     let f = c.self.inside in
     let old : CoreData = core_data f in
-    let g : StandsWhole opening steps own w old = subst (StandsWhole opening steps own w) (sym c.self.view_is) h in
-    let other = stage_none (readers_of w) opening own w.core old g.core c.args.tx.0 (put_not_reading f.table c.args.tx.0 c.args.row (sym c.not_put.ensures ∙ c.in_default.is)) in
-    let is = subst (λ k. AreVersionsInOrder (state_of f.table) c.args.tx.0 c.args.tx.0 (versions_at f.versions.slots f.versions.lists k) → c.shown-found.result ≡ shown_in old c.args.tx.0 k) c.row_key-key.ensures c.shown-found.ensures in
-    others_lead opening steps own w (Do c.args.tx.0 (Insert c.args.row)) _ old _ g other tt
-    (insert_leads (readers_of w) opening own w.core old g.core c.args.tx c.args.row other (sym c.not_put.ensures ∙ c.in_default.is) c.shown-found.result is (sym c.is_some.ensures ∙ c.if-is_some.false)
-    c.insert_row.new.versions c.insert_row.new.table c.in_ok-insert_row.ensures.ok c.insert_row.ensures.indexed)
+    let now : CoreData = record old { works = c.prepare_insert.new.works } in
+    let g : StandsWhole opening steps own w now = whole_same_works opening steps own w old (subst (StandsWhole opening steps own w) (sym c.self.view_is) h) c.prepare_insert.new.works c.prepare_insert.ensures.same in
+    let other = stage_none (readers_of w) opening own w.core now g.core c.args.tx.0 (put_not_reading f.table c.args.tx.0 c.args.row (sym c.not_put.ensures ∙ c.in_default.is)) in
+    let is = subst (λ k. AreVersionsInOrder (state_of f.table) c.args.tx.0 c.args.tx.0 (versions_at f.versions.slots f.versions.lists k) → c.shown-found.result ≡ shown_in now c.args.tx.0 k) c.row_key-key.ensures c.shown-found.ensures in
+    others_lead opening steps own w (Do c.args.tx.0 (Insert c.args.row)) _ now _ g other tt
+    (insert_leads (readers_of w) opening own w.core now g.core c.args.tx c.args.row other (sym c.not_put.ensures ∙ c.in_default.is) c.shown-found.result is (sym c.is_some.ensures ∙ c.if-is_some.false)
+    c.insert_row.new.versions c.insert_row.new.table c.in_ok-insert_row.ensures.ok c.insert_row.ensures.indexed c.tell-2.new.self
+    (record { next = c.in_ok-next.next; prepared = c.in_ok-next.ensures.next; told = c.tell-2.ensures.told }))
 
 pub returns-clause-whole_answer : goal.returns-clause-whole_answer
 returns-clause-whole_answer c = λ opening steps own w h.
@@ -236,19 +330,21 @@ pub returns-in_err-make_room-clause-whole : goal.returns-in_err-make_room-clause
 returns-in_err-make_room-clause-whole c = λ opening steps own w h.
     let f = c.self.inside in
     let old : CoreData = core_data f in
-    let g : StandsWhole opening steps own w old = subst (StandsWhole opening steps own w) (sym c.self.view_is) h in
-    let other = stage_none (readers_of w) opening own w.core old g.core c.args.tx.0 (put_not_reading f.table c.args.tx.0 c.args.row (sym c.not_put.ensures ∙ c.in_default.is)) in
-    subst (λ r. LeadsWhole opening steps own w (CoreCall (Do c.args.tx.0 (Insert c.args.row))) r old) (came_spent c.from_residual-in_err-make_room.result c.from_residual-in_err-make_room.ensures.1)
-    (others_lead opening steps own w (Do c.args.tx.0 (Insert c.args.row)) _ old _ g other tt
-    (insert_starved (readers_of w) opening own w.core old g.core c.args.tx c.args.row other (sym c.not_put.ensures ∙ c.in_default.is)))
+    let now : CoreData = record old { works = c.prepare_insert.new.works } in
+    let g : StandsWhole opening steps own w now = whole_same_works opening steps own w old (subst (StandsWhole opening steps own w) (sym c.self.view_is) h) c.prepare_insert.new.works c.prepare_insert.ensures.same in
+    let other = stage_none (readers_of w) opening own w.core now g.core c.args.tx.0 (put_not_reading f.table c.args.tx.0 c.args.row (sym c.not_put.ensures ∙ c.in_default.is)) in
+    subst (λ r. LeadsWhole opening steps own w (CoreCall (Do c.args.tx.0 (Insert c.args.row))) r now) (came_spent c.from_residual-in_err-make_room.result c.from_residual-in_err-make_room.ensures.1)
+    (others_lead opening steps own w (Do c.args.tx.0 (Insert c.args.row)) _ now _ g other tt
+    (insert_starved (readers_of w) opening own w.core now g.core c.args.tx c.args.row other (sym c.not_put.ensures ∙ c.in_default.is)))
 
 -- ---- how many versions there are then
 pub returns-in_err-insert_row-clause-count : goal.returns-in_err-insert_row-clause-count
 returns-in_err-insert_row-clause-count c =
     let f = c.self.inside in
     let old : CoreData = core_data f in
+    let now : CoreData = record old { works = c.prepare_insert.new.works } in
     let versions = c.insert_row.new.versions in
-    refused_more old c.args.self.now (record old { versions = versions; table = c.insert_row.new.table }) c.from_residual-in_err-insert_row.result c.from_residual-in_err-insert_row.ensures.1 c.self.view_is
+    refused_more old c.args.self.now (record now { versions = versions; table = c.insert_row.new.table }) c.from_residual-in_err-insert_row.result c.from_residual-in_err-insert_row.ensures.1 c.self.view_is
     (same_counts f.versions versions c.in_err-insert_row.ensures.err)
 
 pub returns-clause-count : goal.returns-clause-count

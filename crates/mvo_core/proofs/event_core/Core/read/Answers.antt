@@ -12,7 +12,8 @@ use Rattle.mvo_core.specs.Standing.{StandsFor}
 use Rattle.mvo_core.specs.Steps.{LeadsOn}
 use Rattle.mvo_core.proofs.WholeStands.{whole_stands_on}
 use Rattle.mvo_core.proofs.Refused.{came_spent}
-use Rattle.mvo_core.proofs.Reading.{read_refused, read_spent, read_spent_roomy, read_answers, read_leads}
+use Rattle.mvo_core.proofs.WorksHeld.{stands_same_works, whole_same_works}
+use Rattle.mvo_core.proofs.Reading.{read_refused, read_spent, read_spent_roomy, read_answers, read_leads, read_may_be_told, read_fits}
 use Rattle.mvo_core.specs.Keeping.{HasDoneAsMuch}
 use Rattle.mvo_core.proofs.Waits.{waits_alike, alike_written, alike_recorded}
 use Rattle.mvo_core.specs.WholeStanding.{readers_of, StandsWhole, LeadsWhole}
@@ -41,17 +42,73 @@ returns-in_err-kept-clause-step c = λ opening steps s h.
     (read_spent no_readers opening steps s c.args.self.now h c.args.tx c.args.key tt
     (ap (λ (x : CoreData). why_not_look x.table c.args.tx.0 c.args.key.table (Key c.args.key)) (sym c.self.view_is) ∙ sym c.not_looked.ensures ∙ c.in_default.is))
 
+-- ---- the work is prepared
+pub prepare-requires : goal.prepare-requires
+prepare-requires c =
+    let f = c.self.inside in
+    let i = c.self.invariant.stands in
+    let old : CoreData = core_data f in
+    let looks = may_look_whole i.opening i.steps i.own i.whole old i.stands c.args.tx.0 (Read c.args.key) c.args.key.table (Key c.args.key) refl (sym c.not_looked.ensures ∙ c.in_default.is) in
+    read_fits (readers_of i.whole) i.opening i.own i.whole.core old i.stands.core c.args.tx c.args.key looks (sym c.not_looked.ensures ∙ c.in_default.is) c.shown-found.result c.shown-found.ensures
+
 pub invariant_of-self : goal.invariant_of-self
 invariant_of-self c =
     let f = c.self.inside in
     let i = c.self.invariant.stands in
     let old : CoreData = core_data f in
+    let now : CoreData = record old { works = c.prepare.new.works } in
+    let g : StandsWhole i.opening i.steps i.own i.whole now = whole_same_works i.opening i.steps i.own i.whole old i.stands c.prepare.new.works c.prepare.ensures.same in
     record {
       stands =
-          whole_stands_on i (CoreCall (Do c.args.tx.0 (Read c.args.key))) (Refused OutOfMemory) (record old { table = c.record_answer.new.table })
-          (let looks = may_look_whole i.opening i.steps i.own i.whole old i.stands c.args.tx.0 (Read c.args.key) c.args.key.table (Key c.args.key) refl (sym c.not_looked.ensures ∙ c.in_default.is) in
-          (look_spent i.opening i.steps i.own i.whole old i.stands c.args.tx.0 (Read c.args.key) c.args.key.table (Key c.args.key) refl (sym c.not_looked.ensures ∙ c.in_default.is) _
-          (read_spent_roomy (readers_of i.whole) i.opening i.own i.whole.core old i.stands.core c.args.tx c.args.key looks (sym c.not_looked.ensures ∙ c.in_default.is) c.record_answer.new.table c.in_err-record_answer.ensures.err)));
+          whole_stands_on i (CoreCall (Do c.args.tx.0 (Read c.args.key))) (Refused OutOfMemory) now
+          (let looks = may_look_whole i.opening i.steps i.own i.whole now g c.args.tx.0 (Read c.args.key) c.args.key.table (Key c.args.key) refl (sym c.not_looked.ensures ∙ c.in_default.is) in
+          (look_spent i.opening i.steps i.own i.whole now g c.args.tx.0 (Read c.args.key) c.args.key.table (Key c.args.key) refl (sym c.not_looked.ensures ∙ c.in_default.is) _
+          (read_spent (readers_of i.whole) i.opening i.own i.whole.core now g.core c.args.tx c.args.key looks (sym c.not_looked.ensures ∙ c.in_default.is))));
+      waiting = c.self.invariant.waiting;
+    }
+
+pub returns-in_err-next-clause-step : goal.returns-in_err-next-clause-step
+returns-in_err-next-clause-step c = λ opening steps s h.
+    let f = c.self.inside in
+    let old : CoreData = core_data f in
+    let now : CoreData = record old { works = c.prepare.new.works } in
+    subst (λ r. LeadsOn opening steps s (Do c.args.tx.0 (Read c.args.key)) r now) (came_spent c.from_residual-in_err-next.result c.from_residual-in_err-next.ensures.1)
+    (read_spent no_readers opening steps s now (stands_same_works no_readers opening steps s old (subst (StandsFor opening steps s) (sym c.self.view_is) h) c.prepare.new.works c.prepare.ensures.same) c.args.tx c.args.key tt (sym c.not_looked.ensures ∙ c.in_default.is))
+
+pub returns-in_err-next-clause-whole : goal.returns-in_err-next-clause-whole
+returns-in_err-next-clause-whole c = λ opening steps own w h.
+    let f = c.self.inside in
+    let old : CoreData = core_data f in
+    let now : CoreData = record old { works = c.prepare.new.works } in
+    let g : StandsWhole opening steps own w now = whole_same_works opening steps own w old (subst (StandsWhole opening steps own w) (sym c.self.view_is) h) c.prepare.new.works c.prepare.ensures.same in
+    let looks = may_look_whole opening steps own w now g c.args.tx.0 (Read c.args.key) c.args.key.table (Key c.args.key) refl (sym c.not_looked.ensures ∙ c.in_default.is) in
+    subst (λ r. LeadsWhole opening steps own w (CoreCall (Do c.args.tx.0 (Read c.args.key))) r now) (came_spent c.from_residual-in_err-next.result c.from_residual-in_err-next.ensures.1)
+    (look_spent opening steps own w now g c.args.tx.0 (Read c.args.key) c.args.key.table (Key c.args.key) refl (sym c.not_looked.ensures ∙ c.in_default.is) _
+    (read_spent (readers_of w) opening own w.core now g.core c.args.tx c.args.key looks (sym c.not_looked.ensures ∙ c.in_default.is)))
+
+pub tell-requires : goal.tell-requires
+tell-requires c =
+    let f = c.self.inside in
+    let i = c.self.invariant.stands in
+    let old : CoreData = core_data f in
+    let now : CoreData = record old { works = c.prepare.new.works } in
+    let g : StandsWhole i.opening i.steps i.own i.whole now = whole_same_works i.opening i.steps i.own i.whole old i.stands c.prepare.new.works c.prepare.ensures.same in
+    let looks = may_look_whole i.opening i.steps i.own i.whole now g c.args.tx.0 (Read c.args.key) c.args.key.table (Key c.args.key) refl (sym c.not_looked.ensures ∙ c.in_default.is) in
+    read_may_be_told (readers_of i.whole) i.opening i.own i.whole.core now g.core c.args.tx c.args.key looks (sym c.not_looked.ensures ∙ c.in_default.is) _ c.in_ok-next.next c.in_ok-next.ensures.next
+
+pub invariant_of-self-in_err-record_answer : goal.invariant_of-self-in_err-record_answer
+invariant_of-self-in_err-record_answer c =
+    let f = c.self.inside in
+    let i = c.self.invariant.stands in
+    let old : CoreData = core_data f in
+    let now : CoreData = record old { works = c.prepare.new.works } in
+    let g : StandsWhole i.opening i.steps i.own i.whole now = whole_same_works i.opening i.steps i.own i.whole old i.stands c.prepare.new.works c.prepare.ensures.same in
+    record {
+      stands =
+          whole_stands_on i (CoreCall (Do c.args.tx.0 (Read c.args.key))) (Refused OutOfMemory) (record now { table = c.record_answer.new.table })
+          (let looks = may_look_whole i.opening i.steps i.own i.whole now g c.args.tx.0 (Read c.args.key) c.args.key.table (Key c.args.key) refl (sym c.not_looked.ensures ∙ c.in_default.is) in
+          (look_spent i.opening i.steps i.own i.whole now g c.args.tx.0 (Read c.args.key) c.args.key.table (Key c.args.key) refl (sym c.not_looked.ensures ∙ c.in_default.is) _
+          (read_spent_roomy (readers_of i.whole) i.opening i.own i.whole.core now g.core c.args.tx c.args.key looks (sym c.not_looked.ensures ∙ c.in_default.is) c.record_answer.new.table c.in_err-record_answer.ensures.err)));
       waiting = waits_alike f.table c.record_answer.new.table f.versions.slots f.waiting (alike_written f.table c.record_answer.new.table c.args.tx.0 HasDoneAsMuch c.in_err-record_answer.ensures.err) c.self.invariant.waiting;
     }
 
@@ -59,21 +116,25 @@ pub returns-in_err-record_answer-clause-step : goal.returns-in_err-record_answer
 returns-in_err-record_answer-clause-step c = λ opening steps s h.
     let f = c.self.inside in
     let old : CoreData = core_data f in
-    subst (λ r. LeadsOn opening steps s (Do c.args.tx.0 (Read c.args.key)) r (record old { table = c.record_answer.new.table })) (came_spent c.from_residual-in_err-record_answer.result c.from_residual-in_err-record_answer.ensures.1)
-    (read_spent_roomy no_readers opening steps s old (subst (StandsFor opening steps s) (sym c.self.view_is) h) c.args.tx c.args.key tt (sym c.not_looked.ensures ∙ c.in_default.is) c.record_answer.new.table c.in_err-record_answer.ensures.err)
+    let now : CoreData = record old { works = c.prepare.new.works } in
+    subst (λ r. LeadsOn opening steps s (Do c.args.tx.0 (Read c.args.key)) r (record now { table = c.record_answer.new.table })) (came_spent c.from_residual-in_err-record_answer.result c.from_residual-in_err-record_answer.ensures.1)
+    (read_spent_roomy no_readers opening steps s now (stands_same_works no_readers opening steps s old (subst (StandsFor opening steps s) (sym c.self.view_is) h) c.prepare.new.works c.prepare.ensures.same) c.args.tx c.args.key tt (sym c.not_looked.ensures ∙ c.in_default.is) c.record_answer.new.table c.in_err-record_answer.ensures.err)
 
 pub invariant_of-self-2 : goal.invariant_of-self-2
 invariant_of-self-2 c =
     let f = c.self.inside in
     let i = c.self.invariant.stands in
     let old : CoreData = core_data f in
+    let now : CoreData = record old { works = c.prepare.new.works } in
+    let g : StandsWhole i.opening i.steps i.own i.whole now = whole_same_works i.opening i.steps i.own i.whole old i.stands c.prepare.new.works c.prepare.ensures.same in
     record {
       stands =
-          whole_stands_on i (CoreCall (Do c.args.tx.0 (Read c.args.key))) Accepted (record old { table = c.record_answer.new.table })
-          (let looks = may_look_whole i.opening i.steps i.own i.whole old i.stands c.args.tx.0 (Read c.args.key) c.args.key.table (Key c.args.key) refl (sym c.not_looked.ensures ∙ c.in_default.is) in
-          look_leads i.opening i.steps i.own i.whole old i.stands c.args.tx.0 (Read c.args.key) c.args.key.table (Key c.args.key) refl (sym c.not_looked.ensures ∙ c.in_default.is) _
-          (read_leads (readers_of i.whole) i.opening i.own i.whole.core old i.stands.core c.args.tx c.args.key looks (sym c.not_looked.ensures ∙ c.in_default.is) c.shown-found.result c.shown-found.ensures c.in_ok-kept.kept
-          (c.in_ok-kept.ensures ∙ c.in_ok-row.ensures) c.record_answer.new.table c.in_ok-record_answer.ensures.ok));
+          whole_stands_on i (CoreCall (Do c.args.tx.0 (Read c.args.key))) Accepted (record now { table = c.record_answer.new.table; works = c.tell.new.self })
+          (let looks = may_look_whole i.opening i.steps i.own i.whole now g c.args.tx.0 (Read c.args.key) c.args.key.table (Key c.args.key) refl (sym c.not_looked.ensures ∙ c.in_default.is) in
+          look_leads i.opening i.steps i.own i.whole now g c.args.tx.0 (Read c.args.key) c.args.key.table (Key c.args.key) refl (sym c.not_looked.ensures ∙ c.in_default.is) _
+          (read_leads (readers_of i.whole) i.opening i.own i.whole.core now g.core c.args.tx c.args.key looks (sym c.not_looked.ensures ∙ c.in_default.is) c.shown-found.result c.shown-found.ensures c.in_ok-kept.kept
+          (c.in_ok-kept.ensures ∙ c.in_ok-row.ensures) c.record_answer.new.table c.in_ok-record_answer.ensures.ok c.tell.new.self
+          (record { next = c.in_ok-next.next; prepared = c.in_ok-next.ensures.next; told = c.tell.ensures.told })));
       waiting = waits_alike f.table c.record_answer.new.table f.versions.slots f.waiting (alike_recorded f.table c.record_answer.new.table c.args.tx _ _ _ c.in_ok-record_answer.ensures.ok) c.self.invariant.waiting;
     }
 
@@ -81,8 +142,10 @@ pub returns-clause-step : goal.returns-clause-step
 returns-clause-step c = λ opening steps s h.
     let f = c.self.inside in
     let old : CoreData = core_data f in
-    read_leads no_readers opening steps s old (subst (StandsFor opening steps s) (sym c.self.view_is) h) c.args.tx c.args.key tt (sym c.not_looked.ensures ∙ c.in_default.is) c.shown-found.result c.shown-found.ensures c.in_ok-kept.kept
-    (c.in_ok-kept.ensures ∙ c.in_ok-row.ensures) c.record_answer.new.table c.in_ok-record_answer.ensures.ok
+    let now : CoreData = record old { works = c.prepare.new.works } in
+    read_leads no_readers opening steps s now (stands_same_works no_readers opening steps s old (subst (StandsFor opening steps s) (sym c.self.view_is) h) c.prepare.new.works c.prepare.ensures.same) c.args.tx c.args.key tt (sym c.not_looked.ensures ∙ c.in_default.is) c.shown-found.result c.shown-found.ensures c.in_ok-kept.kept
+    (c.in_ok-kept.ensures ∙ c.in_ok-row.ensures) c.record_answer.new.table c.in_ok-record_answer.ensures.ok c.tell.new.self
+    (record { next = c.in_ok-next.next; prepared = c.in_ok-next.ensures.next; told = c.tell.ensures.told })
 
 pub returns-clause-answer : goal.returns-clause-answer
 returns-clause-answer c = λ opening steps s h.
@@ -128,21 +191,24 @@ pub returns-in_err-record_answer-clause-whole : goal.returns-in_err-record_answe
 returns-in_err-record_answer-clause-whole c = λ opening steps own w h.
     let f = c.self.inside in
     let old : CoreData = core_data f in
-    let g : StandsWhole opening steps own w old = subst (StandsWhole opening steps own w) (sym c.self.view_is) h in
-    let looks = may_look_whole opening steps own w old g c.args.tx.0 (Read c.args.key) c.args.key.table (Key c.args.key) refl (sym c.not_looked.ensures ∙ c.in_default.is) in
-    subst (λ r. LeadsWhole opening steps own w (CoreCall (Do c.args.tx.0 (Read c.args.key))) r (record old { table = c.record_answer.new.table })) (came_spent c.from_residual-in_err-record_answer.result c.from_residual-in_err-record_answer.ensures.1)
-    (look_spent opening steps own w old g c.args.tx.0 (Read c.args.key) c.args.key.table (Key c.args.key) refl (sym c.not_looked.ensures ∙ c.in_default.is) _
-    (read_spent_roomy (readers_of w) opening own w.core old g.core c.args.tx c.args.key looks (sym c.not_looked.ensures ∙ c.in_default.is) c.record_answer.new.table c.in_err-record_answer.ensures.err))
+    let now : CoreData = record old { works = c.prepare.new.works } in
+    let g : StandsWhole opening steps own w now = whole_same_works opening steps own w old (subst (StandsWhole opening steps own w) (sym c.self.view_is) h) c.prepare.new.works c.prepare.ensures.same in
+    let looks = may_look_whole opening steps own w now g c.args.tx.0 (Read c.args.key) c.args.key.table (Key c.args.key) refl (sym c.not_looked.ensures ∙ c.in_default.is) in
+    subst (λ r. LeadsWhole opening steps own w (CoreCall (Do c.args.tx.0 (Read c.args.key))) r (record now { table = c.record_answer.new.table })) (came_spent c.from_residual-in_err-record_answer.result c.from_residual-in_err-record_answer.ensures.1)
+    (look_spent opening steps own w now g c.args.tx.0 (Read c.args.key) c.args.key.table (Key c.args.key) refl (sym c.not_looked.ensures ∙ c.in_default.is) _
+    (read_spent_roomy (readers_of w) opening own w.core now g.core c.args.tx c.args.key looks (sym c.not_looked.ensures ∙ c.in_default.is) c.record_answer.new.table c.in_err-record_answer.ensures.err))
 
 pub returns-clause-whole : goal.returns-clause-whole
 returns-clause-whole c = λ opening steps own w h.
     let f = c.self.inside in
     let old : CoreData = core_data f in
-    let g : StandsWhole opening steps own w old = subst (StandsWhole opening steps own w) (sym c.self.view_is) h in
-    let looks = may_look_whole opening steps own w old g c.args.tx.0 (Read c.args.key) c.args.key.table (Key c.args.key) refl (sym c.not_looked.ensures ∙ c.in_default.is) in
-    look_leads opening steps own w old g c.args.tx.0 (Read c.args.key) c.args.key.table (Key c.args.key) refl (sym c.not_looked.ensures ∙ c.in_default.is) _
-    (read_leads (readers_of w) opening own w.core old g.core c.args.tx c.args.key looks (sym c.not_looked.ensures ∙ c.in_default.is) c.shown-found.result c.shown-found.ensures c.in_ok-kept.kept
-    (c.in_ok-kept.ensures ∙ c.in_ok-row.ensures) c.record_answer.new.table c.in_ok-record_answer.ensures.ok)
+    let now : CoreData = record old { works = c.prepare.new.works } in
+    let g : StandsWhole opening steps own w now = whole_same_works opening steps own w old (subst (StandsWhole opening steps own w) (sym c.self.view_is) h) c.prepare.new.works c.prepare.ensures.same in
+    let looks = may_look_whole opening steps own w now g c.args.tx.0 (Read c.args.key) c.args.key.table (Key c.args.key) refl (sym c.not_looked.ensures ∙ c.in_default.is) in
+    look_leads opening steps own w now g c.args.tx.0 (Read c.args.key) c.args.key.table (Key c.args.key) refl (sym c.not_looked.ensures ∙ c.in_default.is) _
+    (read_leads (readers_of w) opening own w.core now g.core c.args.tx c.args.key looks (sym c.not_looked.ensures ∙ c.in_default.is) c.shown-found.result c.shown-found.ensures c.in_ok-kept.kept
+    (c.in_ok-kept.ensures ∙ c.in_ok-row.ensures) c.record_answer.new.table c.in_ok-record_answer.ensures.ok c.tell.new.self
+    (record { next = c.in_ok-next.next; prepared = c.in_ok-next.ensures.next; told = c.tell.ensures.told }))
 
 pub returns-clause-whole_answer : goal.returns-clause-whole_answer
 returns-clause-whole_answer c = λ opening steps own w h.
