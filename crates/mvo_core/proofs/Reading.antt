@@ -6,6 +6,7 @@ use Rattle.mvo_types.specs.declared.op.Op.TheVariants.{Read}
 use Rattle.mvo_types.specs.declared.refusal.Refusal.{Refusal}
 use Rattle.mvo_types.specs.declared.refusal.Refusal.TheVariants.{OutOfMemory}
 use Rattle.mvo_types.specs.declared.row.RowKey.{RowKey}
+use Rattle.mvo_types.specs.AnswerData.{AnswerData}
 use Rattle.mvo_types.specs.AnswerData.AnswerData.{Found}
 use Rattle.mvo_types.specs.RowData.{RowData}
 use Rattle.mvo_types.specs.Keys.{Map, row_at}
@@ -41,7 +42,7 @@ use Rattle.mvo_core.proofs.Carried.{stands_as_much}
 use Rattle.mvo_core.proofs.CausesTold.{not_read_is, MayLook}
 use Rattle.mvo_core.proofs.Looked.{IsActiveHere, active_here, shown_in, versions_in_order, row_is, names_just}
 use Rattle.mvo_core.proofs.Refused.{refused_leads, spent_leads}
-use Rattle.mvo_core.proofs.WorksHeld.{IsNextTold, may_be_told, key_fits, key_told}
+use Rattle.mvo_core.proofs.WorksHeld.{IsNextTold, may_be_told, key_fits, key_answer, key_told}
 
 module _ (rs : Readers) (opening : Map) (steps : List Step) (s : State) (c : CoreData) (h : StandsAmong rs opening steps s c) (t : TxId) (k : RowKey) (looks : MayLook (stage_of t.0 rs.unfinished)) where
   pub read_refused : (r : Refusal) → why_not_look c.table t.0 k.table (Key k) ≡ Some r → (new : CoreData) → StandsAmong rs opening (steps ++ steps_of_refusal t.0 r) (after_refusal s t.0 r) new
@@ -69,7 +70,12 @@ module _ (rs : Readers) (opening : Map) (steps : List Step) (s : State) (c : Cor
     pub read_fits : (found : Shown) → (AreVersionsInOrder (state_of c.table) t.0 t.0 (versions_at c.versions.slots c.versions.lists k) → found ≡ shown_in c t.0 k) → AreRowsOf (Key k) (option_to_list (row_shown c.versions.slots found.version))
     read_fits found is = key_fits rs opening steps s c h t.0 here k found is
 
-    -- answered
+    -- it is told what the state answers
+    pub read_answers : (found : Shown) → (AreVersionsInOrder (state_of c.table) t.0 t.0 (versions_at c.versions.slots c.versions.lists k) → found ≡ shown_in c t.0 k) → (n : NextData) → IsPreparedAt c.works t.0 (Read k) (option_to_list (row_shown c.versions.slots found.version)) n
+        → (a : AnswerData) → a ≡ n.answer → a ≡ answer_in s t.0 (Read k)
+    read_answers found is n p a told = told ∙ key_answer rs opening steps s c h t.0 here k found is (Read k) refl may n p
+
+    -- recorded
     module _ (found : Shown) (is : AreVersionsInOrder (state_of c.table) t.0 t.0 (versions_at c.versions.slots c.versions.lists k) → found ≡ shown_in c t.0 k) (row : Option RowData)
         (told : row ≡ row_shown c.versions.slots found.version) where
       shown : found ≡ shown_in c t.0 k
@@ -78,12 +84,12 @@ module _ (rs : Readers) (opening : Map) (steps : List Step) (s : State) (c : Cor
       row_there : row ≡ row_at (snapshot s t.0) k
       row_there = told ∙ ap (λ (x : Shown). row_shown c.versions.slots x.version) shown ∙ row_is rs opening steps s c h t.0 here.tx here.found k
 
-      pub read_answers : Found row ≡ answer_in s t.0 (Read k)
-      read_answers = ap Found row_there
+      row_answers : Found row ≡ answer_in s t.0 (Read k)
+      row_answers = ap Found row_there
 
       pub read_leads : (table : Txns (Node KeptTransaction)) → IsRecorded c.table table t (option_to_list found.depends_on) (Read k) (Found row)
           → (more : WorksData) → IsNextTold c.works t.0 (Read k) (option_to_list (row_shown c.versions.slots found.version)) more → LeadsAmong rs opening steps s (Do t.0 (Read k)) Accepted (record c { table = table; works = more })
       read_leads table w more next =
-          recorded_leads rs opening steps s c h t here.tx here.found (Read k) (Found row) may read_answers refl (option_to_list found.depends_on)
+          recorded_leads rs opening steps s c h t here.tx here.found (Read k) (Found row) may row_answers refl (option_to_list found.depends_on)
           (subst (λ (x : Shown). AreDependencies s (Read k) here.tx (option_to_list x.depends_on)) (sym shown) (names_just rs opening steps s c h t.0 here.tx here.found k (Read k) refl)) table w more
           (key_told rs opening steps s c h t.0 here k found is (Read k) refl may more next)

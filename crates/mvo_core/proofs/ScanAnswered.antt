@@ -2,6 +2,7 @@
 use Rattle.std.proofs.Common.{◌≡◌, ℕ, List, None, refl, sym, ap, ◌∙◌, subst}
 use Rattle.mvo_types.specs.declared.ids.TxId.{TxId}
 use Rattle.mvo_types.specs.declared.op.Op.TheVariants.{Scan}
+use Rattle.mvo_types.specs.AnswerData.{AnswerData}
 use Rattle.mvo_types.specs.AnswerData.AnswerData.{Rows}
 use Rattle.mvo_types.specs.Keys.{Map}
 use Rattle.mvo_types.specs.RowData.{RowData}
@@ -35,7 +36,7 @@ use Rattle.mvo_core.proofs.ScanDepends.{scan_seen, scan_depends}
 use Rattle.mvo_core.proofs.ScanRefused.{may_scan}
 use Rattle.mvo_core.proofs.ScanSame.{rows_are_scan}
 use Rattle.mvo_core.proofs.OthersShown.{others_are, others_fit}
-use Rattle.mvo_core.proofs.WorksHeld.{IsNextTold, may_be_told, was_told}
+use Rattle.mvo_core.proofs.WorksHeld.{IsNextTold, may_be_told, told_answer, was_told}
 
 module _ (rs : Readers) (opening : Map) (steps : List Step) (s : State) (c : CoreData) (h : StandsAmong rs opening steps s c) (t : TxId) (of lo hi : ℕ) (none : why_not_look c.table t.0 of (Range of lo hi) ≡ None) (looks : MayLook (stage_of t.0 rs.unfinished)) where
   here : IsActiveHere s c t.0
@@ -52,17 +53,20 @@ module _ (rs : Readers) (opening : Map) (steps : List Step) (s : State) (c : Cor
     rows_there : rows ≡ scan (snapshot s t.0) of lo hi
     rows_there = seen.rows' ∙ rows_are_scan rs opening steps s c h t.0 here.tx here.found of lo hi
 
-    pub scan_answers : Rows rows ≡ answer_in s t.0 (Scan of lo hi)
-    scan_answers = ap Rows rows_there
+    -- it is told what the state answers
+    pub scan_answers : (others : List RowData) → AreOthersShown c.table c.versions t.0 of lo hi rows others → (n : NextData) → IsPreparedAt c.works t.0 (Scan of lo hi) others n → (a : AnswerData) → a ≡ n.answer → a ≡ answer_in s t.0 (Scan of lo hi)
+    scan_answers others o n p a told =
+        told
+        ∙ told_answer rs opening steps s c h t.0 (Scan of lo hi) (may_scan rs opening steps s c h t of lo hi looks none) others (λ new. others_are rs opening steps s c h t.0 here of lo hi rows others rows_there o) n p
 
     pub scan_fits : (others : List RowData) → AreOthersShown c.table c.versions t.0 of lo hi rows others → AreRowsOf (Range of lo hi) others
     scan_fits others o = others_fit rs opening steps s c h t.0 here of lo hi rows others rows_there o
 
     -- with these ids, and these rows
-    pub scan_leads : (told : List RowData) → told ≡ rows → (ids : List TxId) → ids ≡ on → (table : Txns (Node KeptTransaction)) → IsRecorded c.table table t ids (Scan of lo hi) (Rows told)
+    pub scan_leads : (ids : List TxId) → ids ≡ on → (table : Txns (Node KeptTransaction)) → IsRecorded c.table table t ids (Scan of lo hi) (Rows rows)
         → (others : List RowData) → AreOthersShown c.table c.versions t.0 of lo hi rows others → (more : WorksData) → IsNextTold c.works t.0 (Scan of lo hi) others more → LeadsAmong rs opening steps s (Do t.0 (Scan of lo hi)) Accepted (record c { table = table; works = more })
-    scan_leads told same ids all table k others o more next =
-        recorded_leads rs opening steps s c h t here.tx here.found (Scan of lo hi) (Rows told) (may_scan rs opening steps s c h t of lo hi looks none) (ap Rows (same ∙ rows_there)) refl on
+    scan_leads ids all table k others o more next =
+        recorded_leads rs opening steps s c h t here.tx here.found (Scan of lo hi) (Rows rows) (may_scan rs opening steps s c h t of lo hi looks none) (ap Rows rows_there) refl on
         (scan_depends rs opening steps s c h t.0 of lo hi rows on here.tx here.found seen) table
-        (subst (λ (xs : List TxId). IsRecorded c.table table t xs (Scan of lo hi) (Rows told)) all k) more
+        (subst (λ (xs : List TxId). IsRecorded c.table table t xs (Scan of lo hi) (Rows rows)) all k) more
         (was_told rs opening steps s c h t.0 (Scan of lo hi) (may_scan rs opening steps s c h t of lo hi looks none) others (λ new. others_are rs opening steps s c h t.0 here of lo hi rows others rows_there o) more next)

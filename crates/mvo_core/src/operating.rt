@@ -53,7 +53,6 @@ impl Core {
         }
         let found = self.versions.shown(&self.table, tx.id, key);
         let row = row_at(&self.versions, found.version)?;
-        let kept = copy_of(&row)?;
         let versions = &self.versions;
         let next = prepare(
             &mut self.works,
@@ -62,10 +61,9 @@ impl Core {
             Op::Read(key),
             found.version,
         )?;
-        let (op, told) = (Op::Read(key), Answer::Found(kept));
+        let (op, told) = (Op::Read(key), Answer::Found(row));
         record_answer(&mut self.table, tx, found.depends_on, op, told)?;
-        self.works.tell(tx.id, next);
-        Ok(Answer::Found(row))
+        Ok(self.works.tell(tx.id, next))
     }
 
     /// Inserts a row, unless one is shown at its key. Refused: NoSuchTransaction, Ended, NotActive,
@@ -176,16 +174,6 @@ impl Core {
         owe_end(&mut self.waiting, is_open);
         self.works.tell(tx.id, next);
         Ok(Answer::Deleted)
-    }
-}
-
-/// A copy of the row, if there is one.
-fn copy_of(row: &Option<Row>) -> Result<Option<Row>, AllocError>
-    ensures { IfOk result (λ copy. copy ≡ row.now) }
-{
-    match row {
-        Some(row) => Ok(Some(row.copy()?)),
-        None => Ok(None),
     }
 }
 

@@ -58,14 +58,12 @@ impl Core {
         let (versions, start) = (&self.versions, self.start);
         let scanned = scan_places(alloc, versions, &self.table, start, tx.id, table, lo, hi)?;
         let Scanned { rows, on } = scanned;
-        let kept = copies_of(alloc, &rows)?;
         let others = others_shown(alloc, versions, &self.table, tx, table, lo, hi, &rows)?;
         let op = Op::Scan(table, lo, hi);
         let next = self.works.prepare(tx.id, op, RowsShown::Many(others))?;
-        let (op, told) = (Op::Scan(table, lo, hi), Answer::Rows(kept));
+        let (op, told) = (Op::Scan(table, lo, hi), Answer::Rows(rows));
         record_answer_on(&mut self.table, tx, &on, op, told)?;
-        self.works.tell(tx.id, next);
-        Ok(Answer::Rows(rows))
+        Ok(self.works.tell(tx.id, next))
     }
 }
 

@@ -1,6 +1,7 @@
 use Rattle.std.proofs.Common.{sym, ap, ◌∙◌, subst, refl}
 use Rattle.mvo_types.specs.declared.op.Op.TheVariants.{Read}
 use Rattle.mvo_types.specs.declared.refusal.Refusal.TheVariants.{OutOfMemory}
+use Rattle.mvo_types.specs.AnswerData.{answer_data}
 use Rattle.mvo_theory.specs.Calls.Call.{Do}
 use Rattle.mvo_theory.specs.Calls.Result.{Accepted, Refused}
 use Rattle.mvo_types.specs.declared.entry.Entry.TheVariants.{Key}
@@ -36,13 +37,6 @@ returns-in_err-row-clause-step c = λ opening steps s h.
     (read_spent no_readers opening steps s c.args.self.now h c.args.tx c.args.key tt
     (ap (λ (x : CoreData). why_not_look x.table c.args.tx.0 c.args.key.table (Key c.args.key)) (sym c.self.view_is) ∙ sym c.not_looked.ensures ∙ c.in_default.is))
 
-pub returns-in_err-kept-clause-step : goal.returns-in_err-kept-clause-step
-returns-in_err-kept-clause-step c = λ opening steps s h.
-    subst (λ r. LeadsOn opening steps s (Do c.args.tx.0 (Read c.args.key)) r c.args.self.now) (came_spent c.from_residual-in_err-kept.result c.from_residual-in_err-kept.ensures.1)
-    (read_spent no_readers opening steps s c.args.self.now h c.args.tx c.args.key tt
-    (ap (λ (x : CoreData). why_not_look x.table c.args.tx.0 c.args.key.table (Key c.args.key)) (sym c.self.view_is) ∙ sym c.not_looked.ensures ∙ c.in_default.is))
-
--- ---- the work is prepared
 pub prepare-requires : goal.prepare-requires
 prepare-requires c =
     let f = c.self.inside in
@@ -132,8 +126,8 @@ invariant_of-self-2 c =
           whole_stands_on i (CoreCall (Do c.args.tx.0 (Read c.args.key))) Accepted (record now { table = c.record_answer.new.table; works = c.tell.new.self })
           (let looks = may_look_whole i.opening i.steps i.own i.whole now g c.args.tx.0 (Read c.args.key) c.args.key.table (Key c.args.key) refl (sym c.not_looked.ensures ∙ c.in_default.is) in
           look_leads i.opening i.steps i.own i.whole now g c.args.tx.0 (Read c.args.key) c.args.key.table (Key c.args.key) refl (sym c.not_looked.ensures ∙ c.in_default.is) _
-          (read_leads (readers_of i.whole) i.opening i.own i.whole.core now g.core c.args.tx c.args.key looks (sym c.not_looked.ensures ∙ c.in_default.is) c.shown-found.result c.shown-found.ensures c.in_ok-kept.kept
-          (c.in_ok-kept.ensures ∙ c.in_ok-row.ensures) c.record_answer.new.table c.in_ok-record_answer.ensures.ok c.tell.new.self
+          (read_leads (readers_of i.whole) i.opening i.own i.whole.core now g.core c.args.tx c.args.key looks (sym c.not_looked.ensures ∙ c.in_default.is) c.shown-found.result c.shown-found.ensures c.in_ok-row.row
+          c.in_ok-row.ensures c.record_answer.new.table c.in_ok-record_answer.ensures.ok c.tell.new.self
           (record { next = c.in_ok-next.next; prepared = c.in_ok-next.ensures.next; told = c.tell.ensures.told })));
       waiting = waits_alike f.table c.record_answer.new.table f.versions.slots f.waiting (alike_recorded f.table c.record_answer.new.table c.args.tx _ _ _ c.in_ok-record_answer.ensures.ok) c.self.invariant.waiting;
     }
@@ -143,15 +137,16 @@ returns-clause-step c = λ opening steps s h.
     let f = c.self.inside in
     let old : CoreData = core_data f in
     let now : CoreData = record old { works = c.prepare.new.works } in
-    read_leads no_readers opening steps s now (stands_same_works no_readers opening steps s old (subst (StandsFor opening steps s) (sym c.self.view_is) h) c.prepare.new.works c.prepare.ensures.same) c.args.tx c.args.key tt (sym c.not_looked.ensures ∙ c.in_default.is) c.shown-found.result c.shown-found.ensures c.in_ok-kept.kept
-    (c.in_ok-kept.ensures ∙ c.in_ok-row.ensures) c.record_answer.new.table c.in_ok-record_answer.ensures.ok c.tell.new.self
+    read_leads no_readers opening steps s now (stands_same_works no_readers opening steps s old (subst (StandsFor opening steps s) (sym c.self.view_is) h) c.prepare.new.works c.prepare.ensures.same) c.args.tx c.args.key tt (sym c.not_looked.ensures ∙ c.in_default.is) c.shown-found.result c.shown-found.ensures c.in_ok-row.row
+    c.in_ok-row.ensures c.record_answer.new.table c.in_ok-record_answer.ensures.ok c.tell.new.self
     (record { next = c.in_ok-next.next; prepared = c.in_ok-next.ensures.next; told = c.tell.ensures.told })
 
 pub returns-clause-answer : goal.returns-clause-answer
 returns-clause-answer c = λ opening steps s h.
     let f = c.self.inside in
     let old : CoreData = core_data f in
-    read_answers no_readers opening steps s old (subst (StandsFor opening steps s) (sym c.self.view_is) h) c.args.tx c.args.key tt (sym c.not_looked.ensures ∙ c.in_default.is) c.shown-found.result c.shown-found.ensures c.in_ok-row.row c.in_ok-row.ensures
+    let now : CoreData = record old { works = c.prepare.new.works } in
+    read_answers no_readers opening steps s now (stands_same_works no_readers opening steps s old (subst (StandsFor opening steps s) (sym c.self.view_is) h) c.prepare.new.works c.prepare.ensures.same) c.args.tx c.args.key tt (sym c.not_looked.ensures ∙ c.in_default.is) c.shown-found.result c.shown-found.ensures c.in_ok-next.next c.in_ok-next.ensures.next (answer_data c.tell.result) c.tell.ensures.answer
 
 -- ---- beside read-only ones
 pub returns-in-Some-clause-whole : goal.returns-in-Some-clause-whole
@@ -175,18 +170,6 @@ returns-in_err-row-clause-whole c = λ opening steps own w h.
     (read_spent (readers_of w) opening own w.core old g.core c.args.tx c.args.key looks
     (sym c.not_looked.ensures ∙ c.in_default.is))))
 
-pub returns-in_err-kept-clause-whole : goal.returns-in_err-kept-clause-whole
-returns-in_err-kept-clause-whole c = λ opening steps own w h.
-    let f = c.self.inside in
-    let old : CoreData = core_data f in
-    let g : StandsWhole opening steps own w old = subst (StandsWhole opening steps own w) (sym c.self.view_is) h in
-    let looks = may_look_whole opening steps own w old g c.args.tx.0 (Read c.args.key) c.args.key.table (Key c.args.key) refl (sym c.not_looked.ensures ∙ c.in_default.is) in
-    subst (λ (x : CoreData). LeadsWhole opening steps own w (CoreCall (Do c.args.tx.0 (Read c.args.key))) (came c.from_residual-in_err-kept.result) x) c.self.view_is (
-    subst (λ r. LeadsWhole opening steps own w (CoreCall (Do c.args.tx.0 (Read c.args.key))) r old) (came_spent c.from_residual-in_err-kept.result c.from_residual-in_err-kept.ensures.1)
-    (look_spent opening steps own w old g c.args.tx.0 (Read c.args.key) c.args.key.table (Key c.args.key) refl (sym c.not_looked.ensures ∙ c.in_default.is) _
-    (read_spent (readers_of w) opening own w.core old g.core c.args.tx c.args.key looks
-    (sym c.not_looked.ensures ∙ c.in_default.is))))
-
 pub returns-in_err-record_answer-clause-whole : goal.returns-in_err-record_answer-clause-whole
 returns-in_err-record_answer-clause-whole c = λ opening steps own w h.
     let f = c.self.inside in
@@ -206,14 +189,15 @@ returns-clause-whole c = λ opening steps own w h.
     let g : StandsWhole opening steps own w now = whole_same_works opening steps own w old (subst (StandsWhole opening steps own w) (sym c.self.view_is) h) c.prepare.new.works c.prepare.ensures.same in
     let looks = may_look_whole opening steps own w now g c.args.tx.0 (Read c.args.key) c.args.key.table (Key c.args.key) refl (sym c.not_looked.ensures ∙ c.in_default.is) in
     look_leads opening steps own w now g c.args.tx.0 (Read c.args.key) c.args.key.table (Key c.args.key) refl (sym c.not_looked.ensures ∙ c.in_default.is) _
-    (read_leads (readers_of w) opening own w.core now g.core c.args.tx c.args.key looks (sym c.not_looked.ensures ∙ c.in_default.is) c.shown-found.result c.shown-found.ensures c.in_ok-kept.kept
-    (c.in_ok-kept.ensures ∙ c.in_ok-row.ensures) c.record_answer.new.table c.in_ok-record_answer.ensures.ok c.tell.new.self
+    (read_leads (readers_of w) opening own w.core now g.core c.args.tx c.args.key looks (sym c.not_looked.ensures ∙ c.in_default.is) c.shown-found.result c.shown-found.ensures c.in_ok-row.row
+    c.in_ok-row.ensures c.record_answer.new.table c.in_ok-record_answer.ensures.ok c.tell.new.self
     (record { next = c.in_ok-next.next; prepared = c.in_ok-next.ensures.next; told = c.tell.ensures.told }))
 
 pub returns-clause-whole_answer : goal.returns-clause-whole_answer
 returns-clause-whole_answer c = λ opening steps own w h.
     let f = c.self.inside in
     let old : CoreData = core_data f in
-    let g : StandsWhole opening steps own w old = subst (StandsWhole opening steps own w) (sym c.self.view_is) h in
-    let looks = may_look_whole opening steps own w old g c.args.tx.0 (Read c.args.key) c.args.key.table (Key c.args.key) refl (sym c.not_looked.ensures ∙ c.in_default.is) in
-    read_answers (readers_of w) opening own w.core old g.core c.args.tx c.args.key looks (sym c.not_looked.ensures ∙ c.in_default.is) c.shown-found.result c.shown-found.ensures c.in_ok-row.row c.in_ok-row.ensures
+    let now : CoreData = record old { works = c.prepare.new.works } in
+    let g : StandsWhole opening steps own w now = whole_same_works opening steps own w old (subst (StandsWhole opening steps own w) (sym c.self.view_is) h) c.prepare.new.works c.prepare.ensures.same in
+    let looks = may_look_whole opening steps own w now g c.args.tx.0 (Read c.args.key) c.args.key.table (Key c.args.key) refl (sym c.not_looked.ensures ∙ c.in_default.is) in
+    read_answers (readers_of w) opening own w.core now g.core c.args.tx c.args.key looks (sym c.not_looked.ensures ∙ c.in_default.is) c.shown-found.result c.shown-found.ensures c.in_ok-next.next c.in_ok-next.ensures.next (answer_data c.tell.result) c.tell.ensures.answer

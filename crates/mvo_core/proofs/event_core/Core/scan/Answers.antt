@@ -1,6 +1,7 @@
 use Rattle.std.proofs.Common.{List, sym, ap, ◌∙◌, subst, refl}
 use Rattle.mvo_types.specs.declared.op.Op.TheVariants.{Scan}
 use Rattle.mvo_types.specs.declared.refusal.Refusal.TheVariants.{OutOfMemory}
+use Rattle.mvo_types.specs.AnswerData.{answer_data}
 use Rattle.mvo_theory.specs.Calls.Call.{Do}
 use Rattle.mvo_theory.specs.Calls.Result.{Accepted, Refused}
 use Rattle.mvo_types.specs.declared.entry.Entry.TheVariants.{Range}
@@ -39,13 +40,6 @@ returns-in_err-scanned-clause-step c = λ opening steps s h.
     (scan_spent no_readers opening steps s c.args.self.now h c.args.tx c.args.table c.args.lo c.args.hi tt
     (ap (λ (x : CoreData). why_not_look x.table c.args.tx.0 c.args.table (Range c.args.table c.args.lo c.args.hi)) (sym c.self.view_is) ∙ sym c.not_looked.ensures ∙ c.in_default.is))
 
-pub returns-in_err-kept-clause-step : goal.returns-in_err-kept-clause-step
-returns-in_err-kept-clause-step c = λ opening steps s h.
-    subst (λ r. LeadsOn opening steps s (Do c.args.tx.0 (Scan c.args.table c.args.lo c.args.hi)) r c.args.self.now) (came_spent c.from_residual-in_err-kept.result c.from_residual-in_err-kept.ensures.1)
-    (scan_spent no_readers opening steps s c.args.self.now h c.args.tx c.args.table c.args.lo c.args.hi tt
-    (ap (λ (x : CoreData). why_not_look x.table c.args.tx.0 c.args.table (Range c.args.table c.args.lo c.args.hi)) (sym c.self.view_is) ∙ sym c.not_looked.ensures ∙ c.in_default.is))
-
--- ---- what others show
 pub returns-in_err-others-clause-step : goal.returns-in_err-others-clause-step
 returns-in_err-others-clause-step c = λ opening steps s h.
     subst (λ r. LeadsOn opening steps s (Do c.args.tx.0 (Scan c.args.table c.args.lo c.args.hi)) r c.args.self.now) (came_spent c.from_residual-in_err-others.result c.from_residual-in_err-others.ensures.1)
@@ -70,7 +64,7 @@ prepare-requires c =
     let i = c.self.invariant.stands in
     let old : CoreData = core_data f in
     let looks = may_look_whole i.opening i.steps i.own i.whole old i.stands c.args.tx.0 (Scan c.args.table c.args.lo c.args.hi) c.args.table (Range c.args.table c.args.lo c.args.hi) refl (sym c.not_looked.ensures ∙ c.in_default.is) in
-    scan_fits (readers_of i.whole) i.opening i.own i.whole.core old i.stands.core c.args.tx c.args.table c.args.lo c.args.hi (sym c.not_looked.ensures ∙ c.in_default.is) looks c.in_ok-scanned.scanned.rows.items c.in_ok-scanned.scanned.on.items c.in_ok-scanned.ensures c.in_ok-others.others.items (subst (λ (xs : List RowData). AreOthersShown c.self.inside.table c.self.inside.versions c.args.tx.0 c.args.table c.args.lo c.args.hi xs c.in_ok-others.others.items) c.deref-2.ensures.value c.in_ok-others.ensures)
+    scan_fits (readers_of i.whole) i.opening i.own i.whole.core old i.stands.core c.args.tx c.args.table c.args.lo c.args.hi (sym c.not_looked.ensures ∙ c.in_default.is) looks c.in_ok-scanned.scanned.rows.items c.in_ok-scanned.scanned.on.items c.in_ok-scanned.ensures c.in_ok-others.others.items (subst (λ (xs : List RowData). AreOthersShown c.self.inside.table c.self.inside.versions c.args.tx.0 c.args.table c.args.lo c.args.hi xs c.in_ok-others.others.items) c.deref.ensures.value c.in_ok-others.ensures)
 
 pub invariant_of-self : goal.invariant_of-self
 invariant_of-self c =
@@ -153,9 +147,8 @@ invariant_of-self-2 c =
           whole_stands_on i (CoreCall (Do c.args.tx.0 (Scan c.args.table c.args.lo c.args.hi))) Accepted (record now { table = c.record_answer_on.new.table; works = c.tell.new.self })
           (let looks = may_look_whole i.opening i.steps i.own i.whole now g c.args.tx.0 (Scan c.args.table c.args.lo c.args.hi) c.args.table (Range c.args.table c.args.lo c.args.hi) refl (sym c.not_looked.ensures ∙ c.in_default.is) in
           look_leads i.opening i.steps i.own i.whole now g c.args.tx.0 (Scan c.args.table c.args.lo c.args.hi) c.args.table (Range c.args.table c.args.lo c.args.hi) refl (sym c.not_looked.ensures ∙ c.in_default.is) _
-          (scan_leads (readers_of i.whole) i.opening i.own i.whole.core now g.core c.args.tx c.args.table c.args.lo c.args.hi (sym c.not_looked.ensures ∙ c.in_default.is) looks c.in_ok-scanned.scanned.rows.items c.in_ok-scanned.scanned.on.items c.in_ok-scanned.ensures
-          c.in_ok-kept.kept.items (c.in_ok-kept.ensures ∙ c.deref.ensures.value) c.deref-3.result.now c.deref-3.ensures.value c.record_answer_on.new.table c.in_ok-record_answer_on.ensures.ok
-          c.in_ok-others.others.items (subst (λ (xs : List RowData). AreOthersShown c.self.inside.table c.self.inside.versions c.args.tx.0 c.args.table c.args.lo c.args.hi xs c.in_ok-others.others.items) c.deref-2.ensures.value c.in_ok-others.ensures) c.tell.new.self
+          (scan_leads (readers_of i.whole) i.opening i.own i.whole.core now g.core c.args.tx c.args.table c.args.lo c.args.hi (sym c.not_looked.ensures ∙ c.in_default.is) looks c.in_ok-scanned.scanned.rows.items c.in_ok-scanned.scanned.on.items c.in_ok-scanned.ensures c.deref-2.result.now c.deref-2.ensures.value c.record_answer_on.new.table c.in_ok-record_answer_on.ensures.ok
+          c.in_ok-others.others.items (subst (λ (xs : List RowData). AreOthersShown c.self.inside.table c.self.inside.versions c.args.tx.0 c.args.table c.args.lo c.args.hi xs c.in_ok-others.others.items) c.deref.ensures.value c.in_ok-others.ensures) c.tell.new.self
           (record { next = c.in_ok-next.next; prepared = c.in_ok-next.ensures.next; told = c.tell.ensures.told })));
       waiting = waits_alike f.table c.record_answer_on.new.table f.versions.slots f.waiting (alike_recorded f.table c.record_answer_on.new.table c.args.tx _ _ _ c.in_ok-record_answer_on.ensures.ok) c.self.invariant.waiting;
     }
@@ -165,16 +158,17 @@ returns-clause-step c = λ opening steps s h.
     let f = c.self.inside in
     let old : CoreData = core_data f in
     let now : CoreData = record old { works = c.prepare.new.self } in
-    scan_leads no_readers opening steps s now (stands_same_works no_readers opening steps s old (subst (StandsFor opening steps s) (sym c.self.view_is) h) c.prepare.new.self c.prepare.ensures.same) c.args.tx c.args.table c.args.lo c.args.hi (sym c.not_looked.ensures ∙ c.in_default.is) tt c.in_ok-scanned.scanned.rows.items c.in_ok-scanned.scanned.on.items c.in_ok-scanned.ensures
-    c.in_ok-kept.kept.items (c.in_ok-kept.ensures ∙ c.deref.ensures.value) c.deref-3.result.now c.deref-3.ensures.value c.record_answer_on.new.table c.in_ok-record_answer_on.ensures.ok
-    c.in_ok-others.others.items (subst (λ (xs : List RowData). AreOthersShown c.self.inside.table c.self.inside.versions c.args.tx.0 c.args.table c.args.lo c.args.hi xs c.in_ok-others.others.items) c.deref-2.ensures.value c.in_ok-others.ensures) c.tell.new.self
+    scan_leads no_readers opening steps s now (stands_same_works no_readers opening steps s old (subst (StandsFor opening steps s) (sym c.self.view_is) h) c.prepare.new.self c.prepare.ensures.same) c.args.tx c.args.table c.args.lo c.args.hi (sym c.not_looked.ensures ∙ c.in_default.is) tt c.in_ok-scanned.scanned.rows.items c.in_ok-scanned.scanned.on.items c.in_ok-scanned.ensures c.deref-2.result.now c.deref-2.ensures.value c.record_answer_on.new.table c.in_ok-record_answer_on.ensures.ok
+    c.in_ok-others.others.items (subst (λ (xs : List RowData). AreOthersShown c.self.inside.table c.self.inside.versions c.args.tx.0 c.args.table c.args.lo c.args.hi xs c.in_ok-others.others.items) c.deref.ensures.value c.in_ok-others.ensures) c.tell.new.self
     (record { next = c.in_ok-next.next; prepared = c.in_ok-next.ensures.next; told = c.tell.ensures.told })
 
 pub returns-clause-answer : goal.returns-clause-answer
 returns-clause-answer c = λ opening steps s h.
     let f = c.self.inside in
     let old : CoreData = core_data f in
-    scan_answers no_readers opening steps s old (subst (StandsFor opening steps s) (sym c.self.view_is) h) c.args.tx c.args.table c.args.lo c.args.hi (sym c.not_looked.ensures ∙ c.in_default.is) tt c.in_ok-scanned.scanned.rows.items c.in_ok-scanned.scanned.on.items c.in_ok-scanned.ensures
+    let now : CoreData = record old { works = c.prepare.new.self } in
+    scan_answers no_readers opening steps s now (stands_same_works no_readers opening steps s old (subst (StandsFor opening steps s) (sym c.self.view_is) h) c.prepare.new.self c.prepare.ensures.same) c.args.tx c.args.table c.args.lo c.args.hi (sym c.not_looked.ensures ∙ c.in_default.is) tt c.in_ok-scanned.scanned.rows.items c.in_ok-scanned.scanned.on.items c.in_ok-scanned.ensures
+    c.in_ok-others.others.items (subst (λ (xs : List RowData). AreOthersShown c.self.inside.table c.self.inside.versions c.args.tx.0 c.args.table c.args.lo c.args.hi xs c.in_ok-others.others.items) c.deref.ensures.value c.in_ok-others.ensures) c.in_ok-next.next c.in_ok-next.ensures.next (answer_data c.tell.result) c.tell.ensures.answer
 
 -- ---- beside read-only ones
 pub returns-in-Some-clause-whole : goal.returns-in-Some-clause-whole
@@ -198,18 +192,6 @@ returns-in_err-scanned-clause-whole c = λ opening steps own w h.
     (scan_spent (readers_of w) opening own w.core old g.core c.args.tx c.args.table c.args.lo c.args.hi looks
     (sym c.not_looked.ensures ∙ c.in_default.is))))
 
-pub returns-in_err-kept-clause-whole : goal.returns-in_err-kept-clause-whole
-returns-in_err-kept-clause-whole c = λ opening steps own w h.
-    let f = c.self.inside in
-    let old : CoreData = core_data f in
-    let g : StandsWhole opening steps own w old = subst (StandsWhole opening steps own w) (sym c.self.view_is) h in
-    let looks = may_look_whole opening steps own w old g c.args.tx.0 (Scan c.args.table c.args.lo c.args.hi) c.args.table (Range c.args.table c.args.lo c.args.hi) refl (sym c.not_looked.ensures ∙ c.in_default.is) in
-    subst (λ (x : CoreData). LeadsWhole opening steps own w (CoreCall (Do c.args.tx.0 (Scan c.args.table c.args.lo c.args.hi))) (came c.from_residual-in_err-kept.result) x) c.self.view_is (
-    subst (λ r. LeadsWhole opening steps own w (CoreCall (Do c.args.tx.0 (Scan c.args.table c.args.lo c.args.hi))) r old) (came_spent c.from_residual-in_err-kept.result c.from_residual-in_err-kept.ensures.1)
-    (look_spent opening steps own w old g c.args.tx.0 (Scan c.args.table c.args.lo c.args.hi) c.args.table (Range c.args.table c.args.lo c.args.hi) refl (sym c.not_looked.ensures ∙ c.in_default.is) _
-    (scan_spent (readers_of w) opening own w.core old g.core c.args.tx c.args.table c.args.lo c.args.hi looks
-    (sym c.not_looked.ensures ∙ c.in_default.is))))
-
 pub returns-in_err-record_answer_on-clause-whole : goal.returns-in_err-record_answer_on-clause-whole
 returns-in_err-record_answer_on-clause-whole c = λ opening steps own w h.
     let f = c.self.inside in
@@ -229,15 +211,16 @@ returns-clause-whole c = λ opening steps own w h.
     let g : StandsWhole opening steps own w now = whole_same_works opening steps own w old (subst (StandsWhole opening steps own w) (sym c.self.view_is) h) c.prepare.new.self c.prepare.ensures.same in
     let looks = may_look_whole opening steps own w now g c.args.tx.0 (Scan c.args.table c.args.lo c.args.hi) c.args.table (Range c.args.table c.args.lo c.args.hi) refl (sym c.not_looked.ensures ∙ c.in_default.is) in
     look_leads opening steps own w now g c.args.tx.0 (Scan c.args.table c.args.lo c.args.hi) c.args.table (Range c.args.table c.args.lo c.args.hi) refl (sym c.not_looked.ensures ∙ c.in_default.is) _
-    (scan_leads (readers_of w) opening own w.core now g.core c.args.tx c.args.table c.args.lo c.args.hi (sym c.not_looked.ensures ∙ c.in_default.is) looks c.in_ok-scanned.scanned.rows.items c.in_ok-scanned.scanned.on.items c.in_ok-scanned.ensures
-    c.in_ok-kept.kept.items (c.in_ok-kept.ensures ∙ c.deref.ensures.value) c.deref-3.result.now c.deref-3.ensures.value c.record_answer_on.new.table c.in_ok-record_answer_on.ensures.ok
-    c.in_ok-others.others.items (subst (λ (xs : List RowData). AreOthersShown c.self.inside.table c.self.inside.versions c.args.tx.0 c.args.table c.args.lo c.args.hi xs c.in_ok-others.others.items) c.deref-2.ensures.value c.in_ok-others.ensures) c.tell.new.self
+    (scan_leads (readers_of w) opening own w.core now g.core c.args.tx c.args.table c.args.lo c.args.hi (sym c.not_looked.ensures ∙ c.in_default.is) looks c.in_ok-scanned.scanned.rows.items c.in_ok-scanned.scanned.on.items c.in_ok-scanned.ensures c.deref-2.result.now c.deref-2.ensures.value c.record_answer_on.new.table c.in_ok-record_answer_on.ensures.ok
+    c.in_ok-others.others.items (subst (λ (xs : List RowData). AreOthersShown c.self.inside.table c.self.inside.versions c.args.tx.0 c.args.table c.args.lo c.args.hi xs c.in_ok-others.others.items) c.deref.ensures.value c.in_ok-others.ensures) c.tell.new.self
     (record { next = c.in_ok-next.next; prepared = c.in_ok-next.ensures.next; told = c.tell.ensures.told }))
 
 pub returns-clause-whole_answer : goal.returns-clause-whole_answer
 returns-clause-whole_answer c = λ opening steps own w h.
     let f = c.self.inside in
     let old : CoreData = core_data f in
-    let g : StandsWhole opening steps own w old = subst (StandsWhole opening steps own w) (sym c.self.view_is) h in
-    let looks = may_look_whole opening steps own w old g c.args.tx.0 (Scan c.args.table c.args.lo c.args.hi) c.args.table (Range c.args.table c.args.lo c.args.hi) refl (sym c.not_looked.ensures ∙ c.in_default.is) in
-    scan_answers (readers_of w) opening own w.core old g.core c.args.tx c.args.table c.args.lo c.args.hi (sym c.not_looked.ensures ∙ c.in_default.is) looks c.in_ok-scanned.scanned.rows.items c.in_ok-scanned.scanned.on.items c.in_ok-scanned.ensures
+    let now : CoreData = record old { works = c.prepare.new.self } in
+    let g : StandsWhole opening steps own w now = whole_same_works opening steps own w old (subst (StandsWhole opening steps own w) (sym c.self.view_is) h) c.prepare.new.self c.prepare.ensures.same in
+    let looks = may_look_whole opening steps own w now g c.args.tx.0 (Scan c.args.table c.args.lo c.args.hi) c.args.table (Range c.args.table c.args.lo c.args.hi) refl (sym c.not_looked.ensures ∙ c.in_default.is) in
+    scan_answers (readers_of w) opening own w.core now g.core c.args.tx c.args.table c.args.lo c.args.hi (sym c.not_looked.ensures ∙ c.in_default.is) looks c.in_ok-scanned.scanned.rows.items c.in_ok-scanned.scanned.on.items c.in_ok-scanned.ensures
+    c.in_ok-others.others.items (subst (λ (xs : List RowData). AreOthersShown c.self.inside.table c.self.inside.versions c.args.tx.0 c.args.table c.args.lo c.args.hi xs c.in_ok-others.others.items) c.deref.ensures.value c.in_ok-others.ensures) c.in_ok-next.next c.in_ok-next.ensures.next (answer_data c.tell.result) c.tell.ensures.answer
