@@ -126,7 +126,7 @@ module _ (rs : Readers) (opening : Map) (steps : List Step) (s : State) (c : Cor
       with_works ws (forgotten_beside opening steps s (works_in c.works) h.beside (works_in ws) t (ended_not_active s t found.0 h.versions.kept.single found.1) told)
 
   -- the work of an Active one holds its operations
-  work_held : (t : ℕ) (r : ActiveTx) → active_of t s.active ≡ Some r → IsWorkOf r.history (works_in c.works t)
+  pub work_held : (t : ℕ) (r : ActiveTx) → active_of t s.active ≡ Some r → IsWorkOf r.history (works_in c.works t)
   work_held t r f = holds_history opening steps s h.beside.given (works_in c.works) h.beside.together t r f
 
   -- ---- an operation that may come

@@ -21,6 +21,11 @@ told_as t = (t.0, answer_data t.1)
 abbrev pub own_told : Option KeptTransaction → Option History
 own_told own = option_map (λ t. t.work.history) own
 
+-- those of one that stands so: the work of an Active one has them
+abbrev pub told_at : Option TxState → History → Option KeptTransaction → Option History
+told_at (Some Active) work own = Some work
+told_at state work own = own_told own
+
 -- the answer of one that stands so and was told this: yes where it is neither Active nor Preparing
 abbrev pub HasToldAs : Option TxState → Option History → History → Bool → Type 0
 HasToldAs None told h b = IsTrue b
