@@ -32,9 +32,12 @@ use Rattle.mvo_core.specs.declared.kept_transaction.TransactionKind.{Transaction
 use Rattle.mvo_core.proofs.ReaderStages.{none_of_stage, not_read_only, none_kind}
 use Rattle.mvo_core.specs.Readers.{Readers, reader_in, HasStage, reader_by}
 use Rattle.mvo_core.specs.declared.kept_transaction.KeptTransaction.{KeptTransaction}
+use Rattle.mvo_content.specs.Works.{works_in}
+use Rattle.mvo_standing.proofs.Telling.{holds_history}
+use Rattle.mvo_core.specs.Own.{done_in}
 use Rattle.mvo_core.specs.Data.{CoreData, own_of}
 use Rattle.mvo_core.specs.Standing.{IsKeptActive, StandsAmong}
-use Rattle.mvo_core.specs.Causes.{flag_refusal, flag_of, unless_active_as, unless_preparing_as, why_not_active, why_not_preparing, why_not_undo, over_entries, over_writes, why_not_look, why_not_put, why_not_remove, is_read_only, kind_kept, unless_reads}
+use Rattle.mvo_core.specs.Causes.{flag_refusal, flag_of, unless_active_as, unless_preparing_as, why_not_active, why_not_preparing, why_not_undo, why_not_look, why_not_put, why_not_remove, is_read_only, kind_kept, unless_reads}
 use Rattle.mvo_core.proofs.Laws.{flag_of_active_told, flag_of_preparing_told}
 
 -- ---- lists of causes
@@ -176,11 +179,17 @@ module _ (rs : Readers) (opening : Map) (steps : List Step) (s : State) (c : Cor
   own_if_none : why_not_active c.table t ≡ None → IsOwnOfActive s c t
   own_if_none none = own_of_active (stands_active c.table t none)
 
-  pub entry_over_is : (e : Entry) → why_not_active c.table t ≡ None → over_entries (own_of c.table t) e ≡ is_entry_too_many (history_of_active t s.active) e
-  entry_over_is e none = let w = own_if_none none in ap (λ o. over_entries o e) w.kept ∙ ap (λ ts. is_entry_too_many ts e) w.history
+  -- its work has what the history has
+  done_is : why_not_active c.table t ≡ None → done_in c.works t ≡ history_of_active t s.active
+  done_is none =
+      let found = active_is s t (sym (h.dependencies.stands.phases t) ∙ ap phase_as (stands_active c.table t none)) in
+      (holds_history opening steps s h.beside.given (works_in c.works) h.beside.together t found.0 found.1).history ∙ sym (found_is t s.active found.0 found.1).1
 
-  write_over_is : (k : RowKey) → why_not_active c.table t ≡ None → over_writes (own_of c.table t) k ≡ is_write_too_many (history_of_active t s.active) k
-  write_over_is k none = let w = own_if_none none in ap (λ o. over_writes o k) w.kept ∙ ap (λ ts. is_write_too_many ts k) w.history
+  pub entry_over_is : (e : Entry) → why_not_active c.table t ≡ None → is_entry_too_many (done_in c.works t) e ≡ is_entry_too_many (history_of_active t s.active) e
+  entry_over_is e none = ap (λ ts. is_entry_too_many ts e) (done_is none)
+
+  write_over_is : (k : RowKey) → why_not_active c.table t ≡ None → is_write_too_many (done_in c.works t) k ≡ is_write_too_many (history_of_active t s.active) k
+  write_over_is k none = ap (λ ts. is_write_too_many ts k) (done_is none)
 
   -- the causes that come behind those of every call of an Active one
   behind : MayLook (stage_of t rs.unfinished) → (zs ys : List (Option Refusal)) → (why_not_active c.table t ≡ None → zs ≡ ys)
@@ -202,15 +211,15 @@ module _ (rs : Readers) (opening : Map) (steps : List Step) (s : State) (c : Cor
   abbrev look_list : ℕ → Bool → List (Option Refusal)
   look_list of many = when (nat_lt MAX_TABLE of) BadTable ∷ when many TooManyReads ∷ []
 
-  pub not_read_is : MayLook (stage_of t rs.unfinished) → (k : RowKey) → why_not_look c.table t k.table (Key k) ≡ why_not_read s t k
+  pub not_read_is : MayLook (stage_of t rs.unfinished) → (k : RowKey) → why_not_look c.table (done_in c.works t) t k.table (Key k) ≡ why_not_read s t k
   not_read_is looks k =
-      behind looks (look_list k.table (over_entries (own_of c.table t) (Key k)))
+      behind looks (look_list k.table (is_entry_too_many (done_in c.works t) (Key k)))
       (look_list k.table (is_entry_too_many (history_of_active t s.active) (Key k)))
       (λ none. ap (look_list k.table) (entry_over_is (Key k) none))
 
-  pub not_scanned_is : MayLook (stage_of t rs.unfinished) → (table lo hi : ℕ) → why_not_look c.table t table (Range table lo hi) ≡ why_not_scan s t table lo hi
+  pub not_scanned_is : MayLook (stage_of t rs.unfinished) → (table lo hi : ℕ) → why_not_look c.table (done_in c.works t) t table (Range table lo hi) ≡ why_not_scan s t table lo hi
   not_scanned_is looks table lo hi =
-      behind looks (look_list table (over_entries (own_of c.table t) (Range table lo hi)))
+      behind looks (look_list table (is_entry_too_many (done_in c.works t) (Range table lo hi)))
       (look_list table (is_entry_too_many (history_of_active t s.active) (Range table lo hi)))
       (λ none. ap (look_list table) (entry_over_is (Range table lo hi) none))
 
@@ -226,21 +235,21 @@ module _ (rs : Readers) (opening : Map) (steps : List Step) (s : State) (c : Cor
       ∷ when reads TooManyReads ∷ when writes TooManyWrites ∷ []
 
   abbrev put_told : RowData → List (Option Refusal)
-  put_told row = put_list row (over_entries (own_of c.table t) (Key row.key)) (over_writes (own_of c.table t) row.key)
+  put_told row = put_list row (is_entry_too_many (done_in c.works t) (Key row.key)) (is_write_too_many (done_in c.works t) row.key)
 
   abbrev put_causes : RowData → List (Option Refusal)
   put_causes row = put_list row (is_entry_too_many (history_of_active t s.active) (Key row.key)) (is_write_too_many (history_of_active t s.active) row.key)
 
   put_same : (row : RowData) → why_not_active c.table t ≡ None → put_told row ≡ put_causes row
   put_same row none =
-      ap (λ b. put_list row b (over_writes (own_of c.table t) row.key)) (entry_over_is (Key row.key) none)
+      ap (λ b. put_list row b (is_write_too_many (done_in c.works t) row.key)) (entry_over_is (Key row.key) none)
       ∙ ap (put_list row (is_entry_too_many (history_of_active t s.active) (Key row.key))) (write_over_is row.key none)
 
-  pub not_inserted_is : stage_of t rs.unfinished ≡ None → (row : RowData) → why_not_put c.table t row ≡ why_not_insert s t row
+  pub not_inserted_is : stage_of t rs.unfinished ≡ None → (row : RowData) → why_not_put c.table (done_in c.works t) t row ≡ why_not_insert s t row
   not_inserted_is other row = ap (λ b. first_cause (why_not_active c.table t ∷ when b ReadOnly ∷ put_told row)) (may_write other) ∙ behind (may_look other) (put_told row) (put_causes row) (put_same row)
 
   -- behind them, who stands in the way
-  pub not_updated_is : stage_of t rs.unfinished ≡ None → (row : RowData) → or_next (why_not_put c.table t row) (conflicts (conflict s t row.key)) ≡ why_not_update s t row
+  pub not_updated_is : stage_of t rs.unfinished ≡ None → (row : RowData) → or_next (why_not_put c.table (done_in c.works t) t row) (conflicts (conflict s t row.key)) ≡ why_not_update s t row
   not_updated_is other row = ap (λ b. or_next (first_cause (why_not_active c.table t ∷ when b ReadOnly ∷ put_told row)) (conflicts (conflict s t row.key))) (may_write other) ∙ behind_all (may_look other) (put_told row) (put_causes row) (conflicts (conflict s t row.key)) (put_same row)
 
   -- ---- removals
@@ -248,15 +257,15 @@ module _ (rs : Readers) (opening : Map) (steps : List Step) (s : State) (c : Cor
   remove_list k reads writes = when (nat_lt MAX_TABLE k.table) BadTable ∷ when reads TooManyReads ∷ when writes TooManyWrites ∷ []
 
   abbrev remove_told : RowKey → List (Option Refusal)
-  remove_told k = remove_list k (over_entries (own_of c.table t) (Key k)) (over_writes (own_of c.table t) k)
+  remove_told k = remove_list k (is_entry_too_many (done_in c.works t) (Key k)) (is_write_too_many (done_in c.works t) k)
 
   abbrev remove_causes : RowKey → List (Option Refusal)
   remove_causes k = remove_list k (is_entry_too_many (history_of_active t s.active) (Key k)) (is_write_too_many (history_of_active t s.active) k)
 
   remove_same : (k : RowKey) → why_not_active c.table t ≡ None → remove_told k ≡ remove_causes k
   remove_same k none =
-      ap (λ b. remove_list k b (over_writes (own_of c.table t) k)) (entry_over_is (Key k) none)
+      ap (λ b. remove_list k b (is_write_too_many (done_in c.works t) k)) (entry_over_is (Key k) none)
       ∙ ap (remove_list k (is_entry_too_many (history_of_active t s.active) (Key k))) (write_over_is k none)
 
-  pub not_deleted_is : stage_of t rs.unfinished ≡ None → (k : RowKey) → or_next (why_not_remove c.table t k) (conflicts (conflict s t k)) ≡ why_not_delete s t k
+  pub not_deleted_is : stage_of t rs.unfinished ≡ None → (k : RowKey) → or_next (why_not_remove c.table (done_in c.works t) t k) (conflicts (conflict s t k)) ≡ why_not_delete s t k
   not_deleted_is other k = ap (λ b. or_next (first_cause (why_not_active c.table t ∷ when b ReadOnly ∷ remove_told k)) (conflicts (conflict s t k))) (may_write other) ∙ behind_all (may_look other) (remove_told k) (remove_causes k) (conflicts (conflict s t k)) (remove_same k)

@@ -1,6 +1,6 @@
 -- A delete: what the core stands for then.
 use Rattle.std.proofs.Common.{◌≡◌, ℕ, cond, List, [], ◌∷◌, ◌++◌, Option, None, Some, refl, sym, ap, ◌∙◌, subst}
-use Rattle.std.specs.Prelude.{IsSome}
+use Rattle.std.specs.Prelude.{IsSome, IfSome}
 use Rattle.std.specs.Option.{is_some, option_to_list}
 use Rattle.mvo_types.specs.declared.entry.Entry.TheVariants.{Key}
 use Rattle.mvo_types.specs.declared.ids.TxId.{TxId}
@@ -9,6 +9,7 @@ use Rattle.mvo_types.specs.declared.op.Op.TheVariants.{Delete}
 use Rattle.mvo_types.specs.declared.refusal.Refusal.{Refusal}
 use Rattle.mvo_types.specs.declared.refusal.Refusal.TheVariants.{OutOfMemory, WriteConflict}
 use Rattle.mvo_types.specs.declared.row.RowKey.{RowKey}
+use Rattle.mvo_types.specs.AnswerData.{AnswerData}
 use Rattle.mvo_types.specs.AnswerData.AnswerData.{Deleted, Absent}
 use Rattle.mvo_types.specs.RowData.{RowData}
 use Rattle.mvo_types.specs.Keys.{Map}
@@ -36,10 +37,12 @@ use Rattle.mvo_representation.specs.Steps.{ended_by}
 use Rattle.mvo_versions.specs.Data.{VersionsData}
 use Rattle.mvo_versions.specs.Changes.{IsReworded}
 use Rattle.mvo_readonly.specs.Whole.{stage_of}
+use Rattle.mvo_work.specs.Limits.{MayFollow}
 use Rattle.mvo_core.specs.Readers.{Readers}
 use Rattle.mvo_core.specs.declared.kept_transaction.KeptTransaction.{KeptTransaction}
 use Rattle.mvo_core.specs.Causes.{why_not_remove}
-use Rattle.mvo_core.specs.Data.{CoreData}
+use Rattle.mvo_core.specs.Own.{done_in}
+use Rattle.mvo_core.specs.Data.{CoreData, own_of}
 use Rattle.mvo_core.specs.Ending.{IsRemoved}
 use Rattle.mvo_core.specs.Keeping.{IsWritten, HasDoneAsMuch, HasMadeRoom, HasDoneMore, IsRecorded}
 use Rattle.mvo_core.specs.Looking.{cause_at, row_shown}
@@ -57,17 +60,17 @@ use Rattle.mvo_core.proofs.Looked.{IsActiveHere, active_here, shown_in, versions
 use Rattle.mvo_core.proofs.OwnChanged.{IsOwnChanged, own_changed}
 use Rattle.mvo_core.proofs.Refused.{refused_leads, spent_leads}
 use Rattle.mvo_core.proofs.Removed.{deleted}
-use Rattle.mvo_core.proofs.WorksHeld.{IsNextTold, may_be_told, key_fits, key_told}
+use Rattle.mvo_core.proofs.WorksHeld.{own_may_follow, IsNextTold, may_be_told, key_fits, key_told}
 
 module _ (rs : Readers) (opening : Map) (steps : List Step) (s : State) (c : CoreData) (h : StandsAmong rs opening steps s c) (t : TxId) (k : RowKey) (other : stage_of t.0 rs.unfinished ≡ None) where
-  pub delete_refused : (r : Refusal) → why_not_remove c.table t.0 k ≡ Some r → (new : CoreData) → StandsAmong rs opening (steps ++ steps_of_refusal t.0 r) (after_refusal s t.0 r) new
+  pub delete_refused : (r : Refusal) → why_not_remove c.table (done_in c.works t.0) t.0 k ≡ Some r → (new : CoreData) → StandsAmong rs opening (steps ++ steps_of_refusal t.0 r) (after_refusal s t.0 r) new
       → LeadsAmong rs opening steps s (Do t.0 (Delete k)) (Refused r) new
   delete_refused r why new stands = refused_leads rs opening steps s t.0 (Delete k) new r
       (sym (not_deleted_is rs opening steps s c h t.0 other k) ∙ ap (λ o. or_next o (conflicts (conflict s t.0 k))) why) stands
 
-  module _ (none : why_not_remove c.table t.0 k ≡ None) where
+  module _ (none : why_not_remove c.table (done_in c.works t.0) t.0 k ≡ None) where
     here : IsActiveHere s c t.0
-    here = active_here rs opening steps s c h t.0 (active_if_removed c.table t.0 k none)
+    here = active_here rs opening steps s c h t.0 (active_if_removed c.table (done_in c.works t.0) t.0 k none)
 
     id : here.tx.id ≡ t.0
     id = id_of t.0 s.active here.tx here.found
@@ -116,6 +119,9 @@ module _ (rs : Readers) (opening : Map) (steps : List Step) (s : State) (c : Cor
         -- its work may be told
         pub delete_may_be_told : (rows : List RowData) (n : NextData) → IsPreparedAt c.works t.0 (Delete k) rows n → MayBeTold c.works t.0 n
         delete_may_be_told rows n p = may_be_told rs opening steps s c h t.0 (Delete k) may rows n p
+
+        pub delete_may_follow : (a : AnswerData) → IfSome (own_of c.table t.0) (λ own. MayFollow own.work.history (Delete k) a)
+        delete_may_follow a = own_may_follow rs opening steps s c h t.0 (Delete k) may a
 
         pub delete_fits : AreRowsOf (Key k) (option_to_list (row_shown c.versions.slots found.version))
         delete_fits = key_fits rs opening steps s c h t.0 here k found is

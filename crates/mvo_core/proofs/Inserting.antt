@@ -1,5 +1,6 @@
 -- A call that inserts a row: what it comes to.
 use Rattle.std.proofs.Common.{◌≡◌, true, false, cond, List, ◌++◌, Option, None, Some, refl, sym, ap, ◌∙◌, subst}
+use Rattle.std.specs.Prelude.{IfSome}
 use Rattle.std.specs.Option.{option_to_list, is_some}
 use Rattle.std.proofs.lemmas.Bool.{false≢true}
 use Rattle.mvo_types.specs.declared.entry.Entry.TheVariants.{Key}
@@ -7,6 +8,7 @@ use Rattle.mvo_types.specs.declared.ids.TxId.{TxId}
 use Rattle.mvo_types.specs.declared.op.Op.TheVariants.{Insert}
 use Rattle.mvo_types.specs.declared.refusal.Refusal.{Refusal}
 use Rattle.mvo_types.specs.declared.refusal.Refusal.TheVariants.{OutOfMemory}
+use Rattle.mvo_types.specs.AnswerData.{AnswerData}
 use Rattle.mvo_types.specs.AnswerData.AnswerData.{Inserted, Exists}
 use Rattle.mvo_types.specs.RowData.{RowData}
 use Rattle.mvo_types.specs.Keys.{Map}
@@ -26,10 +28,12 @@ use Rattle.mvo_visible.specs.Shown.{AreVersionsInOrder}
 use Rattle.mvo_versions.specs.Data.{VersionsData, AreIndexed}
 use Rattle.mvo_representation.specs.Dependencies.{AreDependencies}
 use Rattle.mvo_readonly.specs.Whole.{stage_of}
+use Rattle.mvo_work.specs.Limits.{MayFollow}
 use Rattle.mvo_core.specs.Readers.{Readers}
 use Rattle.mvo_core.specs.declared.kept_transaction.KeptTransaction.{KeptTransaction}
 use Rattle.mvo_core.specs.Causes.{why_not_put}
-use Rattle.mvo_core.specs.Data.{CoreData}
+use Rattle.mvo_core.specs.Own.{done_in}
+use Rattle.mvo_core.specs.Data.{CoreData, own_of}
 use Rattle.mvo_core.specs.Inserting.{IsInserted}
 use Rattle.mvo_core.specs.Keeping.{IsWritten, HasDoneAsMuch, IsRecorded}
 use Rattle.mvo_core.specs.Looking.{HasSameVersions, row_shown}
@@ -46,23 +50,23 @@ use Rattle.mvo_core.proofs.Inserted.{inserted_leads}
 use Rattle.mvo_core.proofs.Looked.{IsActiveHere, active_here, shown_in, versions_in_order, key_is, names_just}
 use Rattle.mvo_core.proofs.Refused.{refused_leads, spent_leads}
 use Rattle.mvo_core.proofs.SameVersions.{stands_same_versions}
-use Rattle.mvo_core.proofs.WorksHeld.{IsNextTold, may_be_told, key_fits, key_told}
+use Rattle.mvo_core.proofs.WorksHeld.{own_may_follow, IsNextTold, may_be_told, key_fits, key_told}
 
 none_shown : (o : Option VersionNo) → is_some o ≡ false → o ≡ None
 none_shown None e = refl
 none_shown (Some n) e = absurd (false≢true (sym e))
 
 module _ (rs : Readers) (opening : Map) (steps : List Step) (s : State) (c : CoreData) (h : StandsAmong rs opening steps s c) (t : TxId) (row : RowData) (other : stage_of t.0 rs.unfinished ≡ None) where
-  pub insert_refused : (r : Refusal) → why_not_put c.table t.0 row ≡ Some r → (new : CoreData) → StandsAmong rs opening (steps ++ steps_of_refusal t.0 r) (after_refusal s t.0 r) new
+  pub insert_refused : (r : Refusal) → why_not_put c.table (done_in c.works t.0) t.0 row ≡ Some r → (new : CoreData) → StandsAmong rs opening (steps ++ steps_of_refusal t.0 r) (after_refusal s t.0 r) new
       → LeadsAmong rs opening steps s (Do t.0 (Insert row)) (Refused r) new
   insert_refused r why new stands = refused_leads rs opening steps s t.0 (Insert row) new r (sym (not_inserted_is rs opening steps s c h t.0 other row) ∙ why) stands
 
-  module _ (none : why_not_put c.table t.0 row ≡ None) where
+  module _ (none : why_not_put c.table (done_in c.works t.0) t.0 row ≡ None) where
     may : why_not_do s t.0 (Insert row) ≡ None
     may = sym (not_inserted_is rs opening steps s c h t.0 other row) ∙ none
 
     here : IsActiveHere s c t.0
-    here = active_here rs opening steps s c h t.0 (active_if_put c.table t.0 row none)
+    here = active_here rs opening steps s c h t.0 (active_if_put c.table (done_in c.works t.0) t.0 row none)
 
     -- for want of memory
     pub insert_starved : LeadsAmong rs opening steps s (Do t.0 (Insert row)) (Refused OutOfMemory) c
@@ -80,6 +84,9 @@ module _ (rs : Readers) (opening : Map) (steps : List Step) (s : State) (c : Cor
     -- its work may be told
     pub insert_may_be_told : (rows : List RowData) (n : NextData) → IsPreparedAt c.works t.0 (Insert row) rows n → MayBeTold c.works t.0 n
     insert_may_be_told rows n p = may_be_told rs opening steps s c h t.0 (Insert row) may rows n p
+
+    pub insert_may_follow : (a : AnswerData) → IfSome (own_of c.table t.0) (λ own. MayFollow own.work.history (Insert row) a)
+    insert_may_follow a = own_may_follow rs opening steps s c h t.0 (Insert row) may a
 
     pub insert_fits : (found : Shown) → (AreVersionsInOrder (state_of c.table) t.0 t.0 (versions_at c.versions.slots c.versions.lists row.key) → found ≡ shown_in c t.0 row.key) → AreRowsOf (Key row.key) (option_to_list (row_shown c.versions.slots found.version))
     insert_fits found is = key_fits rs opening steps s c h t.0 here row.key found is

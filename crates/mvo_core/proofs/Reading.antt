@@ -1,5 +1,6 @@
 -- A row is read: what the core stands for then.
 use Rattle.std.proofs.Common.{◌≡◌, List, ◌++◌, Option, None, Some, refl, sym, ap, ◌∙◌, subst}
+use Rattle.std.specs.Prelude.{IfSome}
 use Rattle.std.specs.Option.{option_to_list}
 use Rattle.mvo_types.specs.declared.ids.TxId.{TxId}
 use Rattle.mvo_types.specs.declared.op.Op.TheVariants.{Read}
@@ -24,10 +25,12 @@ use Rattle.mvo_visible.specs.declared.outcome.Shown.{Shown}
 use Rattle.mvo_visible.specs.Versions.{versions_at}
 use Rattle.mvo_visible.specs.Shown.{AreVersionsInOrder}
 use Rattle.mvo_readonly.specs.Whole.{stage_of}
+use Rattle.mvo_work.specs.Limits.{MayFollow}
 use Rattle.mvo_core.specs.Readers.{Readers}
 use Rattle.mvo_core.specs.declared.kept_transaction.KeptTransaction.{KeptTransaction}
 use Rattle.mvo_core.specs.Causes.{why_not_look}
-use Rattle.mvo_core.specs.Data.{CoreData}
+use Rattle.mvo_core.specs.Own.{done_in}
+use Rattle.mvo_core.specs.Data.{CoreData, own_of}
 use Rattle.mvo_core.specs.Keeping.{IsWritten, HasDoneAsMuch, IsRecorded}
 use Rattle.mvo_core.specs.Looking.{row_shown}
 use Rattle.mvo_core.specs.Standing.{StandsAmong}
@@ -42,19 +45,19 @@ use Rattle.mvo_core.proofs.Carried.{stands_as_much}
 use Rattle.mvo_core.proofs.CausesTold.{not_read_is, MayLook}
 use Rattle.mvo_core.proofs.Looked.{IsActiveHere, active_here, shown_in, versions_in_order, row_is, names_just}
 use Rattle.mvo_core.proofs.Refused.{refused_leads, spent_leads}
-use Rattle.mvo_core.proofs.WorksHeld.{IsNextTold, may_be_told, key_fits, key_answer, key_told}
+use Rattle.mvo_core.proofs.WorksHeld.{own_may_follow, IsNextTold, may_be_told, key_fits, key_answer, key_told}
 
 module _ (rs : Readers) (opening : Map) (steps : List Step) (s : State) (c : CoreData) (h : StandsAmong rs opening steps s c) (t : TxId) (k : RowKey) (looks : MayLook (stage_of t.0 rs.unfinished)) where
-  pub read_refused : (r : Refusal) → why_not_look c.table t.0 k.table (Key k) ≡ Some r → (new : CoreData) → StandsAmong rs opening (steps ++ steps_of_refusal t.0 r) (after_refusal s t.0 r) new
+  pub read_refused : (r : Refusal) → why_not_look c.table (done_in c.works t.0) t.0 k.table (Key k) ≡ Some r → (new : CoreData) → StandsAmong rs opening (steps ++ steps_of_refusal t.0 r) (after_refusal s t.0 r) new
       → LeadsAmong rs opening steps s (Do t.0 (Read k)) (Refused r) new
   read_refused r why new stands = refused_leads rs opening steps s t.0 (Read k) new r (sym (not_read_is rs opening steps s c h t.0 looks k) ∙ why) stands
 
-  module _ (none : why_not_look c.table t.0 k.table (Key k) ≡ None) where
+  module _ (none : why_not_look c.table (done_in c.works t.0) t.0 k.table (Key k) ≡ None) where
     may : why_not_do s t.0 (Read k) ≡ None
     may = sym (not_read_is rs opening steps s c h t.0 looks k) ∙ none
 
     here : IsActiveHere s c t.0
-    here = active_here rs opening steps s c h t.0 (active_if_looked c.table t.0 k.table (Key k) none)
+    here = active_here rs opening steps s c h t.0 (active_if_looked c.table (done_in c.works t.0) t.0 k.table (Key k) none)
 
     -- for want of memory
     pub read_spent : LeadsAmong rs opening steps s (Do t.0 (Read k)) (Refused OutOfMemory) c
@@ -66,6 +69,9 @@ module _ (rs : Readers) (opening : Map) (steps : List Step) (s : State) (c : Cor
     -- its work may be told
     pub read_may_be_told : (rows : List RowData) (n : NextData) → IsPreparedAt c.works t.0 (Read k) rows n → MayBeTold c.works t.0 n
     read_may_be_told rows n p = may_be_told rs opening steps s c h t.0 (Read k) may rows n p
+
+    pub read_may_follow : (a : AnswerData) → IfSome (own_of c.table t.0) (λ own. MayFollow own.work.history (Read k) a)
+    read_may_follow a = own_may_follow rs opening steps s c h t.0 (Read k) may a
 
     pub read_fits : (found : Shown) → (AreVersionsInOrder (state_of c.table) t.0 t.0 (versions_at c.versions.slots c.versions.lists k) → found ≡ shown_in c t.0 k) → AreRowsOf (Key k) (option_to_list (row_shown c.versions.slots found.version))
     read_fits found is = key_fits rs opening steps s c h t.0 here k found is

@@ -1,6 +1,6 @@
 -- An update: what the core stands for then.
 use Rattle.std.proofs.Common.{◌≡◌, ℕ, cond, List, [], ◌∷◌, ◌++◌, Option, None, Some, refl, sym, ap, ◌∙◌, subst}
-use Rattle.std.specs.Prelude.{IsSome}
+use Rattle.std.specs.Prelude.{IsSome, IfSome}
 use Rattle.std.specs.Option.{is_some, option_to_list}
 use Rattle.mvo_types.specs.declared.entry.Entry.TheVariants.{Key}
 use Rattle.mvo_types.specs.declared.ids.TxId.{TxId}
@@ -9,6 +9,7 @@ use Rattle.mvo_types.specs.declared.op.Op.TheVariants.{Update}
 use Rattle.mvo_types.specs.declared.refusal.Refusal.{Refusal}
 use Rattle.mvo_types.specs.declared.refusal.Refusal.TheVariants.{OutOfMemory, WriteConflict}
 use Rattle.mvo_types.specs.RowData.{RowData}
+use Rattle.mvo_types.specs.AnswerData.{AnswerData}
 use Rattle.mvo_types.specs.AnswerData.AnswerData.{Updated, Absent}
 use Rattle.mvo_types.specs.Keys.{Map}
 use Rattle.mvo_model.specs.Trace.{Step}
@@ -35,10 +36,12 @@ use Rattle.mvo_representation.specs.Steps.{ended_by}
 use Rattle.mvo_versions.specs.Data.{VersionsData}
 use Rattle.mvo_versions.specs.Changes.{IsPut, IsReworded}
 use Rattle.mvo_readonly.specs.Whole.{stage_of}
+use Rattle.mvo_work.specs.Limits.{MayFollow}
 use Rattle.mvo_core.specs.Readers.{Readers}
 use Rattle.mvo_core.specs.declared.kept_transaction.KeptTransaction.{KeptTransaction}
 use Rattle.mvo_core.specs.Causes.{why_not_put}
-use Rattle.mvo_core.specs.Data.{CoreData}
+use Rattle.mvo_core.specs.Own.{done_in}
+use Rattle.mvo_core.specs.Data.{CoreData, own_of}
 use Rattle.mvo_core.specs.Ending.{IsReplaced, IsLeft}
 use Rattle.mvo_core.specs.Keeping.{IsWritten, HasDoneAsMuch, HasMadeRoom, HasDoneMore, IsRecorded}
 use Rattle.mvo_core.specs.Looking.{cause_at, row_shown}
@@ -57,17 +60,17 @@ use Rattle.mvo_core.proofs.OwnChanged.{IsOwnChanged, own_changed}
 use Rattle.mvo_core.proofs.Refused.{refused_leads, spent_leads}
 use Rattle.mvo_core.proofs.Removed.{updated}
 use Rattle.mvo_core.proofs.SameVersions.{stands_same_versions}
-use Rattle.mvo_core.proofs.WorksHeld.{IsNextTold, may_be_told, key_fits, key_told}
+use Rattle.mvo_core.proofs.WorksHeld.{own_may_follow, IsNextTold, may_be_told, key_fits, key_told}
 
 module _ (rs : Readers) (opening : Map) (steps : List Step) (s : State) (c : CoreData) (h : StandsAmong rs opening steps s c) (t : TxId) (row : RowData) (other : stage_of t.0 rs.unfinished ≡ None) where
-  pub update_refused : (r : Refusal) → why_not_put c.table t.0 row ≡ Some r → (new : CoreData) → StandsAmong rs opening (steps ++ steps_of_refusal t.0 r) (after_refusal s t.0 r) new
+  pub update_refused : (r : Refusal) → why_not_put c.table (done_in c.works t.0) t.0 row ≡ Some r → (new : CoreData) → StandsAmong rs opening (steps ++ steps_of_refusal t.0 r) (after_refusal s t.0 r) new
       → LeadsAmong rs opening steps s (Do t.0 (Update row)) (Refused r) new
   update_refused r why new stands = refused_leads rs opening steps s t.0 (Update row) new r
       (sym (not_updated_is rs opening steps s c h t.0 other row) ∙ ap (λ o. or_next o (conflicts (conflict s t.0 row.key))) why) stands
 
-  module _ (none : why_not_put c.table t.0 row ≡ None) where
+  module _ (none : why_not_put c.table (done_in c.works t.0) t.0 row ≡ None) where
     here : IsActiveHere s c t.0
-    here = active_here rs opening steps s c h t.0 (active_if_put c.table t.0 row none)
+    here = active_here rs opening steps s c h t.0 (active_if_put c.table (done_in c.works t.0) t.0 row none)
 
     id : here.tx.id ≡ t.0
     id = id_of t.0 s.active here.tx here.found
@@ -118,6 +121,9 @@ module _ (rs : Readers) (opening : Map) (steps : List Step) (s : State) (c : Cor
         -- its work may be told
         pub update_may_be_told : (rows : List RowData) (n : NextData) → IsPreparedAt c.works t.0 (Update row) rows n → MayBeTold c.works t.0 n
         update_may_be_told rows n p = may_be_told rs opening steps s c h t.0 (Update row) may rows n p
+
+        pub update_may_follow : (a : AnswerData) → IfSome (own_of c.table t.0) (λ own. MayFollow own.work.history (Update row) a)
+        update_may_follow a = own_may_follow rs opening steps s c h t.0 (Update row) may a
 
         pub update_fits : AreRowsOf (Key row.key) (option_to_list (row_shown c.versions.slots found.version))
         update_fits = key_fits rs opening steps s c h t.0 here row.key found is

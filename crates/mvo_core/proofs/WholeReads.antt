@@ -14,11 +14,12 @@ use Rattle.mvo_types.specs.declared.refusal.Refusal.TheVariants.{Ended, NotActiv
 use Rattle.mvo_types.specs.Causes.{first_cause, or_next, when}
 use Rattle.mvo_types.specs.RowData.{RowData}
 use Rattle.mvo_types.specs.Keys.{Map}
+use Rattle.mvo_model.specs.History.{History}
 use Rattle.mvo_model.specs.Trace.{Step, Phase}
 use Rattle.mvo_model.specs.Trace.Step.{Aborts}
 use Rattle.mvo_model.specs.Trace.Phase.{Active as ActivePhase, Aborted as AbortedPhase}
 use Rattle.mvo_theory.specs.State.{history_of_active}
-use Rattle.mvo_theory.specs.Causes.{flagged, is_failure, is_entry_too_many}
+use Rattle.mvo_theory.specs.Causes.{flagged, is_failure, is_entry_too_many, is_write_too_many}
 use Rattle.mvo_theory.specs.Phases.{is_active, is_preparing, is_ended}
 use Rattle.mvo_theory.specs.Steps.{after_abort}
 use Rattle.mvo_theory.specs.Calls.{IsRefusal, steps_of, after_call, trace_of, after_run}
@@ -39,7 +40,8 @@ use Rattle.mvo_tale.specs.WholePlaces.{has_ended}
 use Rattle.mvo_representation.specs.Table.{phase_as}
 use Rattle.mvo_core.specs.declared.kept_transaction.KeptTransaction.{KeptTransaction}
 use Rattle.mvo_core.specs.Aborting.{IsReaderGivenUp}
-use Rattle.mvo_core.specs.Causes.{kind_kept, flag_of, unless_active_as, why_not_active, why_not_look, why_not_put, why_not_remove, is_read_only, is_entry_over, is_write_over}
+use Rattle.mvo_core.specs.Causes.{kind_kept, flag_of, unless_active_as, why_not_active, why_not_look, why_not_put, why_not_remove, is_read_only}
+use Rattle.mvo_core.specs.Own.{done_in}
 use Rattle.mvo_core.specs.Data.{CoreData, own_of}
 use Rattle.mvo_core.specs.Readers.{kind_at}
 use Rattle.mvo_core.specs.Standing.{StandsAmong}
@@ -97,11 +99,11 @@ causes_at t IsCommitted flag f h = refl
 causes_at t IsAborted flag f h = refl
 
 -- ---- one that isn't read-only, by what it may do
-pub put_not_reading : (table : Txns (Node KeptTransaction)) (t : ℕ) (row : RowData) → why_not_put table t row ≡ None → is_read_only (own_of table t) ≡ false
-put_not_reading table t row none = when_none (is_read_only (own_of table t)) ReadOnly (first_none (when (is_read_only (own_of table t)) ReadOnly) _ (rest_none (why_not_active table t) _ none))
+pub put_not_reading : (table : Txns (Node KeptTransaction)) (ts : History) (t : ℕ) (row : RowData) → why_not_put table ts t row ≡ None → is_read_only (own_of table t) ≡ false
+put_not_reading table ts t row none = when_none (is_read_only (own_of table t)) ReadOnly (first_none (when (is_read_only (own_of table t)) ReadOnly) _ (rest_none (why_not_active table t) _ none))
 
-pub remove_not_reading : (table : Txns (Node KeptTransaction)) (t : ℕ) (k : RowKey) → why_not_remove table t k ≡ None → is_read_only (own_of table t) ≡ false
-remove_not_reading table t k none = when_none (is_read_only (own_of table t)) ReadOnly (first_none (when (is_read_only (own_of table t)) ReadOnly) _ (rest_none (why_not_active table t) _ none))
+pub remove_not_reading : (table : Txns (Node KeptTransaction)) (ts : History) (t : ℕ) (k : RowKey) → why_not_remove table ts t k ≡ None → is_read_only (own_of table t) ≡ false
+remove_not_reading table ts t k none = when_none (is_read_only (own_of table t)) ReadOnly (first_none (when (is_read_only (own_of table t)) ReadOnly) _ (rest_none (why_not_active table t) _ none))
 
 -- it may look, where nothing stands in the way
 looks_if_none : (t : ℕ) (p : ReaderStage) (f : Option ℕ) → first_cause (when (is_ended (phase_at_stage t p)) Ended ∷ when (is_preparing (phase_at_stage t p)) NotActive ∷ flagged f ∷ []) ≡ None → MayLook (Some p)
@@ -145,9 +147,9 @@ module _ (opening : Map) (steps own : List Step) (w : WholeState) (c : CoreData)
 
     -- ---- it looks
     module _ (op : Op) (of : ℕ) (e : Entry) (list : unless_read_only w.core t op ≡ (when (nat_lt MAX_TABLE of) BadTable ∷ when (is_entry_too_many (history_of_active t w.core.active) e) TooManyReads ∷ [])) where
-      look_causes : why_not_look c.table t of e ≡ why_not_reader w.core p (Do t op)
+      look_causes : why_not_look c.table (done_in c.works t) t of e ≡ why_not_reader w.core p (Do t op)
       look_causes =
-          let zs = when (nat_lt MAX_TABLE of) BadTable ∷ when (is_entry_over c.table t e) TooManyReads ∷ [] in
+          let zs = when (nat_lt MAX_TABLE of) BadTable ∷ when (is_entry_too_many (done_in c.works t) e) TooManyReads ∷ [] in
           let ys = when (nat_lt MAX_TABLE of) BadTable ∷ when (is_entry_too_many (history_of_active t w.core.active) e) TooManyReads ∷ [] in
           or_next_same (why_not_active c.table t) (first_cause zs) (first_cause ys)
           (λ none. ap (λ (b : Bool). first_cause (when (nat_lt MAX_TABLE of) BadTable ∷ when b TooManyReads ∷ [])) (entry_over_is (readers_of w) opening own w.core c h.core t e none))
@@ -155,7 +157,7 @@ module _ (opening : Map) (steps own : List Step) (w : WholeState) (c : CoreData)
           ∙ sym (first_append (unless_reading w.core t p) ys)
           ∙ ap (λ l. first_cause (unless_reading w.core t p ++ l)) (sym list)
 
-    looks_at_stage : (of : ℕ) (e : Entry) → why_not_look c.table t of e ≡ None → MayLook (Some p)
+    looks_at_stage : (of : ℕ) (e : Entry) → why_not_look c.table (done_in c.works t) t of e ≡ None → MayLook (Some p)
     looks_at_stage of e none = looks_if_none t p (flag_of_reader w.core t) (sym active_causes ∙ first_none (why_not_active c.table t) _ none)
 
     -- ---- it would write
@@ -168,14 +170,14 @@ module _ (opening : Map) (steps own : List Step) (w : WholeState) (c : CoreData)
 
   -- ---- a look
   module _ (op : Op) (of : ℕ) (e : Entry) (list : unless_read_only w.core t op ≡ (when (nat_lt MAX_TABLE of) BadTable ∷ when (is_entry_too_many (history_of_active t w.core.active) e) TooManyReads ∷ [])) where
-    pub look_refused : (r : Refusal) → why_not_look c.table t of e ≡ Some r → (new : CoreData) → IsReaderGivenUp c t r new → (stage_of t w.readers ≡ None → LeadsAmong (readers_of w) opening own w.core (Do t op) (Refused r) new) → LeadsWhole opening steps own w (CoreCall (Do t op)) (Refused r) new
+    pub look_refused : (r : Refusal) → why_not_look c.table (done_in c.works t) t of e ≡ Some r → (new : CoreData) → IsReaderGivenUp c t r new → (stage_of t w.readers ≡ None → LeadsAmong (readers_of w) opening own w.core (Do t op) (Refused r) new) → LeadsWhole opening steps own w (CoreCall (Do t op)) (Refused r) new
     look_refused r why new left leads = go (stage_of t w.readers) refl
       where
         go : (o : Option ReaderStage) → stage_of t w.readers ≡ o → LeadsWhole opening steps own w (CoreCall (Do t op)) (Refused r) new
         go None k = others_lead opening steps own w (Do t op) (Refused r) c new h k tt (leads k)
         go (Some p) k = reader_refused p k op r new (sym (look_causes p k op of e list) ∙ why) left
 
-    module _ (none : why_not_look c.table t of e ≡ None) where
+    module _ (none : why_not_look c.table (done_in c.works t) t of e ≡ None) where
       pub may_look_whole : MayLook (stage_of t w.readers)
       may_look_whole = go (stage_of t w.readers) refl
         where
@@ -208,8 +210,8 @@ module _ (opening : Map) (steps own : List Step) (w : WholeState) (c : CoreData)
         go None k = others_lead opening steps own w (Do t op) (Refused r) c new h k tt (leads k)
         go (Some p) k = reader_refused p k op r new (sym (write_causes p k op list zs) ∙ why) left
 
-    pub put_refused_whole : (row : RowData) → why_not_put c.table t row ≡ Some r → LeadsWhole opening steps own w (CoreCall (Do t op)) (Refused r) new
-    put_refused_whole row why = write_refused (when (nat_lt MAX_TABLE row.key.table) BadTable ∷ when (nat_lt MAX_DATA_LEN (length row.bytes)) DataTooLong ∷ when (is_entry_over c.table t (Key row.key)) TooManyReads ∷ when (is_write_over c.table t row.key) TooManyWrites ∷ []) why
+    pub put_refused_whole : (row : RowData) → why_not_put c.table (done_in c.works t) t row ≡ Some r → LeadsWhole opening steps own w (CoreCall (Do t op)) (Refused r) new
+    put_refused_whole row why = write_refused (when (nat_lt MAX_TABLE row.key.table) BadTable ∷ when (nat_lt MAX_DATA_LEN (length row.bytes)) DataTooLong ∷ when (is_entry_too_many (done_in c.works t) (Key row.key)) TooManyReads ∷ when (is_write_too_many (done_in c.works t) row.key) TooManyWrites ∷ []) why
 
-    pub remove_refused_whole : (k : RowKey) → why_not_remove c.table t k ≡ Some r → LeadsWhole opening steps own w (CoreCall (Do t op)) (Refused r) new
-    remove_refused_whole k why = write_refused (when (nat_lt MAX_TABLE k.table) BadTable ∷ when (is_entry_over c.table t (Key k)) TooManyReads ∷ when (is_write_over c.table t k) TooManyWrites ∷ []) why
+    pub remove_refused_whole : (k : RowKey) → why_not_remove c.table (done_in c.works t) t k ≡ Some r → LeadsWhole opening steps own w (CoreCall (Do t op)) (Refused r) new
+    remove_refused_whole k why = write_refused (when (nat_lt MAX_TABLE k.table) BadTable ∷ when (is_entry_too_many (done_in c.works t) (Key k)) TooManyReads ∷ when (is_write_too_many (done_in c.works t) k) TooManyWrites ∷ []) why

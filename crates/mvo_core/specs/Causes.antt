@@ -80,25 +80,13 @@ abbrev pub is_read_only : Option KeptTransaction → Bool
 is_read_only None = false
 is_read_only (Some own) = is_read_only_kind own.kind
 
-abbrev pub over_entries : Option KeptTransaction → Entry → Bool
-over_entries None e = false
-over_entries (Some own) e = is_entry_too_many own.work.history e
-
-abbrev pub over_writes : Option KeptTransaction → RowKey → Bool
-over_writes None k = false
-over_writes (Some own) k = is_write_too_many own.work.history k
-
-abbrev pub is_entry_over : Txns (Node KeptTransaction) → ℕ → Entry → Bool
-is_entry_over table t e = over_entries (own_of table t) e
-
-abbrev pub is_write_over : Txns (Node KeptTransaction) → ℕ → RowKey → Bool
-is_write_over table t k = over_writes (own_of table t) k
-
-abbrev pub why_not_look : Txns (Node KeptTransaction) → ℕ → ℕ → Entry → Option Refusal
-why_not_look table t of e = first_cause (
+-- of one that did this
+abbrev pub why_not_look : Txns (Node KeptTransaction) → History → ℕ → ℕ → Entry
+    → Option Refusal
+why_not_look table ts t of e = first_cause (
     why_not_active table t
     ∷ when (nat_lt MAX_TABLE of) BadTable
-    ∷ when (is_entry_over table t e) TooManyReads
+    ∷ when (is_entry_too_many ts e) TooManyReads
     ∷ [])
 
 -- of one with these operations, what is over first if it looks at the key and writes it
@@ -108,21 +96,21 @@ why_not_write ts k = first_cause (
     ∷ when (is_write_too_many ts k) TooManyWrites
     ∷ [])
 
-abbrev pub why_not_put : Txns (Node KeptTransaction) → ℕ → RowData → Option Refusal
-why_not_put table t row = first_cause (
+abbrev pub why_not_put : Txns (Node KeptTransaction) → History → ℕ → RowData → Option Refusal
+why_not_put table ts t row = first_cause (
     why_not_active table t
     ∷ when (is_read_only (own_of table t)) ReadOnly
     ∷ when (nat_lt MAX_TABLE row.key.table) BadTable
     ∷ when (nat_lt MAX_DATA_LEN (length row.bytes)) DataTooLong
-    ∷ when (is_entry_over table t (Key row.key)) TooManyReads
-    ∷ when (is_write_over table t row.key) TooManyWrites
+    ∷ when (is_entry_too_many ts (Key row.key)) TooManyReads
+    ∷ when (is_write_too_many ts row.key) TooManyWrites
     ∷ [])
 
-abbrev pub why_not_remove : Txns (Node KeptTransaction) → ℕ → RowKey → Option Refusal
-why_not_remove table t k = first_cause (
+abbrev pub why_not_remove : Txns (Node KeptTransaction) → History → ℕ → RowKey → Option Refusal
+why_not_remove table ts t k = first_cause (
     why_not_active table t
     ∷ when (is_read_only (own_of table t)) ReadOnly
     ∷ when (nat_lt MAX_TABLE k.table) BadTable
-    ∷ when (is_entry_over table t (Key k)) TooManyReads
-    ∷ when (is_write_over table t k) TooManyWrites
+    ∷ when (is_entry_too_many ts (Key k)) TooManyReads
+    ∷ when (is_write_too_many ts k) TooManyWrites
     ∷ [])

@@ -3,6 +3,7 @@ use Rattle.std.specs.Prelude.{ℕ, ◌+◌, ◌==◌, not, nat_le, length, Bool,
 use Rattle.mvo_model.specs.History.{History}
 use Rattle.mvo_types.specs.declared.entry.Entry.{Entry}
 use Rattle.mvo_theory.specs.Entries.{entries, written_keys}
+use Rattle.mvo_content.specs.Works.{WorksData, works_in}
 use Rattle.mvo_core.specs.declared.kept_transaction.KeptTransaction.{KeptTransaction}
 use Rattle.mvo_core.specs.declared.answers.Validation.{Validation}
 use Rattle.mvo_core.specs.declared.answers.Validation.TheVariants.{More, Valid}
@@ -43,3 +44,7 @@ checked_as last = if last then Valid else More
 abbrev pub own_check : Option KeptTransaction → Validation
 own_check None = Valid
 own_check (Some own) = checked_as (is_last_check own)
+
+-- what one has done, as its work has it
+abbrev pub done_in : WorksData → ℕ → History
+done_in works t = (works_in works t).history

@@ -48,7 +48,13 @@ impl Core {
     {
         let seat = self.table.seat_of(tx);
         let tx = Located { id: tx, seat };
-        if let Some(refusal) = not_looked(&self.table, tx, key.table, Entry::Key(key)) {
+        if let Some(refusal) = not_looked(
+            &self.table,
+            &self.works,
+            tx,
+            key.table,
+            Entry::Key(key),
+        ) {
             return Err(self.give_up(tx, refusal));
         }
         let found = self.versions.shown(&self.table, tx.id, key);
@@ -78,7 +84,7 @@ impl Core {
         let seat = self.table.seat_of(tx);
         let tx = Located { id: tx, seat };
         let key = row.row_key();
-        if let Some(refusal) = not_put(&self.table, tx, &row) {
+        if let Some(refusal) = not_put(&self.table, &self.works, tx, &row) {
             return Err(self.give_up(tx, refusal));
         }
         let found = self.versions.shown(&self.table, tx.id, key);
@@ -111,7 +117,7 @@ impl Core {
         let seat = self.table.seat_of(tx);
         let tx = Located { id: tx, seat };
         let key = row.row_key();
-        if let Some(refusal) = not_put(&self.table, tx, &row) {
+        if let Some(refusal) = not_put(&self.table, &self.works, tx, &row) {
             return Err(self.give_up(tx, refusal));
         }
         let found = self.versions.shown(&self.table, tx.id, key);
@@ -147,7 +153,7 @@ impl Core {
     {
         let seat = self.table.seat_of(tx);
         let tx = Located { id: tx, seat };
-        if let Some(refusal) = not_removed(&self.table, tx, key) {
+        if let Some(refusal) = not_removed(&self.table, &self.works, tx, key) {
             return Err(self.give_up(tx, refusal));
         }
         let found = self.versions.shown(&self.table, tx.id, key);

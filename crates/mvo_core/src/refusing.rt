@@ -1,6 +1,6 @@
 //! Why a call is refused: the first of its refusals whose cause stands.
 ghost use Rattle.std.specs.Prelude.{◌≡◌, Some, length};
-ghost use Rattle.mvo_theory.specs.Causes.{is_failure};
+ghost use Rattle.mvo_theory.specs.Causes.{is_failure, is_entry_too_many, is_write_too_many};
 ghost use Rattle.mvo_core.specs.Causes.{why_not_active, why_not_look};
 ghost use Rattle.mvo_core.specs.Causes.{why_not_put, why_not_remove, why_not_undo};
 ghost use Rattle.mvo_core.specs.Causes.{why_not_write, flag_refusal};
@@ -8,14 +8,15 @@ ghost use Rattle.mvo_core.specs.Causes.{unless_active_as, unless_preparing_as};
 ghost use Rattle.mvo_core.specs.Causes.{unless_reads, unless_checks, is_read_only_kind};
 ghost use Rattle.mvo_core.specs.Causes.{is_read_only as is_reader};
 ghost use Rattle.mvo_core.specs.Data.{own_of};
+ghost use Rattle.mvo_core.specs.Own.{done_in};
 ghost use Rattle.mvo_core.specs.Standing.{words_in};
 ghost use Rattle.mvo_txn.specs.Txns.{state_of};
 
 use crate::kept_transaction::{KeptTransaction, Table, TransactionKind};
+use mvo_content::Works;
 use mvo_deps::{Dependencies, Node};
 use mvo_txn::{Located, TableSeat, TxState};
-use mvo_types::{Entry, MAX_DATA_LEN, MAX_TABLE, Refusal, Row, RowKey};
-use mvo_work::Work;
+use mvo_types::{Entry, MAX_DATA_LEN, MAX_TABLE, Refusal, Row, RowKey, TxId};
 
 /// The refusal by the flag, if it is set.
 fn flagged(dependencies: &Dependencies) -> Option<Refusal>
@@ -112,8 +113,14 @@ pub fn not_undone(table: &Table, tx: Located) -> Option<Refusal>
 
 /// Why the transaction may not look at the entry, which is of this table.
 #[inline(always)]
-pub fn not_looked(table: &Table, tx: Located, of: u8, entry: Entry) -> Option<Refusal>
-    ensures { result ≡ why_not_look table.now tx.id.0 of entry }
+pub fn not_looked(
+    table: &Table,
+    works: &Works,
+    tx: Located,
+    of: u8,
+    entry: Entry,
+) -> Option<Refusal>
+    ensures { result ≡ why_not_look table.now (done_in works.now tx.id.0) tx.id.0 of entry }
 {
     let Some(seat) = table.get(tx) else {
         return Some(Refusal::NoSuchTransaction);
@@ -124,7 +131,7 @@ pub fn not_looked(table: &Table, tx: Located, of: u8, entry: Entry) -> Option<Re
     if of > MAX_TABLE {
         return Some(Refusal::BadTable);
     }
-    if seat.kept.own.work.is_entry_too_many(entry) {
+    if is_entry_too_many(works, tx.id, entry) {
         return Some(Refusal::TooManyReads);
     }
     None
@@ -140,23 +147,43 @@ pub fn is_read_only(kind: TransactionKind) -> bool
     }
 }
 
-/// Why one that has done this work may not look at the key and write it.
-#[inline(always)]
-fn not_written(work: &Work, key: RowKey) -> Option<Refusal>
-    ensures { result ≡ why_not_write work.now.history key }
+/// Whether the transaction has as many entries as may be, and this isn't one of them.
+fn is_entry_too_many(works: &Works, id: TxId, entry: Entry) -> bool
+    ensures { result ≡ is_entry_too_many (done_in works.now id.0) entry }
 {
-    if work.is_entry_too_many(Entry::Key(key)) {
+    match works.work(id) {
+        Some(work) => work.is_entry_too_many(entry),
+        None => false,
+    }
+}
+
+/// Whether the transaction has written as many keys as may be, and this isn't one of them.
+fn is_write_too_many(works: &Works, id: TxId, key: RowKey) -> bool
+    ensures { result ≡ is_write_too_many (done_in works.now id.0) key }
+{
+    match works.work(id) {
+        Some(work) => work.is_write_too_many(key),
+        None => false,
+    }
+}
+
+/// Why one that has done what its work has may not look at the key and write it.
+#[inline(always)]
+fn not_written(works: &Works, id: TxId, key: RowKey) -> Option<Refusal>
+    ensures { result ≡ why_not_write (done_in works.now id.0) key }
+{
+    if is_entry_too_many(works, id, Entry::Key(key)) {
         return Some(Refusal::TooManyReads);
     }
-    if work.is_write_too_many(key) {
+    if is_write_too_many(works, id, key) {
         return Some(Refusal::TooManyWrites);
     }
     None
 }
 
 /// Why the transaction may not put the row, before it is looked who stands in the way.
-pub fn not_put(table: &Table, tx: Located, row: &Row) -> Option<Refusal>
-    ensures { result ≡ why_not_put table.now tx.id.0 row.now }
+pub fn not_put(table: &Table, works: &Works, tx: Located, row: &Row) -> Option<Refusal>
+    ensures { result ≡ why_not_put table.now (done_in works.now tx.id.0) tx.id.0 row.now }
 {
     let Some(seat) = table.get(tx) else {
         return Some(Refusal::NoSuchTransaction);
@@ -174,12 +201,12 @@ pub fn not_put(table: &Table, tx: Located, row: &Row) -> Option<Refusal>
     if row.data_len() > MAX_DATA_LEN {
         return Some(Refusal::DataTooLong);
     }
-    not_written(&seat.kept.own.work, key)
+    not_written(works, tx.id, key)
 }
 
 /// Why the transaction may not remove the key's row, before it is looked who stands in the way.
-pub fn not_removed(table: &Table, tx: Located, key: RowKey) -> Option<Refusal>
-    ensures { result ≡ why_not_remove table.now tx.id.0 key }
+pub fn not_removed(table: &Table, works: &Works, tx: Located, key: RowKey) -> Option<Refusal>
+    ensures { result ≡ why_not_remove table.now (done_in works.now tx.id.0) tx.id.0 key }
 {
     let Some(seat) = table.get(tx) else {
         return Some(Refusal::NoSuchTransaction);
@@ -194,7 +221,7 @@ pub fn not_removed(table: &Table, tx: Located, key: RowKey) -> Option<Refusal>
     if key.table > MAX_TABLE {
         return Some(Refusal::BadTable);
     }
-    not_written(&own.work, key)
+    not_written(works, tx.id, key)
 }
 
 /// Whether the transaction is Aborted by the refusal.

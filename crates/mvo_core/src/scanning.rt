@@ -51,7 +51,13 @@ impl Core {
     {
         let seat = self.table.seat_of(tx);
         let tx = Located { id: tx, seat };
-        if let Some(refusal) = not_looked(&self.table, tx, table, Entry::Range(table, lo, hi)) {
+        if let Some(refusal) = not_looked(
+            &self.table,
+            &self.works,
+            tx,
+            table,
+            Entry::Range(table, lo, hi),
+        ) {
             return Err(self.give_up(tx, refusal));
         }
         let alloc = self.alloc;

@@ -7,17 +7,19 @@ use Rattle.mvo_theory.specs.Calls.Result.{Accepted, Refused}
 use Rattle.mvo_txn.specs.Txns.{state_of, IsUnended}
 use Rattle.mvo_core.specs.Readers.{no_readers}
 use Rattle.mvo_core.specs.Causes.{why_not_remove}
+use Rattle.mvo_shared.specs.Kept.{WorkContent}
+use Rattle.mvo_core.specs.Own.{done_in}
 use Rattle.mvo_core.specs.Data.{CoreData}
 use Rattle.mvo_core.specs.View.{core_data}
 use Rattle.mvo_core.specs.Standing.{StandsFor}
 use Rattle.mvo_core.specs.Steps.{LeadsOn}
-use Rattle.mvo_core.proofs.Allowed.{unended_if_active, may_remove}
+use Rattle.mvo_core.proofs.Allowed.{unended_if_active}
 use Rattle.mvo_core.proofs.Asked.{own_if_active, active_if_removed, may_remove_failing}
 use Rattle.mvo_core.proofs.WholeStands.{whole_stands_on}
 use Rattle.mvo_core.proofs.CausesTold.{stands_active}
 use Rattle.mvo_core.proofs.Refused.{came_spent}
 use Rattle.mvo_core.proofs.WorksHeld.{stands_same_works, whole_same_works}
-use Rattle.mvo_core.proofs.Deleting.{delete_starved, delete_refused, delete_conflicts, delete_spent, delete_left, absent_answers, absent_leads, deleted_answers, deleted_live, deleted_leads, delete_may_be_told, delete_fits}
+use Rattle.mvo_core.proofs.Deleting.{delete_starved, delete_refused, delete_conflicts, delete_spent, delete_left, absent_answers, absent_leads, deleted_answers, deleted_live, deleted_leads, delete_may_be_told, delete_may_follow, delete_fits}
 use Rattle.std.specs.Option.{option_to_list}
 use Rattle.mvo_versions.specs.Data.{VersionsData}
 use Rattle.mvo_collect.specs.Waiting.{AreWaiting}
@@ -33,20 +35,40 @@ use Rattle.mvo_core.proofs.event_core.Core.delete.Goals as goal
 
 pub give_up-requires : goal.give_up-requires
 give_up-requires c =
-    may_remove_failing c.args.self.now.table c.args.tx.0 c.args.key c.in-Some.refusal
-    (ap (λ (x : CoreData). why_not_remove x.table c.args.tx.0 c.args.key) (sym c.self.view_is) ∙ sym c.not_removed.ensures ∙ c.in-Some.is)
+    may_remove_failing c.args.self.now.table (done_in c.args.self.now.works c.args.tx.0) c.args.tx.0 c.args.key c.in-Some.refusal
+    (ap (λ (x : CoreData). why_not_remove x.table (done_in x.works c.args.tx.0) c.args.tx.0 c.args.key) (sym c.self.view_is) ∙ sym c.not_removed.ensures ∙ c.in-Some.is)
+
+pub record_answer-requires-clause-there : goal.record_answer-requires-clause-there
+record_answer-requires-clause-there c = own_if_active c.self.inside.table c.args.tx.0 (active_if_removed c.self.inside.table (done_in c.self.inside.works c.args.tx.0) c.args.tx.0 c.args.key (sym c.not_removed.ensures ∙ c.in_default.is))
+
+pub record_answer-requires-clause-limits : goal.record_answer-requires-clause-limits
+record_answer-requires-clause-limits c =
+    let f = c.self.inside in
+    let i = c.self.invariant.stands in
+    let old : CoreData = core_data f in
+    delete_may_follow (readers_of i.whole) i.opening i.own i.whole.core old i.stands.core c.args.tx c.args.key (stage_none (readers_of i.whole) i.opening i.own i.whole.core old i.stands.core c.args.tx.0 (remove_not_reading f.table (done_in f.works c.args.tx.0) c.args.tx.0 c.args.key (sym c.not_removed.ensures ∙ c.in_default.is))) (sym c.not_removed.ensures ∙ c.in_default.is) c.shown-found.result c.shown-found.ensures (sym c.in_the_way.ensures ∙ c.in_default-in_the_way.is) Absent
+
+pub remove-requires-clause-there : goal.remove-requires-clause-there
+remove-requires-clause-there c = own_if_active c.self.inside.table c.args.tx.0 (active_if_removed c.self.inside.table (done_in c.self.inside.works c.args.tx.0) c.args.tx.0 c.args.key (sym c.not_removed.ensures ∙ c.in_default.is))
+
+pub remove-requires-clause-limits : goal.remove-requires-clause-limits
+remove-requires-clause-limits c =
+    let f = c.self.inside in
+    let i = c.self.invariant.stands in
+    let old : CoreData = core_data f in
+    delete_may_follow (readers_of i.whole) i.opening i.own i.whole.core old i.stands.core c.args.tx c.args.key (stage_none (readers_of i.whole) i.opening i.own i.whole.core old i.stands.core c.args.tx.0 (remove_not_reading f.table (done_in f.works c.args.tx.0) c.args.tx.0 c.args.key (sym c.not_removed.ensures ∙ c.in_default.is))) (sym c.not_removed.ensures ∙ c.in_default.is) c.shown-found.result c.shown-found.ensures (sym c.in_the_way.ensures ∙ c.in_default-in_the_way.is) Deleted
 
 pub returns-in-Some-clause-step : goal.returns-in-Some-clause-step
 returns-in-Some-clause-step c = λ opening steps s h.
     subst (λ r. LeadsOn opening steps s (Do c.args.tx.0 (Delete c.args.key)) (Refused r) c.give_up.new.self) (sym c.give_up.ensures.same)
     (delete_refused no_readers opening steps s c.args.self.now h c.args.tx c.args.key refl c.in-Some.refusal
-    (ap (λ (x : CoreData). why_not_remove x.table c.args.tx.0 c.args.key) (sym c.self.view_is) ∙ sym c.not_removed.ensures ∙ c.in-Some.is) c.give_up.new.self
+    (ap (λ (x : CoreData). why_not_remove x.table (done_in x.works c.args.tx.0) c.args.tx.0 c.args.key) (sym c.self.view_is) ∙ sym c.not_removed.ensures ∙ c.in-Some.is) c.give_up.new.self
     (c.give_up.ensures.left no_readers opening steps s refl h))
 
 pub give_up-requires-in-Some-in_the_way : goal.give_up-requires-in-Some-in_the_way
 give_up-requires-in-Some-in_the_way c = λ _.
     subst (λ (x : CoreData). IsUnended (state_of x.table c.args.tx.0)) c.self.view_is
-    (unended_if_active c.self.inside.table c.args.tx.0 (active_if_removed c.self.inside.table c.args.tx.0 c.args.key (sym c.not_removed.ensures ∙ c.in_default.is)))
+    (unended_if_active c.self.inside.table c.args.tx.0 (active_if_removed c.self.inside.table (done_in c.self.inside.works c.args.tx.0) c.args.tx.0 c.args.key (sym c.not_removed.ensures ∙ c.in_default.is)))
 
 pub returns-in-Some-in_the_way-clause-step : goal.returns-in-Some-in_the_way-clause-step
 returns-in-Some-in_the_way-clause-step c = λ opening steps s h.
@@ -56,21 +78,12 @@ returns-in-Some-in_the_way-clause-step c = λ opening steps s h.
     (delete_conflicts no_readers opening steps s old (subst (StandsFor opening steps s) (sym c.self.view_is) h) c.args.tx c.args.key refl (sym c.not_removed.ensures ∙ c.in_default.is) c.shown-found.result c.shown-found.ensures c.in-Some-in_the_way.cause (sym c.in_the_way.ensures ∙ c.in-Some-in_the_way.is)
     c.give_up-in-Some-in_the_way.new.self (c.give_up-in-Some-in_the_way.ensures.left no_readers opening steps s refl h))
 
-pub record_answer-requires-clause-there : goal.record_answer-requires-clause-there
-record_answer-requires-clause-there c =
-    own_if_active c.self.inside.table c.args.tx.0 (active_if_removed c.self.inside.table c.args.tx.0 c.args.key (sym c.not_removed.ensures ∙ c.in_default.is))
-
-pub record_answer-requires-clause-limits : goal.record_answer-requires-clause-limits
-record_answer-requires-clause-limits c =
-    may_remove c.self.inside.table c.args.tx.0 c.args.key (sym c.not_removed.ensures ∙ c.in_default.is) Absent
-
--- ---- the work is prepared
 pub prepare-requires : goal.prepare-requires
 prepare-requires c =
     let f = c.self.inside in
     let i = c.self.invariant.stands in
     let old : CoreData = core_data f in
-    delete_fits (readers_of i.whole) i.opening i.own i.whole.core old i.stands.core c.args.tx c.args.key (stage_none (readers_of i.whole) i.opening i.own i.whole.core old i.stands.core c.args.tx.0 (remove_not_reading f.table c.args.tx.0 c.args.key (sym c.not_removed.ensures ∙ c.in_default.is))) (sym c.not_removed.ensures ∙ c.in_default.is) c.shown-found.result c.shown-found.ensures (sym c.in_the_way.ensures ∙ c.in_default-in_the_way.is)
+    delete_fits (readers_of i.whole) i.opening i.own i.whole.core old i.stands.core c.args.tx c.args.key (stage_none (readers_of i.whole) i.opening i.own i.whole.core old i.stands.core c.args.tx.0 (remove_not_reading f.table (done_in f.works c.args.tx.0) c.args.tx.0 c.args.key (sym c.not_removed.ensures ∙ c.in_default.is))) (sym c.not_removed.ensures ∙ c.in_default.is) c.shown-found.result c.shown-found.ensures (sym c.in_the_way.ensures ∙ c.in_default-in_the_way.is)
 
 pub invariant_of-self : goal.invariant_of-self
 invariant_of-self c =
@@ -82,9 +95,9 @@ invariant_of-self c =
     record {
       stands =
           whole_stands_on i (CoreCall (Do c.args.tx.0 (Delete c.args.key))) (Refused OutOfMemory) now
-          (let other = (stage_none (readers_of i.whole) i.opening i.own i.whole.core now g.core c.args.tx.0 (remove_not_reading f.table c.args.tx.0 c.args.key (sym c.not_removed.ensures ∙ c.in_default.is))) in
+          (let other = (stage_none (readers_of i.whole) i.opening i.own i.whole.core now g.core c.args.tx.0 (remove_not_reading f.table (done_in f.works c.args.tx.0) c.args.tx.0 c.args.key (sym c.not_removed.ensures ∙ c.in_default.is))) in
           others_lead i.opening i.steps i.own i.whole (Do c.args.tx.0 (Delete c.args.key)) _ now _ g other tt
-          (delete_starved (readers_of i.whole) i.opening i.own i.whole.core now g.core c.args.tx c.args.key other (sym c.not_removed.ensures ∙ c.in_default.is) c.shown-found.result c.shown-found.ensures (sym c.in_the_way.ensures ∙ c.in_default-in_the_way.is)));
+          (delete_starved (readers_of i.whole) i.opening i.own i.whole.core now g.core c.args.tx c.args.key other (ap (λ (z : WorkContent). why_not_remove c.self.inside.table z.history c.args.tx.0 c.args.key) (c.prepare.ensures.same c.args.tx.0) ∙ sym c.not_removed.ensures ∙ c.in_default.is) c.shown-found.result c.shown-found.ensures (sym c.in_the_way.ensures ∙ c.in_default-in_the_way.is)));
       waiting = c.self.invariant.waiting;
     }
 
@@ -94,7 +107,7 @@ returns-in_err-next-clause-step c = λ opening steps s h.
     let old : CoreData = core_data f in
     let now : CoreData = record old { works = c.prepare.new.works } in
     subst (λ r. LeadsOn opening steps s (Do c.args.tx.0 (Delete c.args.key)) r now) (came_spent c.from_residual.result c.from_residual.ensures.1)
-    (delete_starved no_readers opening steps s now (stands_same_works no_readers opening steps s old (subst (StandsFor opening steps s) (sym c.self.view_is) h) c.prepare.new.works c.prepare.ensures.same) c.args.tx c.args.key refl (sym c.not_removed.ensures ∙ c.in_default.is) c.shown-found.result c.shown-found.ensures (sym c.in_the_way.ensures ∙ c.in_default-in_the_way.is))
+    (delete_starved no_readers opening steps s now (stands_same_works no_readers opening steps s old (subst (StandsFor opening steps s) (sym c.self.view_is) h) c.prepare.new.works c.prepare.ensures.same) c.args.tx c.args.key refl (ap (λ (z : WorkContent). why_not_remove c.self.inside.table z.history c.args.tx.0 c.args.key) (c.prepare.ensures.same c.args.tx.0) ∙ sym c.not_removed.ensures ∙ c.in_default.is) c.shown-found.result c.shown-found.ensures (sym c.in_the_way.ensures ∙ c.in_default-in_the_way.is))
 
 pub returns-in_err-next-clause-whole : goal.returns-in_err-next-clause-whole
 returns-in_err-next-clause-whole c = λ opening steps own w h.
@@ -102,10 +115,10 @@ returns-in_err-next-clause-whole c = λ opening steps own w h.
     let old : CoreData = core_data f in
     let now : CoreData = record old { works = c.prepare.new.works } in
     let g : StandsWhole opening steps own w now = whole_same_works opening steps own w old (subst (StandsWhole opening steps own w) (sym c.self.view_is) h) c.prepare.new.works c.prepare.ensures.same in
-    let other = stage_none (readers_of w) opening own w.core now g.core c.args.tx.0 (remove_not_reading f.table c.args.tx.0 c.args.key (sym c.not_removed.ensures ∙ c.in_default.is)) in
+    let other = stage_none (readers_of w) opening own w.core now g.core c.args.tx.0 (remove_not_reading f.table (done_in f.works c.args.tx.0) c.args.tx.0 c.args.key (sym c.not_removed.ensures ∙ c.in_default.is)) in
     subst (λ r. LeadsWhole opening steps own w (CoreCall (Do c.args.tx.0 (Delete c.args.key))) r now) (came_spent c.from_residual.result c.from_residual.ensures.1)
     (others_lead opening steps own w (Do c.args.tx.0 (Delete c.args.key)) _ now _ g other tt
-    (delete_starved (readers_of w) opening own w.core now g.core c.args.tx c.args.key other (sym c.not_removed.ensures ∙ c.in_default.is) c.shown-found.result c.shown-found.ensures (sym c.in_the_way.ensures ∙ c.in_default-in_the_way.is)))
+    (delete_starved (readers_of w) opening own w.core now g.core c.args.tx c.args.key other (ap (λ (z : WorkContent). why_not_remove c.self.inside.table z.history c.args.tx.0 c.args.key) (c.prepare.ensures.same c.args.tx.0) ∙ sym c.not_removed.ensures ∙ c.in_default.is) c.shown-found.result c.shown-found.ensures (sym c.in_the_way.ensures ∙ c.in_default-in_the_way.is)))
 
 pub tell-requires : goal.tell-requires
 tell-requires c =
@@ -114,7 +127,7 @@ tell-requires c =
     let old : CoreData = core_data f in
     let now : CoreData = record old { works = c.prepare.new.works } in
     let g : StandsWhole i.opening i.steps i.own i.whole now = whole_same_works i.opening i.steps i.own i.whole old i.stands c.prepare.new.works c.prepare.ensures.same in
-    delete_may_be_told (readers_of i.whole) i.opening i.own i.whole.core now g.core c.args.tx c.args.key (stage_none (readers_of i.whole) i.opening i.own i.whole.core now g.core c.args.tx.0 (remove_not_reading f.table c.args.tx.0 c.args.key (sym c.not_removed.ensures ∙ c.in_default.is))) (sym c.not_removed.ensures ∙ c.in_default.is) c.shown-found.result c.shown-found.ensures (sym c.in_the_way.ensures ∙ c.in_default-in_the_way.is) _ c.in_ok-next.next c.in_ok-next.ensures.next
+    delete_may_be_told (readers_of i.whole) i.opening i.own i.whole.core now g.core c.args.tx c.args.key (stage_none (readers_of i.whole) i.opening i.own i.whole.core now g.core c.args.tx.0 (remove_not_reading f.table (done_in f.works c.args.tx.0) c.args.tx.0 c.args.key (sym c.not_removed.ensures ∙ c.in_default.is))) (ap (λ (z : WorkContent). why_not_remove c.self.inside.table z.history c.args.tx.0 c.args.key) (c.prepare.ensures.same c.args.tx.0) ∙ sym c.not_removed.ensures ∙ c.in_default.is) c.shown-found.result c.shown-found.ensures (sym c.in_the_way.ensures ∙ c.in_default-in_the_way.is) _ c.in_ok-next.next c.in_ok-next.ensures.next
 
 pub tell-requires-2 : goal.tell-requires-2
 tell-requires-2 c =
@@ -123,7 +136,7 @@ tell-requires-2 c =
     let old : CoreData = core_data f in
     let now : CoreData = record old { works = c.prepare.new.works } in
     let g : StandsWhole i.opening i.steps i.own i.whole now = whole_same_works i.opening i.steps i.own i.whole old i.stands c.prepare.new.works c.prepare.ensures.same in
-    delete_may_be_told (readers_of i.whole) i.opening i.own i.whole.core now g.core c.args.tx c.args.key (stage_none (readers_of i.whole) i.opening i.own i.whole.core now g.core c.args.tx.0 (remove_not_reading f.table c.args.tx.0 c.args.key (sym c.not_removed.ensures ∙ c.in_default.is))) (sym c.not_removed.ensures ∙ c.in_default.is) c.shown-found.result c.shown-found.ensures (sym c.in_the_way.ensures ∙ c.in_default-in_the_way.is) _ c.in_ok-next.next c.in_ok-next.ensures.next
+    delete_may_be_told (readers_of i.whole) i.opening i.own i.whole.core now g.core c.args.tx c.args.key (stage_none (readers_of i.whole) i.opening i.own i.whole.core now g.core c.args.tx.0 (remove_not_reading f.table (done_in f.works c.args.tx.0) c.args.tx.0 c.args.key (sym c.not_removed.ensures ∙ c.in_default.is))) (ap (λ (z : WorkContent). why_not_remove c.self.inside.table z.history c.args.tx.0 c.args.key) (c.prepare.ensures.same c.args.tx.0) ∙ sym c.not_removed.ensures ∙ c.in_default.is) c.shown-found.result c.shown-found.ensures (sym c.in_the_way.ensures ∙ c.in_default-in_the_way.is) _ c.in_ok-next.next c.in_ok-next.ensures.next
 
 pub invariant_of-self-in_err-record_answer : goal.invariant_of-self-in_err-record_answer
 invariant_of-self-in_err-record_answer c =
@@ -135,9 +148,9 @@ invariant_of-self-in_err-record_answer c =
     record {
       stands =
           whole_stands_on i (CoreCall (Do c.args.tx.0 (Delete c.args.key))) (Refused OutOfMemory) (record now { table = c.record_answer.new.table })
-          (let other = stage_none (readers_of i.whole) i.opening i.own i.whole.core now g.core c.args.tx.0 (remove_not_reading f.table c.args.tx.0 c.args.key (sym c.not_removed.ensures ∙ c.in_default.is)) in
+          (let other = stage_none (readers_of i.whole) i.opening i.own i.whole.core now g.core c.args.tx.0 (remove_not_reading f.table (done_in f.works c.args.tx.0) c.args.tx.0 c.args.key (sym c.not_removed.ensures ∙ c.in_default.is)) in
           (others_lead i.opening i.steps i.own i.whole (Do c.args.tx.0 (Delete c.args.key)) _ now _ g other tt
-          (delete_spent (readers_of i.whole) i.opening i.own i.whole.core now g.core c.args.tx c.args.key other (sym c.not_removed.ensures ∙ c.in_default.is) c.shown-found.result c.shown-found.ensures (sym c.in_the_way.ensures ∙ c.in_default-in_the_way.is) c.record_answer.new.table c.in_err-record_answer.ensures.err)));
+          (delete_spent (readers_of i.whole) i.opening i.own i.whole.core now g.core c.args.tx c.args.key other (ap (λ (z : WorkContent). why_not_remove c.self.inside.table z.history c.args.tx.0 c.args.key) (c.prepare.ensures.same c.args.tx.0) ∙ sym c.not_removed.ensures ∙ c.in_default.is) c.shown-found.result c.shown-found.ensures (sym c.in_the_way.ensures ∙ c.in_default-in_the_way.is) c.record_answer.new.table c.in_err-record_answer.ensures.err)));
       waiting = waits_alike f.table c.record_answer.new.table f.versions.slots f.waiting (alike_written f.table c.record_answer.new.table c.args.tx.0 HasDoneAsMuch c.in_err-record_answer.ensures.err) c.self.invariant.waiting;
     }
 
@@ -147,7 +160,7 @@ returns-in_err-record_answer-clause-step c = λ opening steps s h.
     let old : CoreData = core_data f in
     let now : CoreData = record old { works = c.prepare.new.works } in
     subst (λ r. LeadsOn opening steps s (Do c.args.tx.0 (Delete c.args.key)) r (record now { table = c.record_answer.new.table })) (came_spent c.from_residual-in_err-record_answer.result c.from_residual-in_err-record_answer.ensures.1)
-    (delete_spent no_readers opening steps s now (stands_same_works no_readers opening steps s old (subst (StandsFor opening steps s) (sym c.self.view_is) h) c.prepare.new.works c.prepare.ensures.same) c.args.tx c.args.key refl (sym c.not_removed.ensures ∙ c.in_default.is) c.shown-found.result c.shown-found.ensures (sym c.in_the_way.ensures ∙ c.in_default-in_the_way.is) c.record_answer.new.table c.in_err-record_answer.ensures.err)
+    (delete_spent no_readers opening steps s now (stands_same_works no_readers opening steps s old (subst (StandsFor opening steps s) (sym c.self.view_is) h) c.prepare.new.works c.prepare.ensures.same) c.args.tx c.args.key refl (ap (λ (z : WorkContent). why_not_remove c.self.inside.table z.history c.args.tx.0 c.args.key) (c.prepare.ensures.same c.args.tx.0) ∙ sym c.not_removed.ensures ∙ c.in_default.is) c.shown-found.result c.shown-found.ensures (sym c.in_the_way.ensures ∙ c.in_default-in_the_way.is) c.record_answer.new.table c.in_err-record_answer.ensures.err)
 
 pub invariant_of-self-in_default-version : goal.invariant_of-self-in_default-version
 invariant_of-self-in_default-version c =
@@ -159,9 +172,9 @@ invariant_of-self-in_default-version c =
     record {
       stands =
           whole_stands_on i (CoreCall (Do c.args.tx.0 (Delete c.args.key))) Accepted (record now { table = c.record_answer.new.table; works = c.tell.new.self })
-          (let other = stage_none (readers_of i.whole) i.opening i.own i.whole.core now g.core c.args.tx.0 (remove_not_reading f.table c.args.tx.0 c.args.key (sym c.not_removed.ensures ∙ c.in_default.is)) in
+          (let other = stage_none (readers_of i.whole) i.opening i.own i.whole.core now g.core c.args.tx.0 (remove_not_reading f.table (done_in f.works c.args.tx.0) c.args.tx.0 c.args.key (sym c.not_removed.ensures ∙ c.in_default.is)) in
           others_lead i.opening i.steps i.own i.whole (Do c.args.tx.0 (Delete c.args.key)) _ now _ g other tt
-          (absent_leads (readers_of i.whole) i.opening i.own i.whole.core now g.core c.args.tx c.args.key other (sym c.not_removed.ensures ∙ c.in_default.is) c.shown-found.result c.shown-found.ensures (sym c.in_the_way.ensures ∙ c.in_default-in_the_way.is) c.in_default-version.is c.record_answer.new.table c.in_ok-record_answer.ensures.ok c.tell.new.self
+          (absent_leads (readers_of i.whole) i.opening i.own i.whole.core now g.core c.args.tx c.args.key other (ap (λ (z : WorkContent). why_not_remove c.self.inside.table z.history c.args.tx.0 c.args.key) (c.prepare.ensures.same c.args.tx.0) ∙ sym c.not_removed.ensures ∙ c.in_default.is) c.shown-found.result c.shown-found.ensures (sym c.in_the_way.ensures ∙ c.in_default-in_the_way.is) c.in_default-version.is c.record_answer.new.table c.in_ok-record_answer.ensures.ok c.tell.new.self
           (record { next = c.in_ok-next.next; prepared = c.in_ok-next.ensures.next; told = c.tell.ensures.told })));
       waiting = waits_alike f.table c.record_answer.new.table f.versions.slots f.waiting (alike_recorded f.table c.record_answer.new.table c.args.tx _ _ _ c.in_ok-record_answer.ensures.ok) c.self.invariant.waiting;
     }
@@ -171,7 +184,7 @@ returns-in_default-version-clause-step c = λ opening steps s h.
     let f = c.self.inside in
     let old : CoreData = core_data f in
     let now : CoreData = record old { works = c.prepare.new.works } in
-    absent_leads no_readers opening steps s now (stands_same_works no_readers opening steps s old (subst (StandsFor opening steps s) (sym c.self.view_is) h) c.prepare.new.works c.prepare.ensures.same) c.args.tx c.args.key refl (sym c.not_removed.ensures ∙ c.in_default.is) c.shown-found.result c.shown-found.ensures (sym c.in_the_way.ensures ∙ c.in_default-in_the_way.is) c.in_default-version.is c.record_answer.new.table c.in_ok-record_answer.ensures.ok c.tell.new.self
+    absent_leads no_readers opening steps s now (stands_same_works no_readers opening steps s old (subst (StandsFor opening steps s) (sym c.self.view_is) h) c.prepare.new.works c.prepare.ensures.same) c.args.tx c.args.key refl (ap (λ (z : WorkContent). why_not_remove c.self.inside.table z.history c.args.tx.0 c.args.key) (c.prepare.ensures.same c.args.tx.0) ∙ sym c.not_removed.ensures ∙ c.in_default.is) c.shown-found.result c.shown-found.ensures (sym c.in_the_way.ensures ∙ c.in_default-in_the_way.is) c.in_default-version.is c.record_answer.new.table c.in_ok-record_answer.ensures.ok c.tell.new.self
     (record { next = c.in_ok-next.next; prepared = c.in_ok-next.ensures.next; told = c.tell.ensures.told })
 
 pub returns-in_default-version-clause-answer : goal.returns-in_default-version-clause-answer
@@ -180,20 +193,12 @@ returns-in_default-version-clause-answer c = λ opening steps s h.
     let old : CoreData = core_data f in
     absent_answers no_readers opening steps s old (subst (StandsFor opening steps s) (sym c.self.view_is) h) c.args.tx c.args.key refl (sym c.not_removed.ensures ∙ c.in_default.is) c.shown-found.result c.shown-found.ensures (sym c.in_the_way.ensures ∙ c.in_default-in_the_way.is) c.in_default-version.is
 
-pub remove-requires-clause-there : goal.remove-requires-clause-there
-remove-requires-clause-there c =
-    own_if_active c.self.inside.table c.args.tx.0 (active_if_removed c.self.inside.table c.args.tx.0 c.args.key (sym c.not_removed.ensures ∙ c.in_default.is))
-
-pub remove-requires-clause-limits : goal.remove-requires-clause-limits
-remove-requires-clause-limits c =
-    may_remove c.self.inside.table c.args.tx.0 c.args.key (sym c.not_removed.ensures ∙ c.in_default.is) Deleted
-
 pub remove-requires-clause-live : goal.remove-requires-clause-live
 remove-requires-clause-live c =
     let f = c.self.inside in
     let i = c.self.invariant.stands in
     let old : CoreData = core_data f in
-    deleted_live (readers_of i.whole) i.opening i.own i.whole.core old i.stands.core c.args.tx c.args.key (stage_none (readers_of i.whole) i.opening i.own i.whole.core old i.stands.core c.args.tx.0 (remove_not_reading f.table c.args.tx.0 c.args.key (sym c.not_removed.ensures ∙ c.in_default.is))) (sym c.not_removed.ensures ∙ c.in_default.is) c.shown-found.result c.shown-found.ensures (sym c.in_the_way.ensures ∙ c.in_default-in_the_way.is) c.in-Some-version.old c.in-Some-version.is
+    deleted_live (readers_of i.whole) i.opening i.own i.whole.core old i.stands.core c.args.tx c.args.key (stage_none (readers_of i.whole) i.opening i.own i.whole.core old i.stands.core c.args.tx.0 (remove_not_reading f.table (done_in f.works c.args.tx.0) c.args.tx.0 c.args.key (sym c.not_removed.ensures ∙ c.in_default.is))) (sym c.not_removed.ensures ∙ c.in_default.is) c.shown-found.result c.shown-found.ensures (sym c.in_the_way.ensures ∙ c.in_default-in_the_way.is) c.in-Some-version.old c.in-Some-version.is
 
 pub invariant_of-self-in_err-remove : goal.invariant_of-self-in_err-remove
 invariant_of-self-in_err-remove c =
@@ -205,9 +210,9 @@ invariant_of-self-in_err-remove c =
     record {
       stands =
           whole_stands_on i (CoreCall (Do c.args.tx.0 (Delete c.args.key))) (Refused OutOfMemory) (record now { versions = c.remove.new.versions; table = c.remove.new.table })
-          (let other = stage_none (readers_of i.whole) i.opening i.own i.whole.core now g.core c.args.tx.0 (remove_not_reading f.table c.args.tx.0 c.args.key (sym c.not_removed.ensures ∙ c.in_default.is)) in
+          (let other = stage_none (readers_of i.whole) i.opening i.own i.whole.core now g.core c.args.tx.0 (remove_not_reading f.table (done_in f.works c.args.tx.0) c.args.tx.0 c.args.key (sym c.not_removed.ensures ∙ c.in_default.is)) in
           (others_lead i.opening i.steps i.own i.whole (Do c.args.tx.0 (Delete c.args.key)) _ now _ g other tt
-          (delete_left (readers_of i.whole) i.opening i.own i.whole.core now g.core c.args.tx c.args.key other (sym c.not_removed.ensures ∙ c.in_default.is) c.shown-found.result c.shown-found.ensures (sym c.in_the_way.ensures ∙ c.in_default-in_the_way.is) c.remove.new.versions c.in_err-remove.ensures.same c.remove.new.table c.in_err-remove.ensures.err)));
+          (delete_left (readers_of i.whole) i.opening i.own i.whole.core now g.core c.args.tx c.args.key other (ap (λ (z : WorkContent). why_not_remove c.self.inside.table z.history c.args.tx.0 c.args.key) (c.prepare.ensures.same c.args.tx.0) ∙ sym c.not_removed.ensures ∙ c.in_default.is) c.shown-found.result c.shown-found.ensures (sym c.in_the_way.ensures ∙ c.in_default-in_the_way.is) c.remove.new.versions c.in_err-remove.ensures.same c.remove.new.table c.in_err-remove.ensures.err)));
       waiting = subst (λ (v : VersionsData). AreWaiting c.remove.new.table.clock (state_of c.remove.new.table) v.slots c.make_room.new.self) (sym c.in_err-remove.ensures.same) (waits_alike f.table c.remove.new.table f.versions.slots c.make_room.new.self (alike_written f.table c.remove.new.table c.args.tx.0 HasDoneAsMuch c.in_err-remove.ensures.err) (waits_roomy f.table.clock (state_of f.table) f.versions.slots f.waiting c.make_room.new.self c.make_room.new.self.room c.make_room.ensures.same c.self.invariant.waiting));
     }
 
@@ -217,7 +222,7 @@ returns-in_err-remove-clause-step c = λ opening steps s h.
     let old : CoreData = core_data f in
     let now : CoreData = record old { works = c.prepare.new.works } in
     subst (λ r. LeadsOn opening steps s (Do c.args.tx.0 (Delete c.args.key)) r (record now { versions = c.remove.new.versions; table = c.remove.new.table })) (came_spent c.from_residual-in_err-remove.result c.from_residual-in_err-remove.ensures.1)
-    (delete_left no_readers opening steps s now (stands_same_works no_readers opening steps s old (subst (StandsFor opening steps s) (sym c.self.view_is) h) c.prepare.new.works c.prepare.ensures.same) c.args.tx c.args.key refl (sym c.not_removed.ensures ∙ c.in_default.is) c.shown-found.result c.shown-found.ensures (sym c.in_the_way.ensures ∙ c.in_default-in_the_way.is) c.remove.new.versions c.in_err-remove.ensures.same c.remove.new.table c.in_err-remove.ensures.err)
+    (delete_left no_readers opening steps s now (stands_same_works no_readers opening steps s old (subst (StandsFor opening steps s) (sym c.self.view_is) h) c.prepare.new.works c.prepare.ensures.same) c.args.tx c.args.key refl (ap (λ (z : WorkContent). why_not_remove c.self.inside.table z.history c.args.tx.0 c.args.key) (c.prepare.ensures.same c.args.tx.0) ∙ sym c.not_removed.ensures ∙ c.in_default.is) c.shown-found.result c.shown-found.ensures (sym c.in_the_way.ensures ∙ c.in_default-in_the_way.is) c.remove.new.versions c.in_err-remove.ensures.same c.remove.new.table c.in_err-remove.ensures.err)
 
 pub invariant_of-self-2 : goal.invariant_of-self-2
 invariant_of-self-2 c =
@@ -229,11 +234,11 @@ invariant_of-self-2 c =
     record {
       stands =
           whole_stands_on i (CoreCall (Do c.args.tx.0 (Delete c.args.key))) Accepted (record now { versions = c.remove.new.versions; table = c.remove.new.table; works = c.tell-2.new.self })
-          (let other = stage_none (readers_of i.whole) i.opening i.own i.whole.core now g.core c.args.tx.0 (remove_not_reading f.table c.args.tx.0 c.args.key (sym c.not_removed.ensures ∙ c.in_default.is)) in
+          (let other = stage_none (readers_of i.whole) i.opening i.own i.whole.core now g.core c.args.tx.0 (remove_not_reading f.table (done_in f.works c.args.tx.0) c.args.tx.0 c.args.key (sym c.not_removed.ensures ∙ c.in_default.is)) in
           others_lead i.opening i.steps i.own i.whole (Do c.args.tx.0 (Delete c.args.key)) _ now _ g other tt
-          (deleted_leads (readers_of i.whole) i.opening i.own i.whole.core now g.core c.args.tx c.args.key other (sym c.not_removed.ensures ∙ c.in_default.is) c.shown-found.result c.shown-found.ensures (sym c.in_the_way.ensures ∙ c.in_default-in_the_way.is) c.in-Some-version.old c.in-Some-version.is c.remove.new.versions c.remove.new.table c.in_ok-remove.ensures.ok c.tell-2.new.self
+          (deleted_leads (readers_of i.whole) i.opening i.own i.whole.core now g.core c.args.tx c.args.key other (ap (λ (z : WorkContent). why_not_remove c.self.inside.table z.history c.args.tx.0 c.args.key) (c.prepare.ensures.same c.args.tx.0) ∙ sym c.not_removed.ensures ∙ c.in_default.is) c.shown-found.result c.shown-found.ensures (sym c.in_the_way.ensures ∙ c.in_default-in_the_way.is) c.in-Some-version.old c.in-Some-version.is c.remove.new.versions c.remove.new.table c.in_ok-remove.ensures.ok c.tell-2.new.self
           (record { next = c.in_ok-next.next; prepared = c.in_ok-next.ensures.next; told = c.tell-2.ensures.told })));
-      waiting = waits_removed f.versions c.remove.new.versions f.table c.remove.new.table c.args.tx (option_to_list c.shown-found.result.depends_on) f.waiting c.make_room.new.self c.make_room.ensures.same c.in-Some-version.old c.args.key c.has_open_end-is_open.result c.owe_end.new.waiting (stands_active f.table c.args.tx.0 (active_if_removed f.table c.args.tx.0 c.args.key (sym c.not_removed.ensures ∙ c.in_default.is))) (deleted_live (readers_of i.whole) i.opening i.own i.whole.core now g.core c.args.tx c.args.key (stage_none (readers_of i.whole) i.opening i.own i.whole.core now g.core c.args.tx.0 (remove_not_reading f.table c.args.tx.0 c.args.key (sym c.not_removed.ensures ∙ c.in_default.is))) (sym c.not_removed.ensures ∙ c.in_default.is) c.shown-found.result c.shown-found.ensures (sym c.in_the_way.ensures ∙ c.in_default-in_the_way.is) c.in-Some-version.old c.in-Some-version.is) c.in_ok-remove.ensures.ok c.has_open_end-is_open.ensures c.owe_end.ensures c.self.invariant.waiting;
+      waiting = waits_removed f.versions c.remove.new.versions f.table c.remove.new.table c.args.tx (option_to_list c.shown-found.result.depends_on) f.waiting c.make_room.new.self c.make_room.ensures.same c.in-Some-version.old c.args.key c.has_open_end-is_open.result c.owe_end.new.waiting (stands_active f.table c.args.tx.0 (active_if_removed f.table (done_in f.works c.args.tx.0) c.args.tx.0 c.args.key (sym c.not_removed.ensures ∙ c.in_default.is))) (deleted_live (readers_of i.whole) i.opening i.own i.whole.core now g.core c.args.tx c.args.key (stage_none (readers_of i.whole) i.opening i.own i.whole.core now g.core c.args.tx.0 (remove_not_reading f.table (done_in f.works c.args.tx.0) c.args.tx.0 c.args.key (sym c.not_removed.ensures ∙ c.in_default.is))) (ap (λ (z : WorkContent). why_not_remove c.self.inside.table z.history c.args.tx.0 c.args.key) (c.prepare.ensures.same c.args.tx.0) ∙ sym c.not_removed.ensures ∙ c.in_default.is) c.shown-found.result c.shown-found.ensures (sym c.in_the_way.ensures ∙ c.in_default-in_the_way.is) c.in-Some-version.old c.in-Some-version.is) c.in_ok-remove.ensures.ok c.has_open_end-is_open.ensures c.owe_end.ensures c.self.invariant.waiting;
     }
 
 pub returns-clause-step : goal.returns-clause-step
@@ -241,7 +246,7 @@ returns-clause-step c = λ opening steps s h.
     let f = c.self.inside in
     let old : CoreData = core_data f in
     let now : CoreData = record old { works = c.prepare.new.works } in
-    deleted_leads no_readers opening steps s now (stands_same_works no_readers opening steps s old (subst (StandsFor opening steps s) (sym c.self.view_is) h) c.prepare.new.works c.prepare.ensures.same) c.args.tx c.args.key refl (sym c.not_removed.ensures ∙ c.in_default.is) c.shown-found.result c.shown-found.ensures (sym c.in_the_way.ensures ∙ c.in_default-in_the_way.is) c.in-Some-version.old c.in-Some-version.is c.remove.new.versions c.remove.new.table c.in_ok-remove.ensures.ok c.tell-2.new.self
+    deleted_leads no_readers opening steps s now (stands_same_works no_readers opening steps s old (subst (StandsFor opening steps s) (sym c.self.view_is) h) c.prepare.new.works c.prepare.ensures.same) c.args.tx c.args.key refl (ap (λ (z : WorkContent). why_not_remove c.self.inside.table z.history c.args.tx.0 c.args.key) (c.prepare.ensures.same c.args.tx.0) ∙ sym c.not_removed.ensures ∙ c.in_default.is) c.shown-found.result c.shown-found.ensures (sym c.in_the_way.ensures ∙ c.in_default-in_the_way.is) c.in-Some-version.old c.in-Some-version.is c.remove.new.versions c.remove.new.table c.in_ok-remove.ensures.ok c.tell-2.new.self
     (record { next = c.in_ok-next.next; prepared = c.in_ok-next.ensures.next; told = c.tell-2.ensures.told })
 
 pub returns-clause-answer : goal.returns-clause-answer
@@ -261,9 +266,9 @@ invariant_of-self-in_err-make_room c =
     record {
       stands =
           whole_stands_on i (CoreCall (Do c.args.tx.0 (Delete c.args.key))) (Refused OutOfMemory) now
-          (let other = (stage_none (readers_of i.whole) i.opening i.own i.whole.core now g.core c.args.tx.0 (remove_not_reading f.table c.args.tx.0 c.args.key (sym c.not_removed.ensures ∙ c.in_default.is))) in
+          (let other = (stage_none (readers_of i.whole) i.opening i.own i.whole.core now g.core c.args.tx.0 (remove_not_reading f.table (done_in f.works c.args.tx.0) c.args.tx.0 c.args.key (sym c.not_removed.ensures ∙ c.in_default.is))) in
           others_lead i.opening i.steps i.own i.whole (Do c.args.tx.0 (Delete c.args.key)) _ now _ g other tt
-          (delete_starved (readers_of i.whole) i.opening i.own i.whole.core now g.core c.args.tx c.args.key other (sym c.not_removed.ensures ∙ c.in_default.is) c.shown-found.result c.shown-found.ensures (sym c.in_the_way.ensures ∙ c.in_default-in_the_way.is)));
+          (delete_starved (readers_of i.whole) i.opening i.own i.whole.core now g.core c.args.tx c.args.key other (ap (λ (z : WorkContent). why_not_remove c.self.inside.table z.history c.args.tx.0 c.args.key) (c.prepare.ensures.same c.args.tx.0) ∙ sym c.not_removed.ensures ∙ c.in_default.is) c.shown-found.result c.shown-found.ensures (sym c.in_the_way.ensures ∙ c.in_default-in_the_way.is)));
       waiting = waits_roomy f.table.clock (state_of f.table) f.versions.slots f.waiting c.make_room.new.self c.make_room.new.self.room c.make_room.ensures.same c.self.invariant.waiting;
     }
 
@@ -273,7 +278,7 @@ returns-in_err-make_room-clause-step c = λ opening steps s h.
     let old : CoreData = core_data f in
     let now : CoreData = record old { works = c.prepare.new.works } in
     subst (λ r. LeadsOn opening steps s (Do c.args.tx.0 (Delete c.args.key)) r now) (came_spent c.from_residual-in_err-make_room.result c.from_residual-in_err-make_room.ensures.1)
-    (delete_starved no_readers opening steps s now (stands_same_works no_readers opening steps s old (subst (StandsFor opening steps s) (sym c.self.view_is) h) c.prepare.new.works c.prepare.ensures.same) c.args.tx c.args.key refl (sym c.not_removed.ensures ∙ c.in_default.is) c.shown-found.result c.shown-found.ensures (sym c.in_the_way.ensures ∙ c.in_default-in_the_way.is))
+    (delete_starved no_readers opening steps s now (stands_same_works no_readers opening steps s old (subst (StandsFor opening steps s) (sym c.self.view_is) h) c.prepare.new.works c.prepare.ensures.same) c.args.tx c.args.key refl (ap (λ (z : WorkContent). why_not_remove c.self.inside.table z.history c.args.tx.0 c.args.key) (c.prepare.ensures.same c.args.tx.0) ∙ sym c.not_removed.ensures ∙ c.in_default.is) c.shown-found.result c.shown-found.ensures (sym c.in_the_way.ensures ∙ c.in_default-in_the_way.is))
 
 -- ---- beside read-only ones
 pub returns-in-Some-clause-whole : goal.returns-in-Some-clause-whole
@@ -281,17 +286,17 @@ returns-in-Some-clause-whole c = λ opening steps own w h.
     subst (λ r. LeadsWhole opening steps own w (CoreCall (Do c.args.tx.0 (Delete c.args.key))) (Refused r) c.give_up.new.self) (sym c.give_up.ensures.same)
     (remove_refused_whole opening steps own w c.args.self.now h c.args.tx.0 (Delete c.args.key) refl c.in-Some.refusal c.give_up.new.self c.give_up.ensures.reader
     (λ other. delete_refused (readers_of w) opening own w.core c.args.self.now h.core c.args.tx c.args.key other c.in-Some.refusal
-    (ap (λ (x : CoreData). why_not_remove x.table c.args.tx.0 c.args.key) (sym c.self.view_is) ∙ sym c.not_removed.ensures ∙ c.in-Some.is) c.give_up.new.self
+    (ap (λ (x : CoreData). why_not_remove x.table (done_in x.works c.args.tx.0) c.args.tx.0 c.args.key) (sym c.self.view_is) ∙ sym c.not_removed.ensures ∙ c.in-Some.is) c.give_up.new.self
     (c.give_up.ensures.left (readers_of w) opening own w.core other h.core))
     c.args.key
-    (ap (λ (x : CoreData). why_not_remove x.table c.args.tx.0 c.args.key) (sym c.self.view_is) ∙ sym c.not_removed.ensures ∙ c.in-Some.is))
+    (ap (λ (x : CoreData). why_not_remove x.table (done_in x.works c.args.tx.0) c.args.tx.0 c.args.key) (sym c.self.view_is) ∙ sym c.not_removed.ensures ∙ c.in-Some.is))
 
 pub returns-in-Some-in_the_way-clause-whole : goal.returns-in-Some-in_the_way-clause-whole
 returns-in-Some-in_the_way-clause-whole c = λ opening steps own w h.
     let f = c.self.inside in
     let old : CoreData = core_data f in
     let g : StandsWhole opening steps own w old = subst (StandsWhole opening steps own w) (sym c.self.view_is) h in
-    let other = stage_none (readers_of w) opening own w.core old g.core c.args.tx.0 (remove_not_reading f.table c.args.tx.0 c.args.key (sym c.not_removed.ensures ∙ c.in_default.is)) in
+    let other = stage_none (readers_of w) opening own w.core old g.core c.args.tx.0 (remove_not_reading f.table (done_in f.works c.args.tx.0) c.args.tx.0 c.args.key (sym c.not_removed.ensures ∙ c.in_default.is)) in
     subst (λ r. LeadsWhole opening steps own w (CoreCall (Do c.args.tx.0 (Delete c.args.key))) (Refused r) c.give_up-in-Some-in_the_way.new.self) (sym c.give_up-in-Some-in_the_way.ensures.same)
     (others_lead opening steps own w (Do c.args.tx.0 (Delete c.args.key)) _ old _ g other tt
     (delete_conflicts (readers_of w) opening own w.core old g.core c.args.tx c.args.key other (sym c.not_removed.ensures ∙ c.in_default.is) c.shown-found.result c.shown-found.ensures c.in-Some-in_the_way.cause (sym c.in_the_way.ensures ∙ c.in-Some-in_the_way.is)
@@ -303,10 +308,10 @@ returns-in_err-record_answer-clause-whole c = λ opening steps own w h.
     let old : CoreData = core_data f in
     let now : CoreData = record old { works = c.prepare.new.works } in
     let g : StandsWhole opening steps own w now = whole_same_works opening steps own w old (subst (StandsWhole opening steps own w) (sym c.self.view_is) h) c.prepare.new.works c.prepare.ensures.same in
-    let other = stage_none (readers_of w) opening own w.core now g.core c.args.tx.0 (remove_not_reading f.table c.args.tx.0 c.args.key (sym c.not_removed.ensures ∙ c.in_default.is)) in
+    let other = stage_none (readers_of w) opening own w.core now g.core c.args.tx.0 (remove_not_reading f.table (done_in f.works c.args.tx.0) c.args.tx.0 c.args.key (sym c.not_removed.ensures ∙ c.in_default.is)) in
     subst (λ r. LeadsWhole opening steps own w (CoreCall (Do c.args.tx.0 (Delete c.args.key))) r (record now { table = c.record_answer.new.table })) (came_spent c.from_residual-in_err-record_answer.result c.from_residual-in_err-record_answer.ensures.1)
     (others_lead opening steps own w (Do c.args.tx.0 (Delete c.args.key)) _ now _ g other tt
-    (delete_spent (readers_of w) opening own w.core now g.core c.args.tx c.args.key other (sym c.not_removed.ensures ∙ c.in_default.is) c.shown-found.result c.shown-found.ensures (sym c.in_the_way.ensures ∙ c.in_default-in_the_way.is) c.record_answer.new.table c.in_err-record_answer.ensures.err))
+    (delete_spent (readers_of w) opening own w.core now g.core c.args.tx c.args.key other (ap (λ (z : WorkContent). why_not_remove c.self.inside.table z.history c.args.tx.0 c.args.key) (c.prepare.ensures.same c.args.tx.0) ∙ sym c.not_removed.ensures ∙ c.in_default.is) c.shown-found.result c.shown-found.ensures (sym c.in_the_way.ensures ∙ c.in_default-in_the_way.is) c.record_answer.new.table c.in_err-record_answer.ensures.err))
 
 pub returns-in_default-version-clause-whole : goal.returns-in_default-version-clause-whole
 returns-in_default-version-clause-whole c = λ opening steps own w h.
@@ -314,9 +319,9 @@ returns-in_default-version-clause-whole c = λ opening steps own w h.
     let old : CoreData = core_data f in
     let now : CoreData = record old { works = c.prepare.new.works } in
     let g : StandsWhole opening steps own w now = whole_same_works opening steps own w old (subst (StandsWhole opening steps own w) (sym c.self.view_is) h) c.prepare.new.works c.prepare.ensures.same in
-    let other = stage_none (readers_of w) opening own w.core now g.core c.args.tx.0 (remove_not_reading f.table c.args.tx.0 c.args.key (sym c.not_removed.ensures ∙ c.in_default.is)) in
+    let other = stage_none (readers_of w) opening own w.core now g.core c.args.tx.0 (remove_not_reading f.table (done_in f.works c.args.tx.0) c.args.tx.0 c.args.key (sym c.not_removed.ensures ∙ c.in_default.is)) in
     others_lead opening steps own w (Do c.args.tx.0 (Delete c.args.key)) _ now _ g other tt
-    (absent_leads (readers_of w) opening own w.core now g.core c.args.tx c.args.key other (sym c.not_removed.ensures ∙ c.in_default.is) c.shown-found.result c.shown-found.ensures (sym c.in_the_way.ensures ∙ c.in_default-in_the_way.is) c.in_default-version.is c.record_answer.new.table c.in_ok-record_answer.ensures.ok c.tell.new.self
+    (absent_leads (readers_of w) opening own w.core now g.core c.args.tx c.args.key other (ap (λ (z : WorkContent). why_not_remove c.self.inside.table z.history c.args.tx.0 c.args.key) (c.prepare.ensures.same c.args.tx.0) ∙ sym c.not_removed.ensures ∙ c.in_default.is) c.shown-found.result c.shown-found.ensures (sym c.in_the_way.ensures ∙ c.in_default-in_the_way.is) c.in_default-version.is c.record_answer.new.table c.in_ok-record_answer.ensures.ok c.tell.new.self
     (record { next = c.in_ok-next.next; prepared = c.in_ok-next.ensures.next; told = c.tell.ensures.told }))
 
 pub returns-in_default-version-clause-whole_answer : goal.returns-in_default-version-clause-whole_answer
@@ -324,7 +329,7 @@ returns-in_default-version-clause-whole_answer c = λ opening steps own w h.
     let f = c.self.inside in
     let old : CoreData = core_data f in
     let g : StandsWhole opening steps own w old = subst (StandsWhole opening steps own w) (sym c.self.view_is) h in
-    let other = stage_none (readers_of w) opening own w.core old g.core c.args.tx.0 (remove_not_reading f.table c.args.tx.0 c.args.key (sym c.not_removed.ensures ∙ c.in_default.is)) in
+    let other = stage_none (readers_of w) opening own w.core old g.core c.args.tx.0 (remove_not_reading f.table (done_in f.works c.args.tx.0) c.args.tx.0 c.args.key (sym c.not_removed.ensures ∙ c.in_default.is)) in
     absent_answers (readers_of w) opening own w.core old g.core c.args.tx c.args.key other (sym c.not_removed.ensures ∙ c.in_default.is) c.shown-found.result c.shown-found.ensures (sym c.in_the_way.ensures ∙ c.in_default-in_the_way.is) c.in_default-version.is
 
 pub returns-in_err-remove-clause-whole : goal.returns-in_err-remove-clause-whole
@@ -333,10 +338,10 @@ returns-in_err-remove-clause-whole c = λ opening steps own w h.
     let old : CoreData = core_data f in
     let now : CoreData = record old { works = c.prepare.new.works } in
     let g : StandsWhole opening steps own w now = whole_same_works opening steps own w old (subst (StandsWhole opening steps own w) (sym c.self.view_is) h) c.prepare.new.works c.prepare.ensures.same in
-    let other = stage_none (readers_of w) opening own w.core now g.core c.args.tx.0 (remove_not_reading f.table c.args.tx.0 c.args.key (sym c.not_removed.ensures ∙ c.in_default.is)) in
+    let other = stage_none (readers_of w) opening own w.core now g.core c.args.tx.0 (remove_not_reading f.table (done_in f.works c.args.tx.0) c.args.tx.0 c.args.key (sym c.not_removed.ensures ∙ c.in_default.is)) in
     subst (λ r. LeadsWhole opening steps own w (CoreCall (Do c.args.tx.0 (Delete c.args.key))) r (record now { versions = c.remove.new.versions; table = c.remove.new.table })) (came_spent c.from_residual-in_err-remove.result c.from_residual-in_err-remove.ensures.1)
     (others_lead opening steps own w (Do c.args.tx.0 (Delete c.args.key)) _ now _ g other tt
-    (delete_left (readers_of w) opening own w.core now g.core c.args.tx c.args.key other (sym c.not_removed.ensures ∙ c.in_default.is) c.shown-found.result c.shown-found.ensures (sym c.in_the_way.ensures ∙ c.in_default-in_the_way.is) c.remove.new.versions c.in_err-remove.ensures.same c.remove.new.table c.in_err-remove.ensures.err))
+    (delete_left (readers_of w) opening own w.core now g.core c.args.tx c.args.key other (ap (λ (z : WorkContent). why_not_remove c.self.inside.table z.history c.args.tx.0 c.args.key) (c.prepare.ensures.same c.args.tx.0) ∙ sym c.not_removed.ensures ∙ c.in_default.is) c.shown-found.result c.shown-found.ensures (sym c.in_the_way.ensures ∙ c.in_default-in_the_way.is) c.remove.new.versions c.in_err-remove.ensures.same c.remove.new.table c.in_err-remove.ensures.err))
 
 pub returns-clause-whole : goal.returns-clause-whole
 returns-clause-whole c = λ opening steps own w h.
@@ -344,9 +349,9 @@ returns-clause-whole c = λ opening steps own w h.
     let old : CoreData = core_data f in
     let now : CoreData = record old { works = c.prepare.new.works } in
     let g : StandsWhole opening steps own w now = whole_same_works opening steps own w old (subst (StandsWhole opening steps own w) (sym c.self.view_is) h) c.prepare.new.works c.prepare.ensures.same in
-    let other = stage_none (readers_of w) opening own w.core now g.core c.args.tx.0 (remove_not_reading f.table c.args.tx.0 c.args.key (sym c.not_removed.ensures ∙ c.in_default.is)) in
+    let other = stage_none (readers_of w) opening own w.core now g.core c.args.tx.0 (remove_not_reading f.table (done_in f.works c.args.tx.0) c.args.tx.0 c.args.key (sym c.not_removed.ensures ∙ c.in_default.is)) in
     others_lead opening steps own w (Do c.args.tx.0 (Delete c.args.key)) _ now _ g other tt
-    (deleted_leads (readers_of w) opening own w.core now g.core c.args.tx c.args.key other (sym c.not_removed.ensures ∙ c.in_default.is) c.shown-found.result c.shown-found.ensures (sym c.in_the_way.ensures ∙ c.in_default-in_the_way.is) c.in-Some-version.old c.in-Some-version.is c.remove.new.versions c.remove.new.table c.in_ok-remove.ensures.ok c.tell-2.new.self
+    (deleted_leads (readers_of w) opening own w.core now g.core c.args.tx c.args.key other (ap (λ (z : WorkContent). why_not_remove c.self.inside.table z.history c.args.tx.0 c.args.key) (c.prepare.ensures.same c.args.tx.0) ∙ sym c.not_removed.ensures ∙ c.in_default.is) c.shown-found.result c.shown-found.ensures (sym c.in_the_way.ensures ∙ c.in_default-in_the_way.is) c.in-Some-version.old c.in-Some-version.is c.remove.new.versions c.remove.new.table c.in_ok-remove.ensures.ok c.tell-2.new.self
     (record { next = c.in_ok-next.next; prepared = c.in_ok-next.ensures.next; told = c.tell-2.ensures.told }))
 
 pub returns-clause-whole_answer : goal.returns-clause-whole_answer
@@ -354,7 +359,7 @@ returns-clause-whole_answer c = λ opening steps own w h.
     let f = c.self.inside in
     let old : CoreData = core_data f in
     let g : StandsWhole opening steps own w old = subst (StandsWhole opening steps own w) (sym c.self.view_is) h in
-    let other = stage_none (readers_of w) opening own w.core old g.core c.args.tx.0 (remove_not_reading f.table c.args.tx.0 c.args.key (sym c.not_removed.ensures ∙ c.in_default.is)) in
+    let other = stage_none (readers_of w) opening own w.core old g.core c.args.tx.0 (remove_not_reading f.table (done_in f.works c.args.tx.0) c.args.tx.0 c.args.key (sym c.not_removed.ensures ∙ c.in_default.is)) in
     deleted_answers (readers_of w) opening own w.core old g.core c.args.tx c.args.key other (sym c.not_removed.ensures ∙ c.in_default.is) c.shown-found.result c.shown-found.ensures (sym c.in_the_way.ensures ∙ c.in_default-in_the_way.is) c.in-Some-version.old c.in-Some-version.is
 
 pub returns-in_err-make_room-clause-whole : goal.returns-in_err-make_room-clause-whole
@@ -363,10 +368,10 @@ returns-in_err-make_room-clause-whole c = λ opening steps own w h.
     let old : CoreData = core_data f in
     let now : CoreData = record old { works = c.prepare.new.works } in
     let g : StandsWhole opening steps own w now = whole_same_works opening steps own w old (subst (StandsWhole opening steps own w) (sym c.self.view_is) h) c.prepare.new.works c.prepare.ensures.same in
-    let other = stage_none (readers_of w) opening own w.core now g.core c.args.tx.0 (remove_not_reading f.table c.args.tx.0 c.args.key (sym c.not_removed.ensures ∙ c.in_default.is)) in
+    let other = stage_none (readers_of w) opening own w.core now g.core c.args.tx.0 (remove_not_reading f.table (done_in f.works c.args.tx.0) c.args.tx.0 c.args.key (sym c.not_removed.ensures ∙ c.in_default.is)) in
     subst (λ r. LeadsWhole opening steps own w (CoreCall (Do c.args.tx.0 (Delete c.args.key))) r now) (came_spent c.from_residual-in_err-make_room.result c.from_residual-in_err-make_room.ensures.1)
     (others_lead opening steps own w (Do c.args.tx.0 (Delete c.args.key)) _ now _ g other tt
-    (delete_starved (readers_of w) opening own w.core now g.core c.args.tx c.args.key other (sym c.not_removed.ensures ∙ c.in_default.is) c.shown-found.result c.shown-found.ensures (sym c.in_the_way.ensures ∙ c.in_default-in_the_way.is)))
+    (delete_starved (readers_of w) opening own w.core now g.core c.args.tx c.args.key other (ap (λ (z : WorkContent). why_not_remove c.self.inside.table z.history c.args.tx.0 c.args.key) (c.prepare.ensures.same c.args.tx.0) ∙ sym c.not_removed.ensures ∙ c.in_default.is) c.shown-found.result c.shown-found.ensures (sym c.in_the_way.ensures ∙ c.in_default-in_the_way.is)))
 
 pub returns-clause-count : goal.returns-clause-count
 returns-clause-count c =

@@ -8,12 +8,16 @@ use Rattle.mvo_visible.specs.Versions.{versions_at}
 use Rattle.mvo_visible.specs.Shown.{AreVersionsInOrder}
 use Rattle.mvo_core.specs.Readers.{no_readers}
 use Rattle.mvo_core.specs.Causes.{why_not_put}
+use Rattle.mvo_shared.specs.Kept.{WorkContent}
+use Rattle.mvo_core.specs.Own.{done_in}
 use Rattle.mvo_core.specs.Data.{CoreData}
 use Rattle.mvo_core.specs.View.{core_data}
 use Rattle.mvo_core.specs.Standing.{StandsFor}
 use Rattle.mvo_core.specs.Steps.{LeadsOn}
 use Rattle.mvo_core.proofs.WholeStands.{whole_stands_on}
-use Rattle.mvo_core.proofs.Inserting.{insert_starved, insert_refused, insert_spent, insert_spent_same, exists_answers, exists_leads, insert_leads, inserted_answers, insert_may_be_told, insert_fits}
+use Rattle.mvo_core.proofs.Inserting.{insert_starved, insert_refused, insert_spent, insert_spent_same, exists_answers, exists_leads, insert_leads, inserted_answers, insert_may_be_told, insert_may_follow, insert_fits}
+use Rattle.mvo_types.specs.AnswerData.AnswerData.{Inserted, Exists}
+use Rattle.mvo_core.proofs.Asked.{own_if_active, active_if_put, may_put_failing}
 use Rattle.mvo_core.proofs.Looked.{shown_in}
 use Rattle.mvo_core.proofs.Refused.{came_spent}
 use Rattle.mvo_core.proofs.WorksHeld.{stands_same_works, whole_same_works}
@@ -28,11 +32,36 @@ use Rattle.mvo_core.proofs.WholeReads.{put_not_reading, put_refused_whole}
 use Rattle.mvo_core.proofs.VersionCounts.{same_counts, inserted_counts, put_more, refused_more}
 use Rattle.mvo_core.proofs.event_core.Core.insert.Goals as goal
 
+pub give_up-requires : goal.give_up-requires
+give_up-requires c =
+    may_put_failing c.args.self.now.table (done_in c.args.self.now.works c.args.tx.0) c.args.tx.0 c.args.row c.in-Some.refusal
+    (ap (λ (x : CoreData). why_not_put x.table (done_in x.works c.args.tx.0) c.args.tx.0 c.args.row) (sym c.self.view_is) ∙ sym c.not_put.ensures ∙ c.in-Some.is)
+
+pub record_answer-requires-clause-there : goal.record_answer-requires-clause-there
+record_answer-requires-clause-there c = own_if_active c.self.inside.table c.args.tx.0 (active_if_put c.self.inside.table (done_in c.self.inside.works c.args.tx.0) c.args.tx.0 c.args.row (sym c.not_put.ensures ∙ c.in_default.is))
+
+pub record_answer-requires-clause-limits : goal.record_answer-requires-clause-limits
+record_answer-requires-clause-limits c =
+    let f = c.self.inside in
+    let i = c.self.invariant.stands in
+    let old : CoreData = core_data f in
+    insert_may_follow (readers_of i.whole) i.opening i.own i.whole.core old i.stands.core c.args.tx c.args.row (stage_none (readers_of i.whole) i.opening i.own i.whole.core old i.stands.core c.args.tx.0 (put_not_reading f.table (done_in f.works c.args.tx.0) c.args.tx.0 c.args.row (sym c.not_put.ensures ∙ c.in_default.is))) (sym c.not_put.ensures ∙ c.in_default.is) Exists
+
+pub insert_row-requires-clause-there : goal.insert_row-requires-clause-there
+insert_row-requires-clause-there c = own_if_active c.self.inside.table c.args.tx.0 (active_if_put c.self.inside.table (done_in c.self.inside.works c.args.tx.0) c.args.tx.0 c.args.row (sym c.not_put.ensures ∙ c.in_default.is))
+
+pub insert_row-requires-clause-limits : goal.insert_row-requires-clause-limits
+insert_row-requires-clause-limits c =
+    let f = c.self.inside in
+    let i = c.self.invariant.stands in
+    let old : CoreData = core_data f in
+    insert_may_follow (readers_of i.whole) i.opening i.own i.whole.core old i.stands.core c.args.tx c.args.row (stage_none (readers_of i.whole) i.opening i.own i.whole.core old i.stands.core c.args.tx.0 (put_not_reading f.table (done_in f.works c.args.tx.0) c.args.tx.0 c.args.row (sym c.not_put.ensures ∙ c.in_default.is))) (sym c.not_put.ensures ∙ c.in_default.is) Inserted
+
 pub returns-in-Some-clause-step : goal.returns-in-Some-clause-step
 returns-in-Some-clause-step c = λ opening steps s h.
     subst (λ r. LeadsOn opening steps s (Do c.args.tx.0 (Insert c.args.row)) (Refused r) c.give_up.new.self) (sym c.give_up.ensures.same)
     (insert_refused no_readers opening steps s c.args.self.now h c.args.tx c.args.row refl c.in-Some.refusal
-    (ap (λ (x : CoreData). why_not_put x.table c.args.tx.0 c.args.row) (sym c.self.view_is) ∙ sym c.not_put.ensures ∙ c.in-Some.is) c.give_up.new.self
+    (ap (λ (x : CoreData). why_not_put x.table (done_in x.works c.args.tx.0) c.args.tx.0 c.args.row) (sym c.self.view_is) ∙ sym c.not_put.ensures ∙ c.in-Some.is) c.give_up.new.self
     (c.give_up.ensures.left no_readers opening steps s refl h))
 
 -- ---- the work is prepared
@@ -42,7 +71,7 @@ prepare_insert-requires c =
     let i = c.self.invariant.stands in
     let old : CoreData = core_data f in
     let is = subst (λ k. AreVersionsInOrder (state_of f.table) c.args.tx.0 c.args.tx.0 (versions_at f.versions.slots f.versions.lists k) → c.shown-found.result ≡ shown_in old c.args.tx.0 k) c.row_key-key.ensures c.shown-found.ensures in
-    insert_fits (readers_of i.whole) i.opening i.own i.whole.core old i.stands.core c.args.tx c.args.row (stage_none (readers_of i.whole) i.opening i.own i.whole.core old i.stands.core c.args.tx.0 (put_not_reading f.table c.args.tx.0 c.args.row (sym c.not_put.ensures ∙ c.in_default.is))) (sym c.not_put.ensures ∙ c.in_default.is) c.shown-found.result is
+    insert_fits (readers_of i.whole) i.opening i.own i.whole.core old i.stands.core c.args.tx c.args.row (stage_none (readers_of i.whole) i.opening i.own i.whole.core old i.stands.core c.args.tx.0 (put_not_reading f.table (done_in f.works c.args.tx.0) c.args.tx.0 c.args.row (sym c.not_put.ensures ∙ c.in_default.is))) (sym c.not_put.ensures ∙ c.in_default.is) c.shown-found.result is
 
 pub invariant_of-self : goal.invariant_of-self
 invariant_of-self c =
@@ -54,9 +83,9 @@ invariant_of-self c =
     record {
       stands =
           whole_stands_on i (CoreCall (Do c.args.tx.0 (Insert c.args.row))) (Refused OutOfMemory) now
-          (let other = (stage_none (readers_of i.whole) i.opening i.own i.whole.core now g.core c.args.tx.0 (put_not_reading f.table c.args.tx.0 c.args.row (sym c.not_put.ensures ∙ c.in_default.is))) in
+          (let other = (stage_none (readers_of i.whole) i.opening i.own i.whole.core now g.core c.args.tx.0 (put_not_reading f.table (done_in f.works c.args.tx.0) c.args.tx.0 c.args.row (sym c.not_put.ensures ∙ c.in_default.is))) in
           others_lead i.opening i.steps i.own i.whole (Do c.args.tx.0 (Insert c.args.row)) _ now _ g other tt
-          (insert_starved (readers_of i.whole) i.opening i.own i.whole.core now g.core c.args.tx c.args.row other (sym c.not_put.ensures ∙ c.in_default.is)));
+          (insert_starved (readers_of i.whole) i.opening i.own i.whole.core now g.core c.args.tx c.args.row other (ap (λ (z : WorkContent). why_not_put c.self.inside.table z.history c.args.tx.0 c.args.row) (c.prepare_insert.ensures.same c.args.tx.0) ∙ sym c.not_put.ensures ∙ c.in_default.is)));
       waiting = c.self.invariant.waiting;
     }
 
@@ -66,7 +95,7 @@ returns-in_err-next-clause-step c = λ opening steps s h.
     let old : CoreData = core_data f in
     let now : CoreData = record old { works = c.prepare_insert.new.works } in
     subst (λ r. LeadsOn opening steps s (Do c.args.tx.0 (Insert c.args.row)) r now) (came_spent c.from_residual.result c.from_residual.ensures.1)
-    (insert_starved no_readers opening steps s now (stands_same_works no_readers opening steps s old (subst (StandsFor opening steps s) (sym c.self.view_is) h) c.prepare_insert.new.works c.prepare_insert.ensures.same) c.args.tx c.args.row refl (sym c.not_put.ensures ∙ c.in_default.is))
+    (insert_starved no_readers opening steps s now (stands_same_works no_readers opening steps s old (subst (StandsFor opening steps s) (sym c.self.view_is) h) c.prepare_insert.new.works c.prepare_insert.ensures.same) c.args.tx c.args.row refl (ap (λ (z : WorkContent). why_not_put c.self.inside.table z.history c.args.tx.0 c.args.row) (c.prepare_insert.ensures.same c.args.tx.0) ∙ sym c.not_put.ensures ∙ c.in_default.is))
 
 pub returns-in_err-next-clause-whole : goal.returns-in_err-next-clause-whole
 returns-in_err-next-clause-whole c = λ opening steps own w h.
@@ -74,10 +103,10 @@ returns-in_err-next-clause-whole c = λ opening steps own w h.
     let old : CoreData = core_data f in
     let now : CoreData = record old { works = c.prepare_insert.new.works } in
     let g : StandsWhole opening steps own w now = whole_same_works opening steps own w old (subst (StandsWhole opening steps own w) (sym c.self.view_is) h) c.prepare_insert.new.works c.prepare_insert.ensures.same in
-    let other = stage_none (readers_of w) opening own w.core now g.core c.args.tx.0 (put_not_reading f.table c.args.tx.0 c.args.row (sym c.not_put.ensures ∙ c.in_default.is)) in
+    let other = stage_none (readers_of w) opening own w.core now g.core c.args.tx.0 (put_not_reading f.table (done_in f.works c.args.tx.0) c.args.tx.0 c.args.row (sym c.not_put.ensures ∙ c.in_default.is)) in
     subst (λ r. LeadsWhole opening steps own w (CoreCall (Do c.args.tx.0 (Insert c.args.row))) r now) (came_spent c.from_residual.result c.from_residual.ensures.1)
     (others_lead opening steps own w (Do c.args.tx.0 (Insert c.args.row)) _ now _ g other tt
-    (insert_starved (readers_of w) opening own w.core now g.core c.args.tx c.args.row other (sym c.not_put.ensures ∙ c.in_default.is)))
+    (insert_starved (readers_of w) opening own w.core now g.core c.args.tx c.args.row other (ap (λ (z : WorkContent). why_not_put c.self.inside.table z.history c.args.tx.0 c.args.row) (c.prepare_insert.ensures.same c.args.tx.0) ∙ sym c.not_put.ensures ∙ c.in_default.is)))
 
 pub tell-requires : goal.tell-requires
 tell-requires c =
@@ -86,7 +115,7 @@ tell-requires c =
     let old : CoreData = core_data f in
     let now : CoreData = record old { works = c.prepare_insert.new.works } in
     let g : StandsWhole i.opening i.steps i.own i.whole now = whole_same_works i.opening i.steps i.own i.whole old i.stands c.prepare_insert.new.works c.prepare_insert.ensures.same in
-    insert_may_be_told (readers_of i.whole) i.opening i.own i.whole.core now g.core c.args.tx c.args.row (stage_none (readers_of i.whole) i.opening i.own i.whole.core now g.core c.args.tx.0 (put_not_reading f.table c.args.tx.0 c.args.row (sym c.not_put.ensures ∙ c.in_default.is))) (sym c.not_put.ensures ∙ c.in_default.is) _ c.in_ok-next.next c.in_ok-next.ensures.next
+    insert_may_be_told (readers_of i.whole) i.opening i.own i.whole.core now g.core c.args.tx c.args.row (stage_none (readers_of i.whole) i.opening i.own i.whole.core now g.core c.args.tx.0 (put_not_reading f.table (done_in f.works c.args.tx.0) c.args.tx.0 c.args.row (sym c.not_put.ensures ∙ c.in_default.is))) (ap (λ (z : WorkContent). why_not_put c.self.inside.table z.history c.args.tx.0 c.args.row) (c.prepare_insert.ensures.same c.args.tx.0) ∙ sym c.not_put.ensures ∙ c.in_default.is) _ c.in_ok-next.next c.in_ok-next.ensures.next
 
 pub tell-requires-2 : goal.tell-requires-2
 tell-requires-2 c =
@@ -95,7 +124,7 @@ tell-requires-2 c =
     let old : CoreData = core_data f in
     let now : CoreData = record old { works = c.prepare_insert.new.works } in
     let g : StandsWhole i.opening i.steps i.own i.whole now = whole_same_works i.opening i.steps i.own i.whole old i.stands c.prepare_insert.new.works c.prepare_insert.ensures.same in
-    insert_may_be_told (readers_of i.whole) i.opening i.own i.whole.core now g.core c.args.tx c.args.row (stage_none (readers_of i.whole) i.opening i.own i.whole.core now g.core c.args.tx.0 (put_not_reading f.table c.args.tx.0 c.args.row (sym c.not_put.ensures ∙ c.in_default.is))) (sym c.not_put.ensures ∙ c.in_default.is) _ c.in_ok-next.next c.in_ok-next.ensures.next
+    insert_may_be_told (readers_of i.whole) i.opening i.own i.whole.core now g.core c.args.tx c.args.row (stage_none (readers_of i.whole) i.opening i.own i.whole.core now g.core c.args.tx.0 (put_not_reading f.table (done_in f.works c.args.tx.0) c.args.tx.0 c.args.row (sym c.not_put.ensures ∙ c.in_default.is))) (ap (λ (z : WorkContent). why_not_put c.self.inside.table z.history c.args.tx.0 c.args.row) (c.prepare_insert.ensures.same c.args.tx.0) ∙ sym c.not_put.ensures ∙ c.in_default.is) _ c.in_ok-next.next c.in_ok-next.ensures.next
 
 pub invariant_of-self-in_err-record_answer : goal.invariant_of-self-in_err-record_answer
 invariant_of-self-in_err-record_answer c =
@@ -107,9 +136,9 @@ invariant_of-self-in_err-record_answer c =
     record {
       stands =
           whole_stands_on i (CoreCall (Do c.args.tx.0 (Insert c.args.row))) (Refused OutOfMemory) (record now { table = c.record_answer.new.table })
-          (let other = stage_none (readers_of i.whole) i.opening i.own i.whole.core now g.core c.args.tx.0 (put_not_reading f.table c.args.tx.0 c.args.row (sym c.not_put.ensures ∙ c.in_default.is)) in
+          (let other = stage_none (readers_of i.whole) i.opening i.own i.whole.core now g.core c.args.tx.0 (put_not_reading f.table (done_in f.works c.args.tx.0) c.args.tx.0 c.args.row (sym c.not_put.ensures ∙ c.in_default.is)) in
           (others_lead i.opening i.steps i.own i.whole (Do c.args.tx.0 (Insert c.args.row)) _ now _ g other tt
-          (insert_spent (readers_of i.whole) i.opening i.own i.whole.core now g.core c.args.tx c.args.row other (sym c.not_put.ensures ∙ c.in_default.is) c.record_answer.new.table c.in_err-record_answer.ensures.err)));
+          (insert_spent (readers_of i.whole) i.opening i.own i.whole.core now g.core c.args.tx c.args.row other (ap (λ (z : WorkContent). why_not_put c.self.inside.table z.history c.args.tx.0 c.args.row) (c.prepare_insert.ensures.same c.args.tx.0) ∙ sym c.not_put.ensures ∙ c.in_default.is) c.record_answer.new.table c.in_err-record_answer.ensures.err)));
       waiting = waits_alike f.table c.record_answer.new.table f.versions.slots f.waiting (alike_written f.table c.record_answer.new.table c.args.tx.0 HasDoneAsMuch c.in_err-record_answer.ensures.err) c.self.invariant.waiting;
     }
 
@@ -119,7 +148,7 @@ returns-in_err-record_answer-clause-step c = λ opening steps s h.
     let old : CoreData = core_data f in
     let now : CoreData = record old { works = c.prepare_insert.new.works } in
     subst (λ r. LeadsOn opening steps s (Do c.args.tx.0 (Insert c.args.row)) r (record now { table = c.record_answer.new.table })) (came_spent c.from_residual-in_err-record_answer.result c.from_residual-in_err-record_answer.ensures.1)
-    (insert_spent no_readers opening steps s now (stands_same_works no_readers opening steps s old (subst (StandsFor opening steps s) (sym c.self.view_is) h) c.prepare_insert.new.works c.prepare_insert.ensures.same) c.args.tx c.args.row refl (sym c.not_put.ensures ∙ c.in_default.is) c.record_answer.new.table c.in_err-record_answer.ensures.err)
+    (insert_spent no_readers opening steps s now (stands_same_works no_readers opening steps s old (subst (StandsFor opening steps s) (sym c.self.view_is) h) c.prepare_insert.new.works c.prepare_insert.ensures.same) c.args.tx c.args.row refl (ap (λ (z : WorkContent). why_not_put c.self.inside.table z.history c.args.tx.0 c.args.row) (c.prepare_insert.ensures.same c.args.tx.0) ∙ sym c.not_put.ensures ∙ c.in_default.is) c.record_answer.new.table c.in_err-record_answer.ensures.err)
 
 pub invariant_of-self-then-is_some : goal.invariant_of-self-then-is_some
 invariant_of-self-then-is_some c =
@@ -132,10 +161,10 @@ invariant_of-self-then-is_some c =
     record {
       stands =
           whole_stands_on i (CoreCall (Do c.args.tx.0 (Insert c.args.row))) Accepted (record now { table = c.record_answer.new.table; works = c.tell.new.self })
-          (let other = stage_none (readers_of i.whole) i.opening i.own i.whole.core now g.core c.args.tx.0 (put_not_reading f.table c.args.tx.0 c.args.row (sym c.not_put.ensures ∙ c.in_default.is)) in
+          (let other = stage_none (readers_of i.whole) i.opening i.own i.whole.core now g.core c.args.tx.0 (put_not_reading f.table (done_in f.works c.args.tx.0) c.args.tx.0 c.args.row (sym c.not_put.ensures ∙ c.in_default.is)) in
           let is = subst (λ k. AreVersionsInOrder (state_of f.table) c.args.tx.0 c.args.tx.0 (versions_at f.versions.slots f.versions.lists k) → c.shown-found.result ≡ shown_in now c.args.tx.0 k) c.row_key-key.ensures c.shown-found.ensures in
           others_lead i.opening i.steps i.own i.whole (Do c.args.tx.0 (Insert c.args.row)) _ now _ g other tt
-          (exists_leads (readers_of i.whole) i.opening i.own i.whole.core now g.core c.args.tx c.args.row other (sym c.not_put.ensures ∙ c.in_default.is) c.shown-found.result is (sym c.is_some.ensures ∙ c.if-is_some.true)
+          (exists_leads (readers_of i.whole) i.opening i.own i.whole.core now g.core c.args.tx c.args.row other (ap (λ (z : WorkContent). why_not_put c.self.inside.table z.history c.args.tx.0 c.args.row) (c.prepare_insert.ensures.same c.args.tx.0) ∙ sym c.not_put.ensures ∙ c.in_default.is) c.shown-found.result is (sym c.is_some.ensures ∙ c.if-is_some.true)
           c.record_answer.new.table c.in_ok-record_answer.ensures.ok c.tell.new.self
           (record { next = c.in_ok-next.next; prepared = c.in_ok-next.ensures.next; told = c.tell.ensures.told })));
       waiting = waits_alike f.table c.record_answer.new.table f.versions.slots f.waiting (alike_recorded f.table c.record_answer.new.table c.args.tx _ _ _ c.in_ok-record_answer.ensures.ok) c.self.invariant.waiting;
@@ -147,7 +176,7 @@ returns-then-is_some-clause-step c = λ opening steps s h.
     let old : CoreData = core_data f in
     let now : CoreData = record old { works = c.prepare_insert.new.works } in
     let is = subst (λ k. AreVersionsInOrder (state_of f.table) c.args.tx.0 c.args.tx.0 (versions_at f.versions.slots f.versions.lists k) → c.shown-found.result ≡ shown_in now c.args.tx.0 k) c.row_key-key.ensures c.shown-found.ensures in
-    exists_leads no_readers opening steps s now (stands_same_works no_readers opening steps s old (subst (StandsFor opening steps s) (sym c.self.view_is) h) c.prepare_insert.new.works c.prepare_insert.ensures.same) c.args.tx c.args.row refl (sym c.not_put.ensures ∙ c.in_default.is) c.shown-found.result is (sym c.is_some.ensures ∙ c.if-is_some.true)
+    exists_leads no_readers opening steps s now (stands_same_works no_readers opening steps s old (subst (StandsFor opening steps s) (sym c.self.view_is) h) c.prepare_insert.new.works c.prepare_insert.ensures.same) c.args.tx c.args.row refl (ap (λ (z : WorkContent). why_not_put c.self.inside.table z.history c.args.tx.0 c.args.row) (c.prepare_insert.ensures.same c.args.tx.0) ∙ sym c.not_put.ensures ∙ c.in_default.is) c.shown-found.result is (sym c.is_some.ensures ∙ c.if-is_some.true)
     c.record_answer.new.table c.in_ok-record_answer.ensures.ok c.tell.new.self
     (record { next = c.in_ok-next.next; prepared = c.in_ok-next.ensures.next; told = c.tell.ensures.told })
 
@@ -168,9 +197,9 @@ invariant_of-self-in_err-insert_row c =
     record {
       stands =
           whole_stands_on i (CoreCall (Do c.args.tx.0 (Insert c.args.row))) (Refused OutOfMemory) (record now { versions = c.insert_row.new.versions; table = c.insert_row.new.table })
-          (let other = stage_none (readers_of i.whole) i.opening i.own i.whole.core now g.core c.args.tx.0 (put_not_reading f.table c.args.tx.0 c.args.row (sym c.not_put.ensures ∙ c.in_default.is)) in
+          (let other = stage_none (readers_of i.whole) i.opening i.own i.whole.core now g.core c.args.tx.0 (put_not_reading f.table (done_in f.works c.args.tx.0) c.args.tx.0 c.args.row (sym c.not_put.ensures ∙ c.in_default.is)) in
           (others_lead i.opening i.steps i.own i.whole (Do c.args.tx.0 (Insert c.args.row)) _ now _ g other tt
-          (insert_spent_same (readers_of i.whole) i.opening i.own i.whole.core now g.core c.args.tx c.args.row other (sym c.not_put.ensures ∙ c.in_default.is) c.insert_row.new.versions c.in_err-insert_row.ensures.err
+          (insert_spent_same (readers_of i.whole) i.opening i.own i.whole.core now g.core c.args.tx c.args.row other (ap (λ (z : WorkContent). why_not_put c.self.inside.table z.history c.args.tx.0 c.args.row) (c.prepare_insert.ensures.same c.args.tx.0) ∙ sym c.not_put.ensures ∙ c.in_default.is) c.insert_row.new.versions c.in_err-insert_row.ensures.err
           c.insert_row.ensures.indexed c.insert_row.new.table c.in_err-insert_row.ensures.alone)));
       waiting = waits_spent f.table c.insert_row.new.table c.args.tx.0 f.versions c.insert_row.new.versions f.waiting c.make_room.new.self c.make_room.ensures.same c.in_err-insert_row.ensures.err c.in_err-insert_row.ensures.alone c.self.invariant.waiting;
     }
@@ -182,7 +211,7 @@ returns-in_err-insert_row-clause-step c = λ opening steps s h.
     let now : CoreData = record old { works = c.prepare_insert.new.works } in
     subst (λ r. LeadsOn opening steps s (Do c.args.tx.0 (Insert c.args.row)) r (record now { versions = c.insert_row.new.versions; table = c.insert_row.new.table }))
     (came_spent c.from_residual-in_err-insert_row.result c.from_residual-in_err-insert_row.ensures.1)
-    (insert_spent_same no_readers opening steps s now (stands_same_works no_readers opening steps s old (subst (StandsFor opening steps s) (sym c.self.view_is) h) c.prepare_insert.new.works c.prepare_insert.ensures.same) c.args.tx c.args.row refl (sym c.not_put.ensures ∙ c.in_default.is) c.insert_row.new.versions c.in_err-insert_row.ensures.err
+    (insert_spent_same no_readers opening steps s now (stands_same_works no_readers opening steps s old (subst (StandsFor opening steps s) (sym c.self.view_is) h) c.prepare_insert.new.works c.prepare_insert.ensures.same) c.args.tx c.args.row refl (ap (λ (z : WorkContent). why_not_put c.self.inside.table z.history c.args.tx.0 c.args.row) (c.prepare_insert.ensures.same c.args.tx.0) ∙ sym c.not_put.ensures ∙ c.in_default.is) c.insert_row.new.versions c.in_err-insert_row.ensures.err
     c.insert_row.ensures.indexed c.insert_row.new.table c.in_err-insert_row.ensures.alone)
 
 pub invariant_of-self-2 : goal.invariant_of-self-2
@@ -196,10 +225,10 @@ invariant_of-self-2 c =
     record {
       stands =
           whole_stands_on i (CoreCall (Do c.args.tx.0 (Insert c.args.row))) Accepted (record now { versions = c.insert_row.new.versions; table = c.insert_row.new.table; works = c.tell-2.new.self })
-          (let other = stage_none (readers_of i.whole) i.opening i.own i.whole.core now g.core c.args.tx.0 (put_not_reading f.table c.args.tx.0 c.args.row (sym c.not_put.ensures ∙ c.in_default.is)) in
+          (let other = stage_none (readers_of i.whole) i.opening i.own i.whole.core now g.core c.args.tx.0 (put_not_reading f.table (done_in f.works c.args.tx.0) c.args.tx.0 c.args.row (sym c.not_put.ensures ∙ c.in_default.is)) in
           let is = subst (λ k. AreVersionsInOrder (state_of f.table) c.args.tx.0 c.args.tx.0 (versions_at f.versions.slots f.versions.lists k) → c.shown-found.result ≡ shown_in now c.args.tx.0 k) c.row_key-key.ensures c.shown-found.ensures in
           others_lead i.opening i.steps i.own i.whole (Do c.args.tx.0 (Insert c.args.row)) _ now _ g other tt
-          (insert_leads (readers_of i.whole) i.opening i.own i.whole.core now g.core c.args.tx c.args.row other (sym c.not_put.ensures ∙ c.in_default.is) c.shown-found.result is (sym c.is_some.ensures ∙ c.if-is_some.false)
+          (insert_leads (readers_of i.whole) i.opening i.own i.whole.core now g.core c.args.tx c.args.row other (ap (λ (z : WorkContent). why_not_put c.self.inside.table z.history c.args.tx.0 c.args.row) (c.prepare_insert.ensures.same c.args.tx.0) ∙ sym c.not_put.ensures ∙ c.in_default.is) c.shown-found.result is (sym c.is_some.ensures ∙ c.if-is_some.false)
           c.insert_row.new.versions c.insert_row.new.table c.in_ok-insert_row.ensures.ok c.insert_row.ensures.indexed c.tell-2.new.self
           (record { next = c.in_ok-next.next; prepared = c.in_ok-next.ensures.next; told = c.tell-2.ensures.told })));
       waiting = waits_inserted f.versions c.insert_row.new.versions f.table c.insert_row.new.table c.args.tx (option_to_list c.shown-found.result.depends_on) f.waiting c.make_room.new.self c.make_room.ensures.same c.args.row c.owe.new.self c.in_ok-insert_row.ensures.ok c.owe.ensures c.self.invariant.waiting;
@@ -211,7 +240,7 @@ returns-clause-step c = λ opening steps s h.
     let old : CoreData = core_data f in
     let now : CoreData = record old { works = c.prepare_insert.new.works } in
     let is = subst (λ k. AreVersionsInOrder (state_of f.table) c.args.tx.0 c.args.tx.0 (versions_at f.versions.slots f.versions.lists k) → c.shown-found.result ≡ shown_in now c.args.tx.0 k) c.row_key-key.ensures c.shown-found.ensures in
-    insert_leads no_readers opening steps s now (stands_same_works no_readers opening steps s old (subst (StandsFor opening steps s) (sym c.self.view_is) h) c.prepare_insert.new.works c.prepare_insert.ensures.same) c.args.tx c.args.row refl (sym c.not_put.ensures ∙ c.in_default.is) c.shown-found.result is (sym c.is_some.ensures ∙ c.if-is_some.false)
+    insert_leads no_readers opening steps s now (stands_same_works no_readers opening steps s old (subst (StandsFor opening steps s) (sym c.self.view_is) h) c.prepare_insert.new.works c.prepare_insert.ensures.same) c.args.tx c.args.row refl (ap (λ (z : WorkContent). why_not_put c.self.inside.table z.history c.args.tx.0 c.args.row) (c.prepare_insert.ensures.same c.args.tx.0) ∙ sym c.not_put.ensures ∙ c.in_default.is) c.shown-found.result is (sym c.is_some.ensures ∙ c.if-is_some.false)
     c.insert_row.new.versions c.insert_row.new.table c.in_ok-insert_row.ensures.ok c.insert_row.ensures.indexed c.tell-2.new.self
     (record { next = c.in_ok-next.next; prepared = c.in_ok-next.ensures.next; told = c.tell-2.ensures.told })
 
@@ -233,9 +262,9 @@ invariant_of-self-in_err-make_room c =
     record {
       stands =
           whole_stands_on i (CoreCall (Do c.args.tx.0 (Insert c.args.row))) (Refused OutOfMemory) now
-          (let other = (stage_none (readers_of i.whole) i.opening i.own i.whole.core now g.core c.args.tx.0 (put_not_reading f.table c.args.tx.0 c.args.row (sym c.not_put.ensures ∙ c.in_default.is))) in
+          (let other = (stage_none (readers_of i.whole) i.opening i.own i.whole.core now g.core c.args.tx.0 (put_not_reading f.table (done_in f.works c.args.tx.0) c.args.tx.0 c.args.row (sym c.not_put.ensures ∙ c.in_default.is))) in
           others_lead i.opening i.steps i.own i.whole (Do c.args.tx.0 (Insert c.args.row)) _ now _ g other tt
-          (insert_starved (readers_of i.whole) i.opening i.own i.whole.core now g.core c.args.tx c.args.row other (sym c.not_put.ensures ∙ c.in_default.is)));
+          (insert_starved (readers_of i.whole) i.opening i.own i.whole.core now g.core c.args.tx c.args.row other (ap (λ (z : WorkContent). why_not_put c.self.inside.table z.history c.args.tx.0 c.args.row) (c.prepare_insert.ensures.same c.args.tx.0) ∙ sym c.not_put.ensures ∙ c.in_default.is)));
       waiting = waits_roomy f.table.clock (state_of f.table) f.versions.slots f.waiting c.make_room.new.self c.make_room.new.self.room c.make_room.ensures.same c.self.invariant.waiting;
     }
 
@@ -245,7 +274,7 @@ returns-in_err-make_room-clause-step c = λ opening steps s h.
     let old : CoreData = core_data f in
     let now : CoreData = record old { works = c.prepare_insert.new.works } in
     subst (λ r. LeadsOn opening steps s (Do c.args.tx.0 (Insert c.args.row)) r now) (came_spent c.from_residual-in_err-make_room.result c.from_residual-in_err-make_room.ensures.1)
-    (insert_starved no_readers opening steps s now (stands_same_works no_readers opening steps s old (subst (StandsFor opening steps s) (sym c.self.view_is) h) c.prepare_insert.new.works c.prepare_insert.ensures.same) c.args.tx c.args.row refl (sym c.not_put.ensures ∙ c.in_default.is))
+    (insert_starved no_readers opening steps s now (stands_same_works no_readers opening steps s old (subst (StandsFor opening steps s) (sym c.self.view_is) h) c.prepare_insert.new.works c.prepare_insert.ensures.same) c.args.tx c.args.row refl (ap (λ (z : WorkContent). why_not_put c.self.inside.table z.history c.args.tx.0 c.args.row) (c.prepare_insert.ensures.same c.args.tx.0) ∙ sym c.not_put.ensures ∙ c.in_default.is))
 
 -- ---- beside read-only ones
 pub returns-in-Some-clause-whole : goal.returns-in-Some-clause-whole
@@ -253,10 +282,10 @@ returns-in-Some-clause-whole c = λ opening steps own w h.
     subst (λ r. LeadsWhole opening steps own w (CoreCall (Do c.args.tx.0 (Insert c.args.row))) (Refused r) c.give_up.new.self) (sym c.give_up.ensures.same)
     (put_refused_whole opening steps own w c.args.self.now h c.args.tx.0 (Insert c.args.row) refl c.in-Some.refusal c.give_up.new.self c.give_up.ensures.reader
     (λ other. insert_refused (readers_of w) opening own w.core c.args.self.now h.core c.args.tx c.args.row other c.in-Some.refusal
-    (ap (λ (x : CoreData). why_not_put x.table c.args.tx.0 c.args.row) (sym c.self.view_is) ∙ sym c.not_put.ensures ∙ c.in-Some.is) c.give_up.new.self
+    (ap (λ (x : CoreData). why_not_put x.table (done_in x.works c.args.tx.0) c.args.tx.0 c.args.row) (sym c.self.view_is) ∙ sym c.not_put.ensures ∙ c.in-Some.is) c.give_up.new.self
     (c.give_up.ensures.left (readers_of w) opening own w.core other h.core))
     c.args.row
-    (ap (λ (x : CoreData). why_not_put x.table c.args.tx.0 c.args.row) (sym c.self.view_is) ∙ sym c.not_put.ensures ∙ c.in-Some.is))
+    (ap (λ (x : CoreData). why_not_put x.table (done_in x.works c.args.tx.0) c.args.tx.0 c.args.row) (sym c.self.view_is) ∙ sym c.not_put.ensures ∙ c.in-Some.is))
 
 pub returns-in_err-record_answer-clause-whole : goal.returns-in_err-record_answer-clause-whole
 returns-in_err-record_answer-clause-whole c = λ opening steps own w h.
@@ -264,10 +293,10 @@ returns-in_err-record_answer-clause-whole c = λ opening steps own w h.
     let old : CoreData = core_data f in
     let now : CoreData = record old { works = c.prepare_insert.new.works } in
     let g : StandsWhole opening steps own w now = whole_same_works opening steps own w old (subst (StandsWhole opening steps own w) (sym c.self.view_is) h) c.prepare_insert.new.works c.prepare_insert.ensures.same in
-    let other = stage_none (readers_of w) opening own w.core now g.core c.args.tx.0 (put_not_reading f.table c.args.tx.0 c.args.row (sym c.not_put.ensures ∙ c.in_default.is)) in
+    let other = stage_none (readers_of w) opening own w.core now g.core c.args.tx.0 (put_not_reading f.table (done_in f.works c.args.tx.0) c.args.tx.0 c.args.row (sym c.not_put.ensures ∙ c.in_default.is)) in
     subst (λ r. LeadsWhole opening steps own w (CoreCall (Do c.args.tx.0 (Insert c.args.row))) r (record now { table = c.record_answer.new.table })) (came_spent c.from_residual-in_err-record_answer.result c.from_residual-in_err-record_answer.ensures.1)
     (others_lead opening steps own w (Do c.args.tx.0 (Insert c.args.row)) _ now _ g other tt
-    (insert_spent (readers_of w) opening own w.core now g.core c.args.tx c.args.row other (sym c.not_put.ensures ∙ c.in_default.is) c.record_answer.new.table c.in_err-record_answer.ensures.err))
+    (insert_spent (readers_of w) opening own w.core now g.core c.args.tx c.args.row other (ap (λ (z : WorkContent). why_not_put c.self.inside.table z.history c.args.tx.0 c.args.row) (c.prepare_insert.ensures.same c.args.tx.0) ∙ sym c.not_put.ensures ∙ c.in_default.is) c.record_answer.new.table c.in_err-record_answer.ensures.err))
 
 pub returns-then-is_some-clause-whole : goal.returns-then-is_some-clause-whole
 returns-then-is_some-clause-whole c = λ opening steps own w h.
@@ -275,10 +304,10 @@ returns-then-is_some-clause-whole c = λ opening steps own w h.
     let old : CoreData = core_data f in
     let now : CoreData = record old { works = c.prepare_insert.new.works } in
     let g : StandsWhole opening steps own w now = whole_same_works opening steps own w old (subst (StandsWhole opening steps own w) (sym c.self.view_is) h) c.prepare_insert.new.works c.prepare_insert.ensures.same in
-    let other = stage_none (readers_of w) opening own w.core now g.core c.args.tx.0 (put_not_reading f.table c.args.tx.0 c.args.row (sym c.not_put.ensures ∙ c.in_default.is)) in
+    let other = stage_none (readers_of w) opening own w.core now g.core c.args.tx.0 (put_not_reading f.table (done_in f.works c.args.tx.0) c.args.tx.0 c.args.row (sym c.not_put.ensures ∙ c.in_default.is)) in
     let is = subst (λ k. AreVersionsInOrder (state_of f.table) c.args.tx.0 c.args.tx.0 (versions_at f.versions.slots f.versions.lists k) → c.shown-found.result ≡ shown_in now c.args.tx.0 k) c.row_key-key.ensures c.shown-found.ensures in
     others_lead opening steps own w (Do c.args.tx.0 (Insert c.args.row)) _ now _ g other tt
-    (exists_leads (readers_of w) opening own w.core now g.core c.args.tx c.args.row other (sym c.not_put.ensures ∙ c.in_default.is) c.shown-found.result is (sym c.is_some.ensures ∙ c.if-is_some.true)
+    (exists_leads (readers_of w) opening own w.core now g.core c.args.tx c.args.row other (ap (λ (z : WorkContent). why_not_put c.self.inside.table z.history c.args.tx.0 c.args.row) (c.prepare_insert.ensures.same c.args.tx.0) ∙ sym c.not_put.ensures ∙ c.in_default.is) c.shown-found.result is (sym c.is_some.ensures ∙ c.if-is_some.true)
     c.record_answer.new.table c.in_ok-record_answer.ensures.ok c.tell.new.self
     (record { next = c.in_ok-next.next; prepared = c.in_ok-next.ensures.next; told = c.tell.ensures.told }))
 
@@ -287,7 +316,7 @@ returns-then-is_some-clause-whole_answer c = λ opening steps own w h.
     let f = c.self.inside in
     let old : CoreData = core_data f in
     let g : StandsWhole opening steps own w old = subst (StandsWhole opening steps own w) (sym c.self.view_is) h in
-    let other = stage_none (readers_of w) opening own w.core old g.core c.args.tx.0 (put_not_reading f.table c.args.tx.0 c.args.row (sym c.not_put.ensures ∙ c.in_default.is)) in
+    let other = stage_none (readers_of w) opening own w.core old g.core c.args.tx.0 (put_not_reading f.table (done_in f.works c.args.tx.0) c.args.tx.0 c.args.row (sym c.not_put.ensures ∙ c.in_default.is)) in
     let is = subst (λ k. AreVersionsInOrder (state_of f.table) c.args.tx.0 c.args.tx.0 (versions_at f.versions.slots f.versions.lists k) → c.shown-found.result ≡ shown_in old c.args.tx.0 k) c.row_key-key.ensures c.shown-found.ensures in
     exists_answers (readers_of w) opening own w.core old g.core c.args.tx c.args.row other (sym c.not_put.ensures ∙ c.in_default.is) c.shown-found.result is (sym c.is_some.ensures ∙ c.if-is_some.true)
 
@@ -297,11 +326,11 @@ returns-in_err-insert_row-clause-whole c = λ opening steps own w h.
     let old : CoreData = core_data f in
     let now : CoreData = record old { works = c.prepare_insert.new.works } in
     let g : StandsWhole opening steps own w now = whole_same_works opening steps own w old (subst (StandsWhole opening steps own w) (sym c.self.view_is) h) c.prepare_insert.new.works c.prepare_insert.ensures.same in
-    let other = stage_none (readers_of w) opening own w.core now g.core c.args.tx.0 (put_not_reading f.table c.args.tx.0 c.args.row (sym c.not_put.ensures ∙ c.in_default.is)) in
+    let other = stage_none (readers_of w) opening own w.core now g.core c.args.tx.0 (put_not_reading f.table (done_in f.works c.args.tx.0) c.args.tx.0 c.args.row (sym c.not_put.ensures ∙ c.in_default.is)) in
     subst (λ r. LeadsWhole opening steps own w (CoreCall (Do c.args.tx.0 (Insert c.args.row))) r (record now { versions = c.insert_row.new.versions; table = c.insert_row.new.table }))
     (came_spent c.from_residual-in_err-insert_row.result c.from_residual-in_err-insert_row.ensures.1)
     (others_lead opening steps own w (Do c.args.tx.0 (Insert c.args.row)) _ now _ g other tt
-    (insert_spent_same (readers_of w) opening own w.core now g.core c.args.tx c.args.row other (sym c.not_put.ensures ∙ c.in_default.is) c.insert_row.new.versions c.in_err-insert_row.ensures.err
+    (insert_spent_same (readers_of w) opening own w.core now g.core c.args.tx c.args.row other (ap (λ (z : WorkContent). why_not_put c.self.inside.table z.history c.args.tx.0 c.args.row) (c.prepare_insert.ensures.same c.args.tx.0) ∙ sym c.not_put.ensures ∙ c.in_default.is) c.insert_row.new.versions c.in_err-insert_row.ensures.err
     c.insert_row.ensures.indexed c.insert_row.new.table c.in_err-insert_row.ensures.alone))
 
 pub returns-clause-whole : goal.returns-clause-whole
@@ -310,10 +339,10 @@ returns-clause-whole c = λ opening steps own w h.
     let old : CoreData = core_data f in
     let now : CoreData = record old { works = c.prepare_insert.new.works } in
     let g : StandsWhole opening steps own w now = whole_same_works opening steps own w old (subst (StandsWhole opening steps own w) (sym c.self.view_is) h) c.prepare_insert.new.works c.prepare_insert.ensures.same in
-    let other = stage_none (readers_of w) opening own w.core now g.core c.args.tx.0 (put_not_reading f.table c.args.tx.0 c.args.row (sym c.not_put.ensures ∙ c.in_default.is)) in
+    let other = stage_none (readers_of w) opening own w.core now g.core c.args.tx.0 (put_not_reading f.table (done_in f.works c.args.tx.0) c.args.tx.0 c.args.row (sym c.not_put.ensures ∙ c.in_default.is)) in
     let is = subst (λ k. AreVersionsInOrder (state_of f.table) c.args.tx.0 c.args.tx.0 (versions_at f.versions.slots f.versions.lists k) → c.shown-found.result ≡ shown_in now c.args.tx.0 k) c.row_key-key.ensures c.shown-found.ensures in
     others_lead opening steps own w (Do c.args.tx.0 (Insert c.args.row)) _ now _ g other tt
-    (insert_leads (readers_of w) opening own w.core now g.core c.args.tx c.args.row other (sym c.not_put.ensures ∙ c.in_default.is) c.shown-found.result is (sym c.is_some.ensures ∙ c.if-is_some.false)
+    (insert_leads (readers_of w) opening own w.core now g.core c.args.tx c.args.row other (ap (λ (z : WorkContent). why_not_put c.self.inside.table z.history c.args.tx.0 c.args.row) (c.prepare_insert.ensures.same c.args.tx.0) ∙ sym c.not_put.ensures ∙ c.in_default.is) c.shown-found.result is (sym c.is_some.ensures ∙ c.if-is_some.false)
     c.insert_row.new.versions c.insert_row.new.table c.in_ok-insert_row.ensures.ok c.insert_row.ensures.indexed c.tell-2.new.self
     (record { next = c.in_ok-next.next; prepared = c.in_ok-next.ensures.next; told = c.tell-2.ensures.told }))
 
@@ -322,7 +351,7 @@ returns-clause-whole_answer c = λ opening steps own w h.
     let f = c.self.inside in
     let old : CoreData = core_data f in
     let g : StandsWhole opening steps own w old = subst (StandsWhole opening steps own w) (sym c.self.view_is) h in
-    let other = stage_none (readers_of w) opening own w.core old g.core c.args.tx.0 (put_not_reading f.table c.args.tx.0 c.args.row (sym c.not_put.ensures ∙ c.in_default.is)) in
+    let other = stage_none (readers_of w) opening own w.core old g.core c.args.tx.0 (put_not_reading f.table (done_in f.works c.args.tx.0) c.args.tx.0 c.args.row (sym c.not_put.ensures ∙ c.in_default.is)) in
     let is = subst (λ k. AreVersionsInOrder (state_of f.table) c.args.tx.0 c.args.tx.0 (versions_at f.versions.slots f.versions.lists k) → c.shown-found.result ≡ shown_in old c.args.tx.0 k) c.row_key-key.ensures c.shown-found.ensures in
     inserted_answers (readers_of w) opening own w.core old g.core c.args.tx c.args.row other (sym c.not_put.ensures ∙ c.in_default.is) c.shown-found.result is (sym c.is_some.ensures ∙ c.if-is_some.false)
 
@@ -332,10 +361,10 @@ returns-in_err-make_room-clause-whole c = λ opening steps own w h.
     let old : CoreData = core_data f in
     let now : CoreData = record old { works = c.prepare_insert.new.works } in
     let g : StandsWhole opening steps own w now = whole_same_works opening steps own w old (subst (StandsWhole opening steps own w) (sym c.self.view_is) h) c.prepare_insert.new.works c.prepare_insert.ensures.same in
-    let other = stage_none (readers_of w) opening own w.core now g.core c.args.tx.0 (put_not_reading f.table c.args.tx.0 c.args.row (sym c.not_put.ensures ∙ c.in_default.is)) in
+    let other = stage_none (readers_of w) opening own w.core now g.core c.args.tx.0 (put_not_reading f.table (done_in f.works c.args.tx.0) c.args.tx.0 c.args.row (sym c.not_put.ensures ∙ c.in_default.is)) in
     subst (λ r. LeadsWhole opening steps own w (CoreCall (Do c.args.tx.0 (Insert c.args.row))) r now) (came_spent c.from_residual-in_err-make_room.result c.from_residual-in_err-make_room.ensures.1)
     (others_lead opening steps own w (Do c.args.tx.0 (Insert c.args.row)) _ now _ g other tt
-    (insert_starved (readers_of w) opening own w.core now g.core c.args.tx c.args.row other (sym c.not_put.ensures ∙ c.in_default.is)))
+    (insert_starved (readers_of w) opening own w.core now g.core c.args.tx c.args.row other (ap (λ (z : WorkContent). why_not_put c.self.inside.table z.history c.args.tx.0 c.args.row) (c.prepare_insert.ensures.same c.args.tx.0) ∙ sym c.not_put.ensures ∙ c.in_default.is)))
 
 -- ---- how many versions there are then
 pub returns-in_err-insert_row-clause-count : goal.returns-in_err-insert_row-clause-count

@@ -7,14 +7,18 @@ use Rattle.mvo_theory.specs.Calls.Result.{Accepted, Refused}
 use Rattle.mvo_types.specs.declared.entry.Entry.TheVariants.{Key}
 use Rattle.mvo_core.specs.Readers.{no_readers}
 use Rattle.mvo_core.specs.Causes.{why_not_look}
+use Rattle.mvo_shared.specs.Kept.{WorkContent}
+use Rattle.mvo_core.specs.Own.{done_in}
 use Rattle.mvo_core.specs.Data.{CoreData}
 use Rattle.mvo_core.specs.View.{core_data}
 use Rattle.mvo_core.specs.Standing.{StandsFor}
 use Rattle.mvo_core.specs.Steps.{LeadsOn}
 use Rattle.mvo_core.proofs.WholeStands.{whole_stands_on}
+use Rattle.mvo_types.specs.AnswerData.AnswerData.{Found}
+use Rattle.mvo_core.proofs.Asked.{own_if_active, active_if_looked, may_look_failing}
 use Rattle.mvo_core.proofs.Refused.{came_spent}
 use Rattle.mvo_core.proofs.WorksHeld.{stands_same_works, whole_same_works}
-use Rattle.mvo_core.proofs.Reading.{read_refused, read_spent, read_spent_roomy, read_answers, read_leads, read_may_be_told, read_fits}
+use Rattle.mvo_core.proofs.Reading.{read_refused, read_spent, read_spent_roomy, read_answers, read_leads, read_may_be_told, read_fits, read_may_follow}
 use Rattle.mvo_core.specs.Keeping.{HasDoneAsMuch}
 use Rattle.mvo_core.proofs.Waits.{waits_alike, alike_written, alike_recorded}
 use Rattle.mvo_core.specs.WholeStanding.{readers_of, StandsWhole, LeadsWhole}
@@ -24,18 +28,33 @@ use Rattle.mvo_core.proofs.CausesTold.{MayLook}
 use Rattle.mvo_core.specs.Steps.{came}
 use Rattle.mvo_core.proofs.event_core.Core.read.Goals as goal
 
+pub give_up-requires : goal.give_up-requires
+give_up-requires c =
+    may_look_failing c.args.self.now.table (done_in c.args.self.now.works c.args.tx.0) c.args.tx.0 c.args.key.table (Key c.args.key) c.in-Some.refusal
+    (ap (λ (x : CoreData). why_not_look x.table (done_in x.works c.args.tx.0) c.args.tx.0 c.args.key.table (Key c.args.key)) (sym c.self.view_is) ∙ sym c.not_looked.ensures ∙ c.in-Some.is)
+
+pub record_answer-requires-clause-there : goal.record_answer-requires-clause-there
+record_answer-requires-clause-there c = own_if_active c.self.inside.table c.args.tx.0 (active_if_looked c.self.inside.table (done_in c.self.inside.works c.args.tx.0) c.args.tx.0 c.args.key.table (Key c.args.key) (sym c.not_looked.ensures ∙ c.in_default.is))
+
+pub record_answer-requires-clause-limits : goal.record_answer-requires-clause-limits
+record_answer-requires-clause-limits c =
+    let f = c.self.inside in
+    let i = c.self.invariant.stands in
+    let old : CoreData = core_data f in
+    read_may_follow (readers_of i.whole) i.opening i.own i.whole.core old i.stands.core c.args.tx c.args.key (may_look_whole i.opening i.steps i.own i.whole old i.stands c.args.tx.0 (Read c.args.key) c.args.key.table (Key c.args.key) refl (sym c.not_looked.ensures ∙ c.in_default.is)) (sym c.not_looked.ensures ∙ c.in_default.is) (Found c.in_ok-row.row)
+
 pub returns-in-Some-clause-step : goal.returns-in-Some-clause-step
 returns-in-Some-clause-step c = λ opening steps s h.
     subst (λ r. LeadsOn opening steps s (Do c.args.tx.0 (Read c.args.key)) (Refused r) c.give_up.new.self) (sym c.give_up.ensures.same)
     (read_refused no_readers opening steps s c.args.self.now h c.args.tx c.args.key tt c.in-Some.refusal
-    (ap (λ (x : CoreData). why_not_look x.table c.args.tx.0 c.args.key.table (Key c.args.key)) (sym c.self.view_is) ∙ sym c.not_looked.ensures ∙ c.in-Some.is) c.give_up.new.self
+    (ap (λ (x : CoreData). why_not_look x.table (done_in x.works c.args.tx.0) c.args.tx.0 c.args.key.table (Key c.args.key)) (sym c.self.view_is) ∙ sym c.not_looked.ensures ∙ c.in-Some.is) c.give_up.new.self
     (c.give_up.ensures.left no_readers opening steps s refl h))
 
 pub returns-in_err-row-clause-step : goal.returns-in_err-row-clause-step
 returns-in_err-row-clause-step c = λ opening steps s h.
     subst (λ r. LeadsOn opening steps s (Do c.args.tx.0 (Read c.args.key)) r c.args.self.now) (came_spent c.from_residual.result c.from_residual.ensures.1)
     (read_spent no_readers opening steps s c.args.self.now h c.args.tx c.args.key tt
-    (ap (λ (x : CoreData). why_not_look x.table c.args.tx.0 c.args.key.table (Key c.args.key)) (sym c.self.view_is) ∙ sym c.not_looked.ensures ∙ c.in_default.is))
+    (ap (λ (x : CoreData). why_not_look x.table (done_in x.works c.args.tx.0) c.args.tx.0 c.args.key.table (Key c.args.key)) (sym c.self.view_is) ∙ sym c.not_looked.ensures ∙ c.in_default.is))
 
 pub prepare-requires : goal.prepare-requires
 prepare-requires c =
@@ -55,9 +74,9 @@ invariant_of-self c =
     record {
       stands =
           whole_stands_on i (CoreCall (Do c.args.tx.0 (Read c.args.key))) (Refused OutOfMemory) now
-          (let looks = may_look_whole i.opening i.steps i.own i.whole now g c.args.tx.0 (Read c.args.key) c.args.key.table (Key c.args.key) refl (sym c.not_looked.ensures ∙ c.in_default.is) in
-          (look_spent i.opening i.steps i.own i.whole now g c.args.tx.0 (Read c.args.key) c.args.key.table (Key c.args.key) refl (sym c.not_looked.ensures ∙ c.in_default.is) _
-          (read_spent (readers_of i.whole) i.opening i.own i.whole.core now g.core c.args.tx c.args.key looks (sym c.not_looked.ensures ∙ c.in_default.is))));
+          (let looks = may_look_whole i.opening i.steps i.own i.whole now g c.args.tx.0 (Read c.args.key) c.args.key.table (Key c.args.key) refl (ap (λ (z : WorkContent). why_not_look c.self.inside.table z.history c.args.tx.0 c.args.key.table (Key c.args.key)) (c.prepare.ensures.same c.args.tx.0) ∙ sym c.not_looked.ensures ∙ c.in_default.is) in
+          (look_spent i.opening i.steps i.own i.whole now g c.args.tx.0 (Read c.args.key) c.args.key.table (Key c.args.key) refl (ap (λ (z : WorkContent). why_not_look c.self.inside.table z.history c.args.tx.0 c.args.key.table (Key c.args.key)) (c.prepare.ensures.same c.args.tx.0) ∙ sym c.not_looked.ensures ∙ c.in_default.is) _
+          (read_spent (readers_of i.whole) i.opening i.own i.whole.core now g.core c.args.tx c.args.key looks (ap (λ (z : WorkContent). why_not_look c.self.inside.table z.history c.args.tx.0 c.args.key.table (Key c.args.key)) (c.prepare.ensures.same c.args.tx.0) ∙ sym c.not_looked.ensures ∙ c.in_default.is))));
       waiting = c.self.invariant.waiting;
     }
 
@@ -67,7 +86,7 @@ returns-in_err-next-clause-step c = λ opening steps s h.
     let old : CoreData = core_data f in
     let now : CoreData = record old { works = c.prepare.new.works } in
     subst (λ r. LeadsOn opening steps s (Do c.args.tx.0 (Read c.args.key)) r now) (came_spent c.from_residual-in_err-next.result c.from_residual-in_err-next.ensures.1)
-    (read_spent no_readers opening steps s now (stands_same_works no_readers opening steps s old (subst (StandsFor opening steps s) (sym c.self.view_is) h) c.prepare.new.works c.prepare.ensures.same) c.args.tx c.args.key tt (sym c.not_looked.ensures ∙ c.in_default.is))
+    (read_spent no_readers opening steps s now (stands_same_works no_readers opening steps s old (subst (StandsFor opening steps s) (sym c.self.view_is) h) c.prepare.new.works c.prepare.ensures.same) c.args.tx c.args.key tt (ap (λ (z : WorkContent). why_not_look c.self.inside.table z.history c.args.tx.0 c.args.key.table (Key c.args.key)) (c.prepare.ensures.same c.args.tx.0) ∙ sym c.not_looked.ensures ∙ c.in_default.is))
 
 pub returns-in_err-next-clause-whole : goal.returns-in_err-next-clause-whole
 returns-in_err-next-clause-whole c = λ opening steps own w h.
@@ -75,10 +94,10 @@ returns-in_err-next-clause-whole c = λ opening steps own w h.
     let old : CoreData = core_data f in
     let now : CoreData = record old { works = c.prepare.new.works } in
     let g : StandsWhole opening steps own w now = whole_same_works opening steps own w old (subst (StandsWhole opening steps own w) (sym c.self.view_is) h) c.prepare.new.works c.prepare.ensures.same in
-    let looks = may_look_whole opening steps own w now g c.args.tx.0 (Read c.args.key) c.args.key.table (Key c.args.key) refl (sym c.not_looked.ensures ∙ c.in_default.is) in
+    let looks = may_look_whole opening steps own w now g c.args.tx.0 (Read c.args.key) c.args.key.table (Key c.args.key) refl (ap (λ (z : WorkContent). why_not_look c.self.inside.table z.history c.args.tx.0 c.args.key.table (Key c.args.key)) (c.prepare.ensures.same c.args.tx.0) ∙ sym c.not_looked.ensures ∙ c.in_default.is) in
     subst (λ r. LeadsWhole opening steps own w (CoreCall (Do c.args.tx.0 (Read c.args.key))) r now) (came_spent c.from_residual-in_err-next.result c.from_residual-in_err-next.ensures.1)
-    (look_spent opening steps own w now g c.args.tx.0 (Read c.args.key) c.args.key.table (Key c.args.key) refl (sym c.not_looked.ensures ∙ c.in_default.is) _
-    (read_spent (readers_of w) opening own w.core now g.core c.args.tx c.args.key looks (sym c.not_looked.ensures ∙ c.in_default.is)))
+    (look_spent opening steps own w now g c.args.tx.0 (Read c.args.key) c.args.key.table (Key c.args.key) refl (ap (λ (z : WorkContent). why_not_look c.self.inside.table z.history c.args.tx.0 c.args.key.table (Key c.args.key)) (c.prepare.ensures.same c.args.tx.0) ∙ sym c.not_looked.ensures ∙ c.in_default.is) _
+    (read_spent (readers_of w) opening own w.core now g.core c.args.tx c.args.key looks (ap (λ (z : WorkContent). why_not_look c.self.inside.table z.history c.args.tx.0 c.args.key.table (Key c.args.key)) (c.prepare.ensures.same c.args.tx.0) ∙ sym c.not_looked.ensures ∙ c.in_default.is)))
 
 pub tell-requires : goal.tell-requires
 tell-requires c =
@@ -87,8 +106,8 @@ tell-requires c =
     let old : CoreData = core_data f in
     let now : CoreData = record old { works = c.prepare.new.works } in
     let g : StandsWhole i.opening i.steps i.own i.whole now = whole_same_works i.opening i.steps i.own i.whole old i.stands c.prepare.new.works c.prepare.ensures.same in
-    let looks = may_look_whole i.opening i.steps i.own i.whole now g c.args.tx.0 (Read c.args.key) c.args.key.table (Key c.args.key) refl (sym c.not_looked.ensures ∙ c.in_default.is) in
-    read_may_be_told (readers_of i.whole) i.opening i.own i.whole.core now g.core c.args.tx c.args.key looks (sym c.not_looked.ensures ∙ c.in_default.is) _ c.in_ok-next.next c.in_ok-next.ensures.next
+    let looks = may_look_whole i.opening i.steps i.own i.whole now g c.args.tx.0 (Read c.args.key) c.args.key.table (Key c.args.key) refl (ap (λ (z : WorkContent). why_not_look c.self.inside.table z.history c.args.tx.0 c.args.key.table (Key c.args.key)) (c.prepare.ensures.same c.args.tx.0) ∙ sym c.not_looked.ensures ∙ c.in_default.is) in
+    read_may_be_told (readers_of i.whole) i.opening i.own i.whole.core now g.core c.args.tx c.args.key looks (ap (λ (z : WorkContent). why_not_look c.self.inside.table z.history c.args.tx.0 c.args.key.table (Key c.args.key)) (c.prepare.ensures.same c.args.tx.0) ∙ sym c.not_looked.ensures ∙ c.in_default.is) _ c.in_ok-next.next c.in_ok-next.ensures.next
 
 pub invariant_of-self-in_err-record_answer : goal.invariant_of-self-in_err-record_answer
 invariant_of-self-in_err-record_answer c =
@@ -100,9 +119,9 @@ invariant_of-self-in_err-record_answer c =
     record {
       stands =
           whole_stands_on i (CoreCall (Do c.args.tx.0 (Read c.args.key))) (Refused OutOfMemory) (record now { table = c.record_answer.new.table })
-          (let looks = may_look_whole i.opening i.steps i.own i.whole now g c.args.tx.0 (Read c.args.key) c.args.key.table (Key c.args.key) refl (sym c.not_looked.ensures ∙ c.in_default.is) in
-          (look_spent i.opening i.steps i.own i.whole now g c.args.tx.0 (Read c.args.key) c.args.key.table (Key c.args.key) refl (sym c.not_looked.ensures ∙ c.in_default.is) _
-          (read_spent_roomy (readers_of i.whole) i.opening i.own i.whole.core now g.core c.args.tx c.args.key looks (sym c.not_looked.ensures ∙ c.in_default.is) c.record_answer.new.table c.in_err-record_answer.ensures.err)));
+          (let looks = may_look_whole i.opening i.steps i.own i.whole now g c.args.tx.0 (Read c.args.key) c.args.key.table (Key c.args.key) refl (ap (λ (z : WorkContent). why_not_look c.self.inside.table z.history c.args.tx.0 c.args.key.table (Key c.args.key)) (c.prepare.ensures.same c.args.tx.0) ∙ sym c.not_looked.ensures ∙ c.in_default.is) in
+          (look_spent i.opening i.steps i.own i.whole now g c.args.tx.0 (Read c.args.key) c.args.key.table (Key c.args.key) refl (ap (λ (z : WorkContent). why_not_look c.self.inside.table z.history c.args.tx.0 c.args.key.table (Key c.args.key)) (c.prepare.ensures.same c.args.tx.0) ∙ sym c.not_looked.ensures ∙ c.in_default.is) _
+          (read_spent_roomy (readers_of i.whole) i.opening i.own i.whole.core now g.core c.args.tx c.args.key looks (ap (λ (z : WorkContent). why_not_look c.self.inside.table z.history c.args.tx.0 c.args.key.table (Key c.args.key)) (c.prepare.ensures.same c.args.tx.0) ∙ sym c.not_looked.ensures ∙ c.in_default.is) c.record_answer.new.table c.in_err-record_answer.ensures.err)));
       waiting = waits_alike f.table c.record_answer.new.table f.versions.slots f.waiting (alike_written f.table c.record_answer.new.table c.args.tx.0 HasDoneAsMuch c.in_err-record_answer.ensures.err) c.self.invariant.waiting;
     }
 
@@ -112,7 +131,7 @@ returns-in_err-record_answer-clause-step c = λ opening steps s h.
     let old : CoreData = core_data f in
     let now : CoreData = record old { works = c.prepare.new.works } in
     subst (λ r. LeadsOn opening steps s (Do c.args.tx.0 (Read c.args.key)) r (record now { table = c.record_answer.new.table })) (came_spent c.from_residual-in_err-record_answer.result c.from_residual-in_err-record_answer.ensures.1)
-    (read_spent_roomy no_readers opening steps s now (stands_same_works no_readers opening steps s old (subst (StandsFor opening steps s) (sym c.self.view_is) h) c.prepare.new.works c.prepare.ensures.same) c.args.tx c.args.key tt (sym c.not_looked.ensures ∙ c.in_default.is) c.record_answer.new.table c.in_err-record_answer.ensures.err)
+    (read_spent_roomy no_readers opening steps s now (stands_same_works no_readers opening steps s old (subst (StandsFor opening steps s) (sym c.self.view_is) h) c.prepare.new.works c.prepare.ensures.same) c.args.tx c.args.key tt (ap (λ (z : WorkContent). why_not_look c.self.inside.table z.history c.args.tx.0 c.args.key.table (Key c.args.key)) (c.prepare.ensures.same c.args.tx.0) ∙ sym c.not_looked.ensures ∙ c.in_default.is) c.record_answer.new.table c.in_err-record_answer.ensures.err)
 
 pub invariant_of-self-2 : goal.invariant_of-self-2
 invariant_of-self-2 c =
@@ -124,9 +143,9 @@ invariant_of-self-2 c =
     record {
       stands =
           whole_stands_on i (CoreCall (Do c.args.tx.0 (Read c.args.key))) Accepted (record now { table = c.record_answer.new.table; works = c.tell.new.self })
-          (let looks = may_look_whole i.opening i.steps i.own i.whole now g c.args.tx.0 (Read c.args.key) c.args.key.table (Key c.args.key) refl (sym c.not_looked.ensures ∙ c.in_default.is) in
-          look_leads i.opening i.steps i.own i.whole now g c.args.tx.0 (Read c.args.key) c.args.key.table (Key c.args.key) refl (sym c.not_looked.ensures ∙ c.in_default.is) _
-          (read_leads (readers_of i.whole) i.opening i.own i.whole.core now g.core c.args.tx c.args.key looks (sym c.not_looked.ensures ∙ c.in_default.is) c.shown-found.result c.shown-found.ensures c.in_ok-row.row
+          (let looks = may_look_whole i.opening i.steps i.own i.whole now g c.args.tx.0 (Read c.args.key) c.args.key.table (Key c.args.key) refl (ap (λ (z : WorkContent). why_not_look c.self.inside.table z.history c.args.tx.0 c.args.key.table (Key c.args.key)) (c.prepare.ensures.same c.args.tx.0) ∙ sym c.not_looked.ensures ∙ c.in_default.is) in
+          look_leads i.opening i.steps i.own i.whole now g c.args.tx.0 (Read c.args.key) c.args.key.table (Key c.args.key) refl (ap (λ (z : WorkContent). why_not_look c.self.inside.table z.history c.args.tx.0 c.args.key.table (Key c.args.key)) (c.prepare.ensures.same c.args.tx.0) ∙ sym c.not_looked.ensures ∙ c.in_default.is) _
+          (read_leads (readers_of i.whole) i.opening i.own i.whole.core now g.core c.args.tx c.args.key looks (ap (λ (z : WorkContent). why_not_look c.self.inside.table z.history c.args.tx.0 c.args.key.table (Key c.args.key)) (c.prepare.ensures.same c.args.tx.0) ∙ sym c.not_looked.ensures ∙ c.in_default.is) c.shown-found.result c.shown-found.ensures c.in_ok-row.row
           c.in_ok-row.ensures c.record_answer.new.table c.in_ok-record_answer.ensures.ok c.tell.new.self
           (record { next = c.in_ok-next.next; prepared = c.in_ok-next.ensures.next; told = c.tell.ensures.told })));
       waiting = waits_alike f.table c.record_answer.new.table f.versions.slots f.waiting (alike_recorded f.table c.record_answer.new.table c.args.tx _ _ _ c.in_ok-record_answer.ensures.ok) c.self.invariant.waiting;
@@ -137,7 +156,7 @@ returns-clause-step c = λ opening steps s h.
     let f = c.self.inside in
     let old : CoreData = core_data f in
     let now : CoreData = record old { works = c.prepare.new.works } in
-    read_leads no_readers opening steps s now (stands_same_works no_readers opening steps s old (subst (StandsFor opening steps s) (sym c.self.view_is) h) c.prepare.new.works c.prepare.ensures.same) c.args.tx c.args.key tt (sym c.not_looked.ensures ∙ c.in_default.is) c.shown-found.result c.shown-found.ensures c.in_ok-row.row
+    read_leads no_readers opening steps s now (stands_same_works no_readers opening steps s old (subst (StandsFor opening steps s) (sym c.self.view_is) h) c.prepare.new.works c.prepare.ensures.same) c.args.tx c.args.key tt (ap (λ (z : WorkContent). why_not_look c.self.inside.table z.history c.args.tx.0 c.args.key.table (Key c.args.key)) (c.prepare.ensures.same c.args.tx.0) ∙ sym c.not_looked.ensures ∙ c.in_default.is) c.shown-found.result c.shown-found.ensures c.in_ok-row.row
     c.in_ok-row.ensures c.record_answer.new.table c.in_ok-record_answer.ensures.ok c.tell.new.self
     (record { next = c.in_ok-next.next; prepared = c.in_ok-next.ensures.next; told = c.tell.ensures.told })
 
@@ -146,16 +165,16 @@ returns-clause-answer c = λ opening steps s h.
     let f = c.self.inside in
     let old : CoreData = core_data f in
     let now : CoreData = record old { works = c.prepare.new.works } in
-    read_answers no_readers opening steps s now (stands_same_works no_readers opening steps s old (subst (StandsFor opening steps s) (sym c.self.view_is) h) c.prepare.new.works c.prepare.ensures.same) c.args.tx c.args.key tt (sym c.not_looked.ensures ∙ c.in_default.is) c.shown-found.result c.shown-found.ensures c.in_ok-next.next c.in_ok-next.ensures.next (answer_data c.tell.result) c.tell.ensures.answer
+    read_answers no_readers opening steps s now (stands_same_works no_readers opening steps s old (subst (StandsFor opening steps s) (sym c.self.view_is) h) c.prepare.new.works c.prepare.ensures.same) c.args.tx c.args.key tt (ap (λ (z : WorkContent). why_not_look c.self.inside.table z.history c.args.tx.0 c.args.key.table (Key c.args.key)) (c.prepare.ensures.same c.args.tx.0) ∙ sym c.not_looked.ensures ∙ c.in_default.is) c.shown-found.result c.shown-found.ensures c.in_ok-next.next c.in_ok-next.ensures.next (answer_data c.tell.result) c.tell.ensures.answer
 
 -- ---- beside read-only ones
 pub returns-in-Some-clause-whole : goal.returns-in-Some-clause-whole
 returns-in-Some-clause-whole c = λ opening steps own w h.
     subst (λ r. LeadsWhole opening steps own w (CoreCall (Do c.args.tx.0 (Read c.args.key))) (Refused r) c.give_up.new.self) (sym c.give_up.ensures.same)
     (look_refused opening steps own w c.args.self.now h c.args.tx.0 (Read c.args.key) c.args.key.table (Key c.args.key) refl c.in-Some.refusal
-    (ap (λ (x : CoreData). why_not_look x.table c.args.tx.0 c.args.key.table (Key c.args.key)) (sym c.self.view_is) ∙ sym c.not_looked.ensures ∙ c.in-Some.is)
+    (ap (λ (x : CoreData). why_not_look x.table (done_in x.works c.args.tx.0) c.args.tx.0 c.args.key.table (Key c.args.key)) (sym c.self.view_is) ∙ sym c.not_looked.ensures ∙ c.in-Some.is)
     c.give_up.new.self c.give_up.ensures.reader (λ other. read_refused (readers_of w) opening own w.core c.args.self.now h.core c.args.tx c.args.key (subst MayLook (sym other) tt) c.in-Some.refusal
-    (ap (λ (x : CoreData). why_not_look x.table c.args.tx.0 c.args.key.table (Key c.args.key)) (sym c.self.view_is) ∙ sym c.not_looked.ensures ∙ c.in-Some.is) c.give_up.new.self
+    (ap (λ (x : CoreData). why_not_look x.table (done_in x.works c.args.tx.0) c.args.tx.0 c.args.key.table (Key c.args.key)) (sym c.self.view_is) ∙ sym c.not_looked.ensures ∙ c.in-Some.is) c.give_up.new.self
     (c.give_up.ensures.left (readers_of w) opening own w.core other h.core)))
 
 pub returns-in_err-row-clause-whole : goal.returns-in_err-row-clause-whole
@@ -176,10 +195,10 @@ returns-in_err-record_answer-clause-whole c = λ opening steps own w h.
     let old : CoreData = core_data f in
     let now : CoreData = record old { works = c.prepare.new.works } in
     let g : StandsWhole opening steps own w now = whole_same_works opening steps own w old (subst (StandsWhole opening steps own w) (sym c.self.view_is) h) c.prepare.new.works c.prepare.ensures.same in
-    let looks = may_look_whole opening steps own w now g c.args.tx.0 (Read c.args.key) c.args.key.table (Key c.args.key) refl (sym c.not_looked.ensures ∙ c.in_default.is) in
+    let looks = may_look_whole opening steps own w now g c.args.tx.0 (Read c.args.key) c.args.key.table (Key c.args.key) refl (ap (λ (z : WorkContent). why_not_look c.self.inside.table z.history c.args.tx.0 c.args.key.table (Key c.args.key)) (c.prepare.ensures.same c.args.tx.0) ∙ sym c.not_looked.ensures ∙ c.in_default.is) in
     subst (λ r. LeadsWhole opening steps own w (CoreCall (Do c.args.tx.0 (Read c.args.key))) r (record now { table = c.record_answer.new.table })) (came_spent c.from_residual-in_err-record_answer.result c.from_residual-in_err-record_answer.ensures.1)
-    (look_spent opening steps own w now g c.args.tx.0 (Read c.args.key) c.args.key.table (Key c.args.key) refl (sym c.not_looked.ensures ∙ c.in_default.is) _
-    (read_spent_roomy (readers_of w) opening own w.core now g.core c.args.tx c.args.key looks (sym c.not_looked.ensures ∙ c.in_default.is) c.record_answer.new.table c.in_err-record_answer.ensures.err))
+    (look_spent opening steps own w now g c.args.tx.0 (Read c.args.key) c.args.key.table (Key c.args.key) refl (ap (λ (z : WorkContent). why_not_look c.self.inside.table z.history c.args.tx.0 c.args.key.table (Key c.args.key)) (c.prepare.ensures.same c.args.tx.0) ∙ sym c.not_looked.ensures ∙ c.in_default.is) _
+    (read_spent_roomy (readers_of w) opening own w.core now g.core c.args.tx c.args.key looks (ap (λ (z : WorkContent). why_not_look c.self.inside.table z.history c.args.tx.0 c.args.key.table (Key c.args.key)) (c.prepare.ensures.same c.args.tx.0) ∙ sym c.not_looked.ensures ∙ c.in_default.is) c.record_answer.new.table c.in_err-record_answer.ensures.err))
 
 pub returns-clause-whole : goal.returns-clause-whole
 returns-clause-whole c = λ opening steps own w h.
@@ -187,9 +206,9 @@ returns-clause-whole c = λ opening steps own w h.
     let old : CoreData = core_data f in
     let now : CoreData = record old { works = c.prepare.new.works } in
     let g : StandsWhole opening steps own w now = whole_same_works opening steps own w old (subst (StandsWhole opening steps own w) (sym c.self.view_is) h) c.prepare.new.works c.prepare.ensures.same in
-    let looks = may_look_whole opening steps own w now g c.args.tx.0 (Read c.args.key) c.args.key.table (Key c.args.key) refl (sym c.not_looked.ensures ∙ c.in_default.is) in
-    look_leads opening steps own w now g c.args.tx.0 (Read c.args.key) c.args.key.table (Key c.args.key) refl (sym c.not_looked.ensures ∙ c.in_default.is) _
-    (read_leads (readers_of w) opening own w.core now g.core c.args.tx c.args.key looks (sym c.not_looked.ensures ∙ c.in_default.is) c.shown-found.result c.shown-found.ensures c.in_ok-row.row
+    let looks = may_look_whole opening steps own w now g c.args.tx.0 (Read c.args.key) c.args.key.table (Key c.args.key) refl (ap (λ (z : WorkContent). why_not_look c.self.inside.table z.history c.args.tx.0 c.args.key.table (Key c.args.key)) (c.prepare.ensures.same c.args.tx.0) ∙ sym c.not_looked.ensures ∙ c.in_default.is) in
+    look_leads opening steps own w now g c.args.tx.0 (Read c.args.key) c.args.key.table (Key c.args.key) refl (ap (λ (z : WorkContent). why_not_look c.self.inside.table z.history c.args.tx.0 c.args.key.table (Key c.args.key)) (c.prepare.ensures.same c.args.tx.0) ∙ sym c.not_looked.ensures ∙ c.in_default.is) _
+    (read_leads (readers_of w) opening own w.core now g.core c.args.tx c.args.key looks (ap (λ (z : WorkContent). why_not_look c.self.inside.table z.history c.args.tx.0 c.args.key.table (Key c.args.key)) (c.prepare.ensures.same c.args.tx.0) ∙ sym c.not_looked.ensures ∙ c.in_default.is) c.shown-found.result c.shown-found.ensures c.in_ok-row.row
     c.in_ok-row.ensures c.record_answer.new.table c.in_ok-record_answer.ensures.ok c.tell.new.self
     (record { next = c.in_ok-next.next; prepared = c.in_ok-next.ensures.next; told = c.tell.ensures.told }))
 
@@ -199,5 +218,5 @@ returns-clause-whole_answer c = λ opening steps own w h.
     let old : CoreData = core_data f in
     let now : CoreData = record old { works = c.prepare.new.works } in
     let g : StandsWhole opening steps own w now = whole_same_works opening steps own w old (subst (StandsWhole opening steps own w) (sym c.self.view_is) h) c.prepare.new.works c.prepare.ensures.same in
-    let looks = may_look_whole opening steps own w now g c.args.tx.0 (Read c.args.key) c.args.key.table (Key c.args.key) refl (sym c.not_looked.ensures ∙ c.in_default.is) in
-    read_answers (readers_of w) opening own w.core now g.core c.args.tx c.args.key looks (sym c.not_looked.ensures ∙ c.in_default.is) c.shown-found.result c.shown-found.ensures c.in_ok-next.next c.in_ok-next.ensures.next (answer_data c.tell.result) c.tell.ensures.answer
+    let looks = may_look_whole opening steps own w now g c.args.tx.0 (Read c.args.key) c.args.key.table (Key c.args.key) refl (ap (λ (z : WorkContent). why_not_look c.self.inside.table z.history c.args.tx.0 c.args.key.table (Key c.args.key)) (c.prepare.ensures.same c.args.tx.0) ∙ sym c.not_looked.ensures ∙ c.in_default.is) in
+    read_answers (readers_of w) opening own w.core now g.core c.args.tx c.args.key looks (ap (λ (z : WorkContent). why_not_look c.self.inside.table z.history c.args.tx.0 c.args.key.table (Key c.args.key)) (c.prepare.ensures.same c.args.tx.0) ∙ sym c.not_looked.ensures ∙ c.in_default.is) c.shown-found.result c.shown-found.ensures c.in_ok-next.next c.in_ok-next.ensures.next (answer_data c.tell.result) c.tell.ensures.answer
