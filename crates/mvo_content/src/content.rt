@@ -1,5 +1,5 @@
 ghost use Rattle.std.specs.Prelude.{◌≡◌, ◌++◌, ◌∷◌, [], ◌<◌, false, true, IfOk, OnOk, OnErr, option_copied};
-ghost use Rattle.std.specs.Prelude.{◌≤◌, length, slice_get, vec_len, vec_capacity};
+ghost use Rattle.std.specs.Prelude.{◌≤◌, ◌==◌, not, length, slice_get, vec_len, vec_capacity};
 ghost use Rattle.std.specs.Option.{option_map};
 ghost use Rattle.mvo_types.specs.declared.limits.TheConstants.{MAX_ENTRIES};
 ghost use Rattle.std.specs.FinMap as map;
@@ -10,7 +10,7 @@ ghost use Rattle.mvo_model.specs.History.{after_history};
 ghost use Rattle.mvo_model.specs.Serial.{answer_to, scan};
 ghost use Rattle.mvo_theory.specs.Told.{history_told};
 ghost use Rattle.mvo_theory.specs.Causes.{is_entry_too_many, is_write_too_many};
-ghost use Rattle.mvo_theory.specs.Entries.{entry_of};
+ghost use Rattle.mvo_theory.specs.Entries.{entry_of, written_keys};
 ghost use Rattle.mvo_shared.specs.Kept.{IsWork, IsOrdered};
 ghost use Rattle.mvo_shared.specs.Kept.{map_of_rows, with_looked, answer_kept, after_op};
 ghost use Rattle.mvo_theory.specs.Limits.{AreLimited};
@@ -128,6 +128,13 @@ impl WorkContent {
             Some(_) => false,
             None => self.left.len() >= MAX_WRITES,
         }
+    }
+
+    /// Whether it has written.
+    pub fn has_writes(&self) -> bool
+        ensures { result ≡ not (length (written_keys self.now.history) == 0) }
+    {
+        !self.left.is_empty()
     }
 
     /// Takes an empty list for its operations, unless its own has memory. Nothing is done by it.
