@@ -10,13 +10,12 @@ use Rattle.mvo_pair.specs.declared.data.TheConstants.{DATA_MAGIC}
 use Rattle.mvo_pair.specs.declared.pair.Pair.{Pair}
 use Rattle.mvo_pair.specs.declared.unread.Unread.{Unread}
 use Rattle.mvo_pair.specs.declared.unread.Unread.TheVariants.{Memory, Broken, OtherVersion}
-use Rattle.mvo_pair.specs.Answers.{FoundOrUnread, IsOnly, file_refusal}
+use Rattle.mvo_pair.specs.Answers.{FoundOrUnread, file_refusal}
 use Rattle.mvo_pair.specs.Data.{EntryData, Numbered, live_of}
 use Rattle.mvo_pair.specs.Flags.{AreFlags, live_one}
-use Rattle.mvo_pair.specs.Loading.{LoadsAs}
-use Rattle.mvo_pair.specs.Reading.{read_then, of_file, number_in, known_kept, format_header_found, entries_found, data_found, delta_found, live_found, pair_found, has, IsBytes}
-use Rattle.mvo_pair.specs.Coming.{entries_behind, unflagged, PairReadingData, unless_refused, to_come, at_start, AreNamed, BeginsSo, IsBegun, IsNotBegun}
-use Rattle.mvo_pair.proofs.Loads.{Fits, entries_break, entries_len, stops_there, only_at, loads}
+use Rattle.mvo_pair.specs.Reading.{read_then, of_file, number_in, known_kept, format_header_found, entries_found, data_found, delta_found, live_found, pair_found, has}
+use Rattle.mvo_pair.specs.Coming.{entries_behind, unflagged, PairReadingData, unless_refused, to_come, at_start, AreNamed, IsBegun, IsNotBegun, FoundIsLoaded}
+use Rattle.mvo_pair.proofs.Loads.{Fits, entries_break, entries_len, stops_there, loads, loads_again}
 use Rattle.mvo_pair.proofs.Places.{no_room, none_found}
 use Rattle.mvo_pair.proofs.Lives.{live_from, one_more}
 use Rattle.mvo_pair.proofs.Coming.{one_by_one}
@@ -106,12 +105,15 @@ pub are_refused : (f : Format) (p : Pair) (delta : List ℕ) (flags : List Bool)
 unfolding live_found
 are_refused f p delta flags u e is why es many = ap (λ q. read_then (of_file p.delta_file q) (λ ks. Ok (live_of ks es))) is ∙ ap Err (sym why)
 
-module _ (upto : ℕ) (p : Pair) (front delta : List ℕ) (fits : Fits p) (numbers : IsBytes delta) where
-  abbrev only : List ℕ → Result (List Numbered) Refusal → Type 0
-  only bytes x = IsOnly (LoadsAs upto p bytes delta) x
+pub found_is_loaded : (upto : ℕ) (p : Pair) → Fits p → FoundIsLoaded upto p
+found_is_loaded upto p fits = record {
+  only = λ bytes delta fit numbers. loads upto p bytes delta fits fit (λ d _. numbers);
+  live = λ bytes delta live h. loads_again upto p bytes delta live fits h;
+}
 
+module _ (upto : ℕ) (p : Pair) (front delta : List ℕ) where
   module _ (f : Format) (body : List ℕ) (head : format_header_found DATA_MAGIC upto front ≡ Ok (f, body)) where
-    module _ (bytes : List ℕ) (so : BeginsSo front bytes) (flags : List Bool) (refused : Option Refusal) where
+    module _ (bytes : List ℕ) (so : take 8 bytes ≡ take 8 front) (flags : List Bool) (refused : Option Refusal) where
       abbrev rest : List ℕ
       rest = drop 8 bytes
 
@@ -123,7 +125,7 @@ module _ (upto : ℕ) (p : Pair) (front delta : List ℕ) (fits : Fits p) (numbe
 
       data_is : data_found upto p.lo.0 p.hi.0 p.records bytes ≡ read_then (entries_found f p.lo.0 p.hi.0 p.records rest) (λ es. Ok (f, es))
       unfolding data_found
-      data_is = ap (λ q. read_then q (λ x. read_then (entries_found x.0 p.lo.0 p.hi.0 p.records x.1) (λ es. Ok (x.0, es)))) (head_there DATA_MAGIC upto front bytes so.begins f body head)
+      data_is = ap (λ q. read_then q (λ x. read_then (entries_found x.0 p.lo.0 p.hi.0 p.records x.1) (λ es. Ok (x.0, es)))) (head_there DATA_MAGIC upto front bytes so f body head)
 
       by_entries : AreNamed f p delta flags refused → (x : FoundOrUnread (List EntryData)) → entries_found f p.lo.0 p.hi.0 p.records rest ≡ x → of_data (read_then x (λ es. Ok (f, es))) ≡ of_entries x
       by_entries flagged (Ok es) h = flagged es (entries_len f p.lo.0 p.hi.0 p.records rest es h)
@@ -142,15 +144,15 @@ module _ (upto : ℕ) (p : Pair) (front delta : List ℕ) (fits : Fits p) (numbe
         whole flagged = ap of_data data_is ∙ by_entries flagged (entries_found f p.lo.0 p.hi.0 p.records rest) refl ∙ comes
 
     pub begun : (flags : List Bool) (refused : Option Refusal) (r : PairReadingData) → r ≡ record { pair = p; format = f; named = flags; refused = refused } → AreNamed f p delta flags refused → IsBegun upto p front delta r
-    begun flags refused r is flagged bytes so = only_at (LoadsAs upto p bytes delta) _ _ (whole bytes so flags refused r is flagged) (loads upto p bytes delta fits so.bytes (λ d _. numbers))
+    begun flags refused r is flagged bytes so = whole bytes so flags refused r is flagged
 
     pub too_many : (len : ℕ) → (len - 8) / 27 < p.records → IsNotBegun upto p len front delta (Corrupt p.data_file)
     too_many len many bytes so short =
-        let there = head_there DATA_MAGIC upto front bytes so.begins f body head in
+        let there = head_there DATA_MAGIC upto front bytes so f body head in
         let rest = drop 8 bytes in
         let lacks = none_found rest f p.lo.0 p.hi.0 p.records (sym (no_room p.records rest (omega (arith, many, short, length-drop 8 bytes)))) in
         let found : data_found upto p.lo.0 p.hi.0 p.records bytes ≡ Err Broken = entries_break upto p.lo.0 p.hi.0 p.records bytes f rest there Broken lacks in
-        only_at (LoadsAs upto p bytes delta) _ (Err (Corrupt p.data_file)) (stops_there upto p bytes delta Broken (Corrupt p.data_file) refl found) (loads upto p bytes delta fits so.bytes (λ d _. numbers))
+        stops_there upto p bytes delta Broken (Corrupt p.data_file) refl found
 
   data_lacks : (bytes : List ℕ) (u : Unread) → format_header_found DATA_MAGIC upto bytes ≡ Err u → data_found upto p.lo.0 p.hi.0 p.records bytes ≡ Err u
   unfolding data_found
@@ -159,6 +161,6 @@ module _ (upto : ℕ) (p : Pair) (front delta : List ℕ) (fits : Fits p) (numbe
   pub not_begun : (len : ℕ) (u : Unread) (e : Refusal) → e ≡ file_refusal p.data_file u → (u ≡ Memory) ⊎ (format_header_found DATA_MAGIC upto front ≡ Err u) → (e ≡ OutOfMemory) ⊎ IsNotBegun upto p len front delta e
   not_begun len u e is (inl memory) = inl (is ∙ ap (file_refusal p.data_file) memory)
   not_begun len u e is (inr head) = inr (λ bytes so short.
-      let lacks = head_lacks DATA_MAGIC upto front bytes so.begins u head in
+      let lacks = head_lacks DATA_MAGIC upto front bytes so u head in
       let found = data_lacks bytes u lacks in
-      only_at (LoadsAs upto p bytes delta) _ (Err e) (stops_there upto p bytes delta u e is found) (loads upto p bytes delta fits so.bytes (λ d _. numbers)))
+      stops_there upto p bytes delta u e is found)

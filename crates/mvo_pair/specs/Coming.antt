@@ -15,7 +15,7 @@ use Rattle.mvo_pair.specs.Answers.{FoundOrUnread, IsOnly}
 use Rattle.mvo_pair.specs.Data.{EntryData, Numbered}
 use Rattle.mvo_pair.specs.Flags.{live_one}
 use Rattle.mvo_pair.specs.Loading.{LoadsAs}
-use Rattle.mvo_pair.specs.Reading.{read_then, of_file, entry_at, keeps, live_found, IsBytes}
+use Rattle.mvo_pair.specs.Reading.{read_then, of_file, entry_at, keeps, live_found, pair_found, IsBytes}
 
 -- ---- the records that come
 
@@ -113,21 +113,27 @@ after_record s e len = record { count = s.count + 1; place = s.place + len; last
 abbrev pub at_start : ReadSoFar
 at_start = record { count = 0; place = 8; last = None }
 
--- The data files that begin as these bytes do.
-pub record BeginsSo (front data_file_bytes : List ℕ) : Type 0 where
-  pub bytes : IsBytes data_file_bytes
-  pub begins : take 8 data_file_bytes ≡ take 8 front
-
--- The one answer for the pair's files is what comes behind the header.
+-- What is found of the pair, whatever stands in its data file, where that begins as these bytes do,
+-- is what comes behind the header.
 abbrev pub IsBegun : ℕ → Pair → List ℕ → List ℕ → PairReadingData → Type 0
-IsBegun upto p front delta r = (data_file_bytes : List ℕ) → BeginsSo front data_file_bytes →
-    IsOnly (LoadsAs upto p data_file_bytes delta) (to_come r at_start (drop 8 data_file_bytes))
+IsBegun upto p front delta r = (data_file_bytes : List ℕ) →
+    take 8 data_file_bytes ≡ take 8 front →
+    pair_found upto p data_file_bytes delta ≡ to_come r at_start (drop 8 data_file_bytes)
 
 -- It is this refusal, whatever stands in a data file of no more bytes than so many.
 abbrev pub IsNotBegun : ℕ → Pair → ℕ → List ℕ → List ℕ → Refusal → Type 0
 IsNotBegun upto p len front delta e = (data_file_bytes : List ℕ) →
-    BeginsSo front data_file_bytes → length data_file_bytes ≤ len →
-    IsOnly (LoadsAs upto p data_file_bytes delta) (Err e)
+    take 8 data_file_bytes ≡ take 8 front → length data_file_bytes ≤ len →
+    pair_found upto p data_file_bytes delta ≡ Err e
+
+-- What is found of a pair is the one answer that its files give; and live records that they give
+-- are found of it, whatever stands behind them.
+pub record FoundIsLoaded (upto : ℕ) (p : Pair) : Type 0 where
+  pub only : (data_file_bytes delta : List ℕ) → IsBytes data_file_bytes → IsBytes delta →
+      IsOnly (LoadsAs upto p data_file_bytes delta) (pair_found upto p data_file_bytes delta)
+  pub live : (data_file_bytes delta : List ℕ) (live : List Numbered) →
+      LoadsAs upto p data_file_bytes delta (Ok live) →
+      pair_found upto p data_file_bytes delta ≡ Ok live
 
 -- The first ones of these bytes are read, up to another place, and these live records are what
 -- comes of them: then comes what comes behind them.

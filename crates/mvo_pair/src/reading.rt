@@ -1,6 +1,6 @@
 //! Reads the data file of a pair in slices.
 ghost use Rattle.std.specs.Prelude.{◌≡◌, ◌≢◌, ◌⊎◌, ◌↔◌, ◌<◌, ◌≤◌, ◌+◌, ◌-◌, ◌/◌, ◌^◌, ◌&&◌, ℕ, List, IsTrue, IfOk, IfErr, MatchOption, length, drop};
-ghost use Rattle.mvo_pair.specs.Coming.{IsNext, IsBegun, IsNotBegun, IsReadOn, IsBroken, AreNamed, after_record, at_start, is_behind, nothing_more, to_come};
+ghost use Rattle.mvo_pair.specs.Coming.{IsNext, IsBegun, IsNotBegun, FoundIsLoaded, IsReadOn, IsBroken, AreNamed, after_record, at_start, is_behind, nothing_more, to_come};
 ghost use Rattle.mvo_pair.specs.Answers.{Tells, file_refusal};
 ghost use Rattle.mvo_pair.specs.Loading.{LoadsAs};
 ghost use Rattle.mvo_pair.specs.Reading.{Finds, keeps};
@@ -178,6 +178,7 @@ impl PairReading {
         delta: &[u8],
     ) -> Result<PairReading, Refusal>
         ensures begun { IfOk result (IsBegun upto pair front.now delta.now) }
+        ensures loaded { FoundIsLoaded upto pair }
         ensures pair { IfOk result (λ r. r.pair ≡ pair) }
         ensures refused { IfErr result (λ e. (e ≡ Refusal.OutOfMemory)
             ⊎ IsNotBegun upto pair data_len front.now delta.now e) }
