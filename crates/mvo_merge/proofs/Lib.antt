@@ -7,3 +7,4 @@ pub mod Late
 pub mod Kept
 pub mod Entries
 pub mod Placed
+pub mod SoFar

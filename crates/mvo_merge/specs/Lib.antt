@@ -1,3 +1,4 @@
 pub mod Merged
 pub mod Moved
+pub mod SoFar
 pub mod Laws

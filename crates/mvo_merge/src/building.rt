@@ -10,7 +10,7 @@ use mvo_types::MAX_PAIR_RECORDS;
 use std::alloc::{AllocError, Global};
 
 /// Appends the records without their numbers.
-fn add_records(records: &mut Vec<DataRecord>, live: Vec<Live>) -> Result<(), AllocError>
+pub fn add_records(records: &mut Vec<DataRecord>, live: Vec<Live>) -> Result<(), AllocError>
     ensures { OnOk result (records.new.items ≡
         records.old.items ++ map (λ l. l.1) live.items) }
 {

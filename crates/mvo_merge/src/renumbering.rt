@@ -78,6 +78,17 @@ impl Renumbering {
         })
     }
 
+    /// These numbers.
+    pub(crate) fn of_numbers(left: Vec<u32>, right: Vec<u32>) -> Renumbering
+        requires rise_left { IsStrictlyIncreasing left.items }
+        requires rise_right { IsStrictlyIncreasing right.items }
+        requires few { length left.items + length right.items ≤ MAX_PAIR_RECORDS }
+        ensures left { result.left ≡ left.items }
+        ensures right { result.right ≡ right.items }
+    {
+        Renumbering { left, right }
+    }
+
     /// The entries that the merged pair's delta gets of numbers that came late to the deltas of the
     /// two pairs, each of a live record: those of the left pair in their order, and then those of
     /// the right one.
@@ -97,7 +108,7 @@ impl Renumbering {
 }
 
 /// The numbers of live records.
-fn numbers_of(alloc: Global, live: &[Live]) -> Result<Vec<u32>, AllocError>
+pub fn numbers_of(alloc: Global, live: &[Live]) -> Result<Vec<u32>, AllocError>
     ensures { IfOk result (λ v. v.items ≡ map (λ l. l.0) live.now) }
 {
     live.iter().map(|l| l.number).collect(alloc)
