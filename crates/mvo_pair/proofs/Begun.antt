@@ -84,6 +84,16 @@ module _ (m upto : ℕ) where
         go (Ok g) h = absurd cc
         go (Err v) h = cc
 
+  pub head_long : (front : List ℕ) (x : Format × List ℕ) → format_header_found m upto front ≡ Ok x → 8 ≤ length front
+  head_long front x is = go (cases_lt (length front) 8)
+    where
+      lacks : length front < 8 → format_header_found m upto front ≡ Err Broken
+      lacks lt = head_parts front ∙ ap (λ t. and_body front (by_tests t (eqb (number_in 4 front) m) (format_up_to upto (number_in 4 (drop 4 front))))) (lt-ltb _ _ lt)
+
+      go : ((length front < 8) ⊎ (8 ≤ length front)) → 8 ≤ length front
+      go (inl lt) = absurd (let h = lacks lt in cc)
+      go (inr le) = le
+
 -- ---- the flags
 
 pub unflagged_is : (below : ℕ) (ns : List ℕ) (flags : List Bool) → AreFlags below ns flags → (n : ℕ) (es : List EntryData) → n + length es ≤ below → unflagged flags n es ≡ live_from n ns es

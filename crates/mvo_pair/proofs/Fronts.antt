@@ -1,5 +1,5 @@
 -- What the first bytes of a pair's files say is what the files say, as many as its counts reach.
-use Rattle.std.proofs.Common.{◌≡◌, ℕ, zero, suc, ◌+◌, ◌-◌, ◌*◌, ◌≤◌, List, [], ◌∷◌, ◌++◌, length, take, drop, Result, Ok, Err, refl, sym, ap, subst, ◌∙◌, length-append, arith}
+use Rattle.std.proofs.Common.{◌≡◌, ℕ, zero, suc, ◌+◌, ◌-◌, ◌*◌, ◌≤◌, List, [], ◌∷◌, ◌++◌, length, take, drop, Result, Ok, Err, refl, ap, subst, ◌∙◌, append_assoc, length-append, arith}
 use Rattle.std.proofs.Math.Nat.{suc-mul}
 use Rattle.std.specs.List.{flat_map, AllByRecursion}
 use Rattle.std.proofs.lemmas.List.Concat.{flat_map-cons}
@@ -183,6 +183,29 @@ module _ (upto : ℕ) (p : Pair) (a b : List ℕ) where
   loads_in_front =
       after_alike p.data_file (DataSays upto p a) (DataSays upto p data_front) (Behind b) (Behind delta_front) (data_in_front upto p a)
       (λ d. after_alike p.delta_file (DeltaSays d.0 p b) (DeltaSays d.0 p delta_front) (live d.1) (live d.1) (delta_in_front d.0 p b) (λ ns out is. is))
+
+-- the same of the delta file alone
+module _ (upto : ℕ) (p : Pair) (a b : List ℕ) where
+  pub loads_delta_front : (out : Answer upto p a b) → LoadsAs upto p a b out → LoadsAs upto p a (delta_front upto p a b) out
+  loads_delta_front =
+      after_alike p.data_file (DataSays upto p a) (DataSays upto p a) (Behind upto p a b b) (Behind upto p a b (delta_front upto p a b)) (λ found says. says)
+      (λ d. after_alike p.delta_file (DeltaSays d.0 p b) (DeltaSays d.0 p (delta_front upto p a b)) (live upto p a b d.1) (live upto p a b d.1) (delta_in_front d.0 p b) (λ ns out is. is))
+
+  pub loads_of_delta_front : (out : Answer upto p a b) → LoadsAs upto p a (delta_front upto p a b) out → LoadsAs upto p a b out
+  loads_of_delta_front =
+      after_alike p.data_file (DataSays upto p a) (DataSays upto p a) (Behind upto p a b (delta_front upto p a b)) (Behind upto p a b b) (λ found says. says)
+      (λ d. after_alike p.delta_file (DeltaSays d.0 p (delta_front upto p a b)) (DeltaSays d.0 p b) (live upto p a b d.1) (live upto p a b d.1) (delta_of_front d.0 p b) (λ ns out is. is))
+
+  -- more bytes behind the records change nothing
+  pub loads_longer : (more : List ℕ) (out : List Numbered) → LoadsAs upto p a b (Ok out) → LoadsAs upto p (a ++ more) b (Ok out)
+  loads_longer more out h = go h.0 h.1 h.2
+    where
+      go : (found : FoundOrUnread (Format × List EntryData)) → DataSays upto p a found → Goes p.data_file (Behind upto p a b b) found (Ok out) → LoadsAs upto p (a ++ more) b (Ok out)
+      go (Ok d) file next =
+          let has = file.has in
+          let front = data_bytes d.0.version d.1 in
+          (Ok d, record { known = file.known; has = record { rest = has.rest ++ more; whole = ap (λ (l : List ℕ). l ++ more) has.whole ∙ append_assoc front has.rest more; counted = has.counted; are = has.are; words = has.words } }, next)
+      go (Err e) says next = absurd cc
 
 -- what is the one answer of some bytes is that of others which say the same
 pub only_alike : {Y : Type 0} (A B : Y → Type 0) → ((y : Y) → A y → B y) → ((y : Y) → B y → A y) → (y : Y) → IsOnly A y → IsOnly B y

@@ -1,5 +1,5 @@
 //! Reads the data file of a pair in slices.
-ghost use Rattle.std.specs.Prelude.{◌≡◌, ◌≢◌, ◌⊎◌, ◌↔◌, ◌<◌, ◌≤◌, ◌+◌, ◌-◌, ◌/◌, ◌^◌, ◌&&◌, ℕ, List, IsTrue, IfOk, IfErr, MatchOption, length, drop};
+ghost use Rattle.std.specs.Prelude.{◌≡◌, ◌≢◌, ◌⊎◌, ◌↔◌, ◌<◌, ◌≤◌, ◌+◌, ◌-◌, ◌/◌, ◌^◌, ◌&&◌, ℕ, List, IsTrue, IfOk, OnOk, IfErr, MatchOption, length, drop};
 ghost use Rattle.mvo_pair.specs.Coming.{IsNext, IsBegun, IsNotBegun, FoundIsLoaded, IsReadOn, IsBroken, AreNamed, after_record, at_start, is_behind, nothing_more, to_come};
 ghost use Rattle.mvo_pair.specs.Answers.{Tells, file_refusal};
 ghost use Rattle.mvo_pair.specs.Loading.{LoadsAs};
@@ -179,6 +179,7 @@ impl PairReading {
     ) -> Result<PairReading, Refusal>
         ensures begun { IfOk result (IsBegun upto pair front.now delta.now) }
         ensures loaded { FoundIsLoaded upto pair }
+        ensures header { OnOk result (8 ≤ length front.now) }
         ensures pair { IfOk result (λ r. r.pair ≡ pair) }
         ensures refused { IfErr result (λ e. (e ≡ Refusal.OutOfMemory)
             ⊎ IsNotBegun upto pair data_len front.now delta.now e) }
@@ -197,6 +198,13 @@ impl PairReading {
             named,
             refused,
         })
+    }
+
+    /// The pair that is read.
+    pub fn pair(&self) -> Pair
+        ensures { result ≡ self.now.pair }
+    {
+        self.pair
     }
 
     /// Whether all records are read.

@@ -1,5 +1,6 @@
 use Rattle.std.proofs.Common.{inr, arith, refl}
-use Rattle.mvo_pair.proofs.Begun.{found_is_loaded, begun, too_many, not_begun}
+use Rattle.mvo_pair.specs.declared.data.TheConstants.{DATA_MAGIC}
+use Rattle.mvo_pair.proofs.Begun.{found_is_loaded, head_long, begun, too_many, not_begun}
 use Rattle.mvo_pair.proofs.reading.PairReading.begin.Goals as goal
 
 pub returns-in-Err-clause-refused : goal.returns-in-Err-clause-refused
@@ -29,3 +30,6 @@ returns-then-are_too_many-clause-loaded c = found_is_loaded c.args.upto c.args.p
 
 pub returns-in_err-named-clause-loaded : goal.returns-in_err-named-clause-loaded
 returns-in_err-named-clause-loaded c = found_is_loaded c.args.upto c.args.pair (record { hi = omega arith; records = omega arith })
+
+pub returns-clause-header : goal.returns-clause-header
+returns-clause-header c = head_long DATA_MAGIC c.args.upto c.args.front.now (c.in-Ok.format, c.in-Ok.field-0-1.now) c.in-Ok.ensures
