@@ -38,7 +38,8 @@ fn append_live(
 ) -> Result<(), AllocError>
     ensures records { OnOk result
         (records.new.items ≡ records.old.items ++ entries_alone live.items) }
-    ensures numbers { OnOk result (numbers.new.items ≡ numbers.old.items ++ live_numbers live.items) }
+    ensures numbers { OnOk result
+        (numbers.new.items ≡ numbers.old.items ++ live_numbers live.items) }
     ensures records_stay { OnErr result (records.new.items ≡ records.old.items) }
     ensures numbers_stay { OnErr result (numbers.new.items ≡ numbers.old.items) }
 {

@@ -14,7 +14,7 @@ use Rattle.mvo_pair.specs.Answers.{FoundOrUnread, file_refusal}
 use Rattle.mvo_pair.specs.Data.{EntryData, Numbered, live_of}
 use Rattle.mvo_pair.specs.Flags.{AreFlags, live_one}
 use Rattle.mvo_pair.specs.Reading.{read_then, of_file, number_in, known_kept, format_header_found, entries_found, data_found, delta_found, live_found, pair_found, has}
-use Rattle.mvo_pair.specs.Coming.{entries_behind, unflagged, PairReadingData, unless_refused, to_come, at_start, AreNamed, IsBegun, IsNotBegun, FoundIsLoaded}
+use Rattle.mvo_pair.specs.Coming.{entries_behind, unflagged, PairReadingData, unless_refused, still_found, at_start, AreNamed, IsReadingBegun, IsNoReading, FoundIsLoaded}
 use Rattle.mvo_pair.proofs.Loads.{Fits, entries_break, entries_len, stops_there, loads, loads_again}
 use Rattle.mvo_pair.proofs.Places.{no_room, none_found}
 use Rattle.mvo_pair.proofs.Lives.{live_from, one_more}
@@ -145,18 +145,18 @@ module _ (upto : ℕ) (p : Pair) (front delta : List ℕ) where
       none_yet = omega arith
 
       module _ (r : PairReadingData) (is : r ≡ record { pair = p; format = f; named = flags; refused = refused }) where
-        comes : of_entries (entries_found f p.lo.0 p.hi.0 p.records rest) ≡ to_come r at_start rest
-        unfolding to_come
-        comes = ap of_entries (one_by_one f p.lo.0 p.hi.0 p.records rest ∙ ap (λ n. entries_behind f p.lo.0 p.hi.0 None n rest) none_yet) ∙ ap (λ q. to_come q at_start rest) (sym is)
+        comes : of_entries (entries_found f p.lo.0 p.hi.0 p.records rest) ≡ still_found r at_start rest
+        unfolding still_found
+        comes = ap of_entries (one_by_one f p.lo.0 p.hi.0 p.records rest ∙ ap (λ n. entries_behind f p.lo.0 p.hi.0 None n rest) none_yet) ∙ ap (λ q. still_found q at_start rest) (sym is)
 
-        whole : AreNamed f p delta flags refused → pair_found upto p bytes delta ≡ to_come r at_start rest
+        whole : AreNamed f p delta flags refused → pair_found upto p bytes delta ≡ still_found r at_start rest
         unfolding pair_found
         whole flagged = ap of_data data_is ∙ by_entries flagged (entries_found f p.lo.0 p.hi.0 p.records rest) refl ∙ comes
 
-    pub begun : (flags : List Bool) (refused : Option Refusal) (r : PairReadingData) → r ≡ record { pair = p; format = f; named = flags; refused = refused } → AreNamed f p delta flags refused → IsBegun upto p front delta r
+    pub begun : (flags : List Bool) (refused : Option Refusal) (r : PairReadingData) → r ≡ record { pair = p; format = f; named = flags; refused = refused } → AreNamed f p delta flags refused → IsReadingBegun upto p front delta r
     begun flags refused r is flagged bytes so = whole bytes so flags refused r is flagged
 
-    pub too_many : (len : ℕ) → (len - 8) / 27 < p.records → IsNotBegun upto p len front delta (Corrupt p.data_file)
+    pub too_many : (len : ℕ) → (len - 8) / 27 < p.records → IsNoReading upto p len front delta (Corrupt p.data_file)
     too_many len many bytes so short =
         let there = head_there DATA_MAGIC upto front bytes so f body head in
         let rest = drop 8 bytes in
@@ -168,7 +168,7 @@ module _ (upto : ℕ) (p : Pair) (front delta : List ℕ) where
   unfolding data_found
   data_lacks bytes u is = ap (λ q. read_then q (λ x. read_then (entries_found x.0 p.lo.0 p.hi.0 p.records x.1) (λ es. Ok (x.0, es)))) is
 
-  pub not_begun : (len : ℕ) (u : Unread) (e : Refusal) → e ≡ file_refusal p.data_file u → (u ≡ Memory) ⊎ (format_header_found DATA_MAGIC upto front ≡ Err u) → (e ≡ OutOfMemory) ⊎ IsNotBegun upto p len front delta e
+  pub not_begun : (len : ℕ) (u : Unread) (e : Refusal) → e ≡ file_refusal p.data_file u → (u ≡ Memory) ⊎ (format_header_found DATA_MAGIC upto front ≡ Err u) → (e ≡ OutOfMemory) ⊎ IsNoReading upto p len front delta e
   not_begun len u e is (inl memory) = inl (is ∙ ap (file_refusal p.data_file) memory)
   not_begun len u e is (inr head) = inr (λ bytes so short.
       let lacks = head_lacks DATA_MAGIC upto front bytes so u head in

@@ -13,7 +13,7 @@ use Rattle.mvo_pair.specs.Answers.{FoundOrUnread, file_refusal}
 use Rattle.mvo_pair.specs.Data.{EntryData, Numbered}
 use Rattle.mvo_pair.specs.Flags.{live_one}
 use Rattle.mvo_pair.specs.Reading.{read_then, of_file}
-use Rattle.mvo_pair.specs.Coming.{LastRead, read_last, next_found, entries_behind, IsNext, unflagged, PairReadingData, unless_refused, to_come, in_front, after_record, IsReadOn, IsBroken}
+use Rattle.mvo_pair.specs.Coming.{LastRead, read_last, record_found, entries_behind, IsNextRecord, unflagged, PairReadingData, unless_refused, still_found, in_front, behind_record, IsReadOn, IsBroken}
 
 -- ---- in front
 
@@ -34,8 +34,8 @@ module _ (r : PairReadingData) (s : ReadSoFar) where
   abbrev one : EntryData → List Numbered
   one e = live_one (slice_index_or r.named s.count false) s.count e
 
-  pub comes_none : (body : List ℕ) → r.pair.records ≤ s.count → to_come r s body ≡ unless_refused r.refused []
-  unfolding to_come
+  pub comes_none : (body : List ℕ) → r.pair.records ≤ s.count → still_found r s body ≡ unless_refused r.refused []
+  unfolding still_found
   comes_none body le = let none : r.pair.records - s.count ≡ 0 = omega arith in rw none refl
 
   module _ (body : List ℕ) (lt : s.count < r.pair.records) where
@@ -46,11 +46,11 @@ module _ (r : PairReadingData) (s : ReadSoFar) where
     first_then found =
         read_then (of_file r.pair.data_file (read_then found (λ x. read_then (entries_behind r.format r.pair.lo.0 r.pair.hi.0 (read_last x.0) (r.pair.records - (s.count + 1)) x.1) (λ es. Ok (x.0 ∷ es))))) ends_so
 
-    by_first : to_come r s body ≡ first_then (next_found r.format r.pair.lo.0 r.pair.hi.0 s.last body)
-    unfolding to_come
+    by_first : still_found r s body ≡ first_then (record_found r.format r.pair.lo.0 r.pair.hi.0 s.last body)
+    unfolding still_found
     by_first = ap (λ n. read_then (of_file r.pair.data_file (entries_behind r.format r.pair.lo.0 r.pair.hi.0 s.last n body)) ends_so) one_left
 
-    pub comes_broken : (u : Unread) → next_found r.format r.pair.lo.0 r.pair.hi.0 s.last body ≡ Err u → to_come r s body ≡ Err (file_refusal r.pair.data_file u)
+    pub comes_broken : (u : Unread) → record_found r.format r.pair.lo.0 r.pair.hi.0 s.last body ≡ Err u → still_found r s body ≡ Err (file_refusal r.pair.data_file u)
     comes_broken u is = by_first ∙ ap first_then is
 
     behind : (e : EntryData) (refused : Option Refusal) (found : FoundOrUnread (List EntryData)) →
@@ -60,13 +60,13 @@ module _ (r : PairReadingData) (s : ReadSoFar) where
     behind e (Some why) (Ok es) = refl
     behind e refused (Err u) = refl
 
-    pub comes_more : (e : EntryData) (after : List ℕ) (len : ℕ) → next_found r.format r.pair.lo.0 r.pair.hi.0 s.last body ≡ Ok (e, after) → to_come r s body ≡ in_front (one e) (to_come r (after_record s e len) after)
-    unfolding to_come
+    pub comes_more : (e : EntryData) (after : List ℕ) (len : ℕ) → record_found r.format r.pair.lo.0 r.pair.hi.0 s.last body ≡ Ok (e, after) → still_found r s body ≡ in_front (one e) (still_found r (behind_record s e len) after)
+    unfolding still_found
     comes_more e after len is = by_first ∙ ap first_then is ∙ behind e r.refused (entries_behind r.format r.pair.lo.0 r.pair.hi.0 (read_last e) (r.pair.records - (s.count + 1)) after)
 
 -- what is next by the parts of a reading
-pub next_of : (q r : PairReadingData) → q ≡ r → (last : LastRead) (bytes : List ℕ) (x : Result (Option (EntryData × ℕ)) Unread) → IsNext q.format q.pair.lo.0 q.pair.hi.0 last bytes x → IsNext r.format r.pair.lo.0 r.pair.hi.0 last bytes x
-next_of q r same last bytes x = subst (λ (s : PairReadingData). IsNext s.format s.pair.lo.0 s.pair.hi.0 last bytes x → IsNext r.format r.pair.lo.0 r.pair.hi.0 last bytes x) (sym same) (λ h. h)
+pub next_of : (q r : PairReadingData) → q ≡ r → (last : LastRead) (bytes : List ℕ) (x : Result (Option (EntryData × ℕ)) Unread) → IsNextRecord q.format q.pair.lo.0 q.pair.hi.0 last bytes x → IsNextRecord r.format r.pair.lo.0 r.pair.hi.0 last bytes x
+next_of q r same last bytes x = subst (λ (s : PairReadingData). IsNextRecord s.format s.pair.lo.0 s.pair.hi.0 last bytes x → IsNextRecord r.format r.pair.lo.0 r.pair.hi.0 last bytes x) (sym same) (λ h. h)
 
 -- ---- some records, one after another
 
@@ -80,7 +80,7 @@ module _ (r : PairReadingData) (from : ReadSoFar) (bytes : List ℕ) where
 
   pub none_read : (live : List Numbered) → live ≡ [] → AreRead bytes live 0 from
   none_read live none = record {
-    on = record { place = 0; place_is = omega arith; within = omega arith; comes = λ rest. sym (none_in_front (to_come r from rest)) ∙ ap (λ l. in_front l (to_come r from rest)) (sym none) };
+    on = record { place = 0; place_is = omega arith; within = omega arith; comes = λ rest. sym (none_in_front (still_found r from rest)) ∙ ap (λ l. in_front l (still_found r from rest)) (sym none) };
     rest_is = refl;
     count = omega arith;
     started = λ _. refl;
@@ -91,47 +91,47 @@ module _ (r : PairReadingData) (from : ReadSoFar) (bytes : List ℕ) where
     k = s.on.place
 
     -- the rest of a file of which these are the next bytes
-    parted : (n : ℕ) (body : List ℕ) → bytes ≡ take n body → to_come r from body ≡ in_front live (to_come r to (drop k body))
+    parted : (n : ℕ) (body : List ℕ) → bytes ≡ take n body → still_found r from body ≡ in_front live (still_found r to (drop k body))
     parted n body front =
         let few : k ≤ n = omega (arith, s.on.within, ap (λ (l : List ℕ). length l) front, length-take n body) in
         let same : take k bytes ≡ take k body = ap (λ (l : List ℕ). take k l) front ∙ take-take k n body few in
-        ap (to_come r from) (sym (take-append-drop k body) ∙ ap (λ (l : List ℕ). l ++ drop k body) (sym same)) ∙ s.on.comes (drop k body)
+        ap (still_found r from) (sym (take-append-drop k body) ∙ ap (λ (l : List ℕ). l ++ drop k body) (sym same)) ∙ s.on.comes (drop k body)
 
     rest_front : (n : ℕ) (body : List ℕ) → bytes ≡ take n body → rest ≡ take (n - k) (drop k body)
     rest_front n body front =
         let few : k + (n - k) ≡ n = omega (arith, s.on.within, ap (λ (l : List ℕ). length l) front, length-take n body) in
         s.rest_is ∙ ap (λ (l : List ℕ). drop k l) (front ∙ ap (λ j. take j body) (sym few)) ∙ drop-take k (n - k) body
 
-    breaks : (n : ℕ) (body : List ℕ) (u : Unread) → bytes ≡ take n body → to.count < r.pair.records → next_found r.format r.pair.lo.0 r.pair.hi.0 to.last (drop k body) ≡ Err u → to_come r from body ≡ Err (file_refusal r.pair.data_file u)
+    breaks : (n : ℕ) (body : List ℕ) (u : Unread) → bytes ≡ take n body → to.count < r.pair.records → record_found r.format r.pair.lo.0 r.pair.hi.0 to.last (drop k body) ≡ Err u → still_found r from body ≡ Err (file_refusal r.pair.data_file u)
     breaks n body u front lt is = parted n body front ∙ ap (in_front live) (comes_broken r to (drop k body) lt u is)
 
     -- a record breaks a rule
-    pub one_breaks : (u : Unread) (e : Refusal) → e ≡ file_refusal r.pair.data_file u → to.count < r.pair.records → IsNext r.format r.pair.lo.0 r.pair.hi.0 to.last rest (Err u) → (e ≡ OutOfMemory) ⊎ IsBroken r from bytes e
+    pub one_breaks : (u : Unread) (e : Refusal) → e ≡ file_refusal r.pair.data_file u → to.count < r.pair.records → IsNextRecord r.format r.pair.lo.0 r.pair.hi.0 to.last rest (Err u) → (e ≡ OutOfMemory) ⊎ IsBroken r from bytes e
     one_breaks u e is lt (inl memory) = inl (is ∙ ap (file_refusal r.pair.data_file) memory)
     one_breaks u e is lt (inr found) = inr (λ n body le front. breaks n body u front lt (found (n - k) (drop k body) (rest_front n body front)) ∙ ap Err (sym is))
 
     -- not one is whole
-    pub none_whole : (e : Refusal) → e ≡ file_refusal r.pair.data_file Broken → to.count < r.pair.records → to.count ≡ from.count → IsNext r.format r.pair.lo.0 r.pair.hi.0 to.last rest (Ok None) → IsBroken r from bytes e
+    pub none_whole : (e : Refusal) → e ≡ file_refusal r.pair.data_file Broken → to.count < r.pair.records → to.count ≡ from.count → IsNextRecord r.format r.pair.lo.0 r.pair.hi.0 to.last rest (Ok None) → IsBroken r from bytes e
     none_whole e is lt none found n body le front =
         let still : k ≡ 0 = s.started (omega (arith, s.count, none)) in
         breaks n body Broken front lt (found (n - k) (drop k body) (omega (arith, still, le)) (rest_front n body front)) ∙ ap Err (sym is)
 
     -- one more is read
-    pub one_read : (e : EntryData) (len : ℕ) (flag : Bool) (after : List Numbered) (to_then : ReadSoFar) → to.count < r.pair.records → IsNext r.format r.pair.lo.0 r.pair.hi.0 to.last rest (Ok (Some (e, len)))
-        → flag ≡ slice_index_or r.named to.count false → after ≡ live ++ live_one flag to.count e → to_then ≡ after_record to e len → AreRead (drop len rest) after (i + 1) to_then
+    pub one_read : (e : EntryData) (len : ℕ) (flag : Bool) (after : List Numbered) (to_then : ReadSoFar) → to.count < r.pair.records → IsNextRecord r.format r.pair.lo.0 r.pair.hi.0 to.last rest (Ok (Some (e, len)))
+        → flag ≡ slice_index_or r.named to.count false → after ≡ live ++ live_one flag to.count e → to_then ≡ behind_record to e len → AreRead (drop len rest) after (i + 1) to_then
     one_read e len flag after to_then lt next flag_is after_is then_is = record {
       on = record {
         place = k + len;
         place_is = omega (arith, s.on.place_is, ap (λ (t : ReadSoFar). t.place) then_is);
         within = omega (arith, s.on.within, next.0, ap (λ (l : List ℕ). length l) s.rest_is, length-drop k bytes);
         comes = λ more.
-            ap (λ (l : List ℕ). to_come r from (l ++ more)) (take-add k len bytes ∙ ap (λ (l : List ℕ). take k bytes ++ take len l) (sym s.rest_is))
-            ∙ ap (to_come r from) (append_assoc (take k bytes) (take len rest) more)
+            ap (λ (l : List ℕ). still_found r from (l ++ more)) (take-add k len bytes ∙ ap (λ (l : List ℕ). take k bytes ++ take len l) (sym s.rest_is))
+            ∙ ap (still_found r from) (append_assoc (take k bytes) (take len rest) more)
             ∙ s.on.comes (take len rest ++ more)
-            ∙ ap (in_front live) (comes_more r to (take len rest ++ more) lt e more len (next.1 more) ∙ ap (λ b. in_front (live_one b to.count e) (to_come r (after_record to e len) more)) (sym flag_is))
-            ∙ front_of_front live (live_one flag to.count e) (to_come r (after_record to e len) more)
-            ∙ ap (λ (l : List Numbered). in_front l (to_come r (after_record to e len) more)) (sym after_is)
-            ∙ ap (λ t. in_front after (to_come r t more)) (sym then_is);
+            ∙ ap (in_front live) (comes_more r to (take len rest ++ more) lt e more len (next.1 more) ∙ ap (λ b. in_front (live_one b to.count e) (still_found r (behind_record to e len) more)) (sym flag_is))
+            ∙ front_of_front live (live_one flag to.count e) (still_found r (behind_record to e len) more)
+            ∙ ap (λ (l : List Numbered). in_front l (still_found r (behind_record to e len) more)) (sym after_is)
+            ∙ ap (λ t. in_front after (still_found r t more)) (sym then_is);
       };
       rest_is = ap (λ (l : List ℕ). drop len l) s.rest_is ∙ drop-drop len k bytes;
       count = omega (arith, s.count, ap (λ (t : ReadSoFar). t.count) then_is);
@@ -143,10 +143,10 @@ module _ (r : PairReadingData) (from : ReadSoFar) (bytes : List ℕ) where
 module _ (r : PairReadingData) (start : ReadSoFar) (bytes : List ℕ) where
   -- so much has come of the bytes behind the header
   abbrev pub HasCome : List Numbered → ReadSoFar → Type 0
-  HasCome live to = to_come r start (drop 8 bytes) ≡ in_front live (to_come r to (drop to.place bytes))
+  HasCome live to = still_found r start (drop 8 bytes) ≡ in_front live (still_found r to (drop to.place bytes))
 
   pub none_come : (live : List Numbered) → live ≡ [] → start.place ≡ 8 → HasCome live start
-  none_come live none is = sym (none_in_front (to_come r start (drop 8 bytes))) ∙ ap (λ l. in_front l (to_come r start (drop 8 bytes))) (sym none) ∙ ap (λ k. in_front live (to_come r start (drop k bytes))) (sym is)
+  none_come live none is = sym (none_in_front (still_found r start (drop 8 bytes))) ∙ ap (λ l. in_front l (still_found r start (drop 8 bytes))) (sym none) ∙ ap (λ k. in_front live (still_found r start (drop k bytes))) (sym is)
 
   module _ (live : List Numbered) (from : ReadSoFar) (so_far : HasCome live from) where
     pub goes_on : (some after : List Numbered) (to : ReadSoFar) → IsReadOn r from (drop from.place bytes) some to → after ≡ live ++ some → HasCome after to
@@ -154,20 +154,20 @@ module _ (r : PairReadingData) (start : ReadSoFar) (bytes : List ℕ) where
         let part = drop from.place bytes in
         let behind : drop on.place part ≡ drop to.place bytes = drop-drop on.place from.place bytes ∙ ap (λ k. drop k bytes) (sym on.place_is) in
         so_far
-        ∙ ap (λ (l : List ℕ). in_front live (to_come r from l)) (sym (take-append-drop on.place part))
-        ∙ ap (in_front live) (on.comes (drop on.place part) ∙ ap (λ (l : List ℕ). in_front some (to_come r to l)) behind)
-        ∙ front_of_front live some (to_come r to (drop to.place bytes))
-        ∙ ap (λ (l : List Numbered). in_front l (to_come r to (drop to.place bytes))) (sym is)
+        ∙ ap (λ (l : List ℕ). in_front live (still_found r from l)) (sym (take-append-drop on.place part))
+        ∙ ap (in_front live) (on.comes (drop on.place part) ∙ ap (λ (l : List ℕ). in_front some (still_found r to l)) behind)
+        ∙ front_of_front live some (still_found r to (drop to.place bytes))
+        ∙ ap (λ (l : List Numbered). in_front l (still_found r to (drop to.place bytes))) (sym is)
 
-    pub breaks_off : (e : Refusal) → (e ≡ OutOfMemory) ⊎ IsBroken r from (drop from.place bytes) e → (e ≡ OutOfMemory) ⊎ (to_come r start (drop 8 bytes) ≡ Err e)
+    pub breaks_off : (e : Refusal) → (e ≡ OutOfMemory) ⊎ IsBroken r from (drop from.place bytes) e → (e ≡ OutOfMemory) ⊎ (still_found r start (drop 8 bytes) ≡ Err e)
     breaks_off e (inl memory) = inl memory
     breaks_off e (inr broken) =
         let part = drop from.place bytes in
         let n = MOST_RECORD + length part in
         inr (so_far ∙ ap (in_front live) (broken n part (omega arith) (sym (take_all n part (omega arith)))))
 
-    pub ends_whole : to_come r from (drop from.place bytes) ≡ Ok [] → to_come r start (drop 8 bytes) ≡ Ok live
+    pub ends_whole : still_found r from (drop from.place bytes) ≡ Ok [] → still_found r start (drop 8 bytes) ≡ Ok live
     ends_whole none = so_far ∙ ap (in_front live) none ∙ ap Ok (append-nil live)
 
-    pub ends_refused : (e : Refusal) → to_come r from (drop from.place bytes) ≡ Err e → to_come r start (drop 8 bytes) ≡ Err e
+    pub ends_refused : (e : Refusal) → still_found r from (drop from.place bytes) ≡ Err e → still_found r start (drop 8 bytes) ≡ Err e
     ends_refused e is = so_far ∙ ap (in_front live) is

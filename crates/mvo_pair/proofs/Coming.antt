@@ -7,7 +7,7 @@ use Rattle.mvo_pair.specs.declared.unread.Unread.TheVariants.{Broken}
 use Rattle.mvo_pair.specs.Answers.{FoundOrUnread}
 use Rattle.mvo_pair.specs.Data.{EntryData}
 use Rattle.mvo_pair.specs.Reading.{read_then, entry_at, keeps, all_keep, rise, is_entry_below, entries_kept, entries_found}
-use Rattle.mvo_pair.specs.Coming.{LastRead, read_last, is_behind, next_kept, next_found, entries_behind}
+use Rattle.mvo_pair.specs.Coming.{LastRead, read_last, is_behind, record_kept, record_found, entries_behind}
 
 -- ---- one by one is all of them
 
@@ -52,7 +52,7 @@ module _ (f : Format) (lo hi : ℕ) where
   none_left false e = refl
 
   all_behind : (n : ℕ) (last : LastRead) (body : List ℕ) → entries_behind f lo hi last n body ≡ kept_behind last (times entry_at n body)
-  unfolding times next_found
+  unfolding times record_found
   all_behind zero last body = refl
   all_behind (suc n) last body = go (entry_at body) (λ l b. all_behind n l b)
     where
@@ -60,7 +60,7 @@ module _ (f : Format) (lo hi : ℕ) where
       inner e None = none_left (keeps f lo hi e && is_behind last e) e
       inner e (Some x) = tests (keeps f lo hi e) (is_behind last e) (all_keep f lo hi x.0) (rise_behind (read_last e) x.0) e x.0
 
-      go : (o : Option (EntryData × List ℕ)) → ((l : LastRead) (b : List ℕ) → entries_behind f lo hi l n b ≡ kept_behind l (times entry_at n b)) → read_then (next_kept f lo hi last o) (λ x. then_rest x.0 (entries_behind f lo hi (read_last x.0) n x.1)) ≡ kept_behind last (o >>= λ first. times entry_at n first.1 >>= λ others. Some (first.0 ∷ others.0, others.1))
+      go : (o : Option (EntryData × List ℕ)) → ((l : LastRead) (b : List ℕ) → entries_behind f lo hi l n b ≡ kept_behind l (times entry_at n b)) → read_then (record_kept f lo hi last o) (λ x. then_rest x.0 (entries_behind f lo hi (read_last x.0) n x.1)) ≡ kept_behind last (o >>= λ first. times entry_at n first.1 >>= λ others. Some (first.0 ∷ others.0, others.1))
       go None more = refl
       go (Some x) more =
           by_test (keeps f lo hi x.0 && is_behind last x.0) (λ l b. entries_behind f lo hi l n b) x

@@ -11,7 +11,7 @@ use Rattle.mvo_pair.specs.declared.reading.TheConstants.{MOST_RECORD}
 use Rattle.mvo_pair.specs.declared.unread.Unread.TheVariants.{Broken}
 use Rattle.mvo_pair.specs.Data.{EntryData}
 use Rattle.mvo_pair.specs.Reading.{number_in, len_of, len_found, first_entry, entry_at, keeps}
-use Rattle.mvo_pair.specs.Coming.{LastRead, is_behind, next_kept, next_found}
+use Rattle.mvo_pair.specs.Coming.{LastRead, is_behind, record_kept, record_found}
 use Rattle.mvo_pair.proofs.Places.{entry_whole, entry_none}
 use Rattle.mvo_pair.proofs.Spelled.{whole_len}
 
@@ -54,13 +54,13 @@ module _ (x y : List ℕ) (len : ℕ) (whole : len_found x ≡ Some len) (same :
   entry_there = let w = whole_len x len whole in entry_whole y len len_there ∙ ap (λ e. Some (e, drop len y)) (sym (first_same len x y same w.0))
 
   module _ (f : Format) (lo hi : ℕ) (last : LastRead) where
-    pub next_kept_there : (keeps f lo hi (first_entry x) && is_behind last (first_entry x)) ≡ true → next_found f lo hi last y ≡ Ok (first_entry x, drop len y)
-    unfolding next_found
-    next_kept_there is = ap (next_kept f lo hi last) entry_there ∙ ap (λ t. cond t (Ok (first_entry x, drop len y)) (Err Broken)) is
+    pub next_kept_there : (keeps f lo hi (first_entry x) && is_behind last (first_entry x)) ≡ true → record_found f lo hi last y ≡ Ok (first_entry x, drop len y)
+    unfolding record_found
+    next_kept_there is = ap (record_kept f lo hi last) entry_there ∙ ap (λ t. cond t (Ok (first_entry x, drop len y)) (Err Broken)) is
 
-    pub next_broken_there : (keeps f lo hi (first_entry x) && is_behind last (first_entry x)) ≡ false → next_found f lo hi last y ≡ Err Broken
-    unfolding next_found
-    next_broken_there is = ap (next_kept f lo hi last) entry_there ∙ ap (λ t. cond t (Ok (first_entry x, drop len y)) (Err Broken)) is
+    pub next_broken_there : (keeps f lo hi (first_entry x) && is_behind last (first_entry x)) ≡ false → record_found f lo hi last y ≡ Err Broken
+    unfolding record_found
+    next_broken_there is = ap (record_kept f lo hi last) entry_there ∙ ap (λ t. cond t (Ok (first_entry x, drop len y)) (Err Broken)) is
 
 -- ---- the front of some bytes
 
@@ -75,7 +75,7 @@ module _ (f : Format) (lo hi : ℕ) (last : LastRead) (bytes : List ℕ) (len : 
     same_test : (t : Bool) → test ≡ t → first_test ≡ t
     same_test t h = sym (ap (λ x. keeps f lo hi x && is_behind last x) is) ∙ h
 
-    pub next_is : test ≡ true → (rest : List ℕ) → next_found f lo hi last (take len bytes ++ rest) ≡ Ok (e, rest)
+    pub next_is : test ≡ true → (rest : List ℕ) → record_found f lo hi last (take len bytes ++ rest) ≡ Ok (e, rest)
     next_is h rest =
         let w = whole_len bytes len whole in
         let fits : length (take len bytes) ≡ len = omega (arith, length-take len bytes, w.0, w.1) in
@@ -84,16 +84,16 @@ module _ (f : Format) (lo hi : ℕ) (last : LastRead) (bytes : List ℕ) (len : 
         next_kept_there bytes (take len bytes ++ rest) len whole same long f lo hi last (same_test true h)
         ∙ ap (λ (l : List ℕ). Ok (first_entry bytes, l)) (drop_at (take len bytes) rest len fits) ∙ ap (λ x. Ok (x, rest)) (sym is)
 
-    pub next_breaks : test ≡ false → (n : ℕ) (body : List ℕ) → bytes ≡ take n body → next_found f lo hi last body ≡ Err Broken
+    pub next_breaks : test ≡ false → (n : ℕ) (body : List ℕ) → bytes ≡ take n body → record_found f lo hi last body ≡ Err Broken
     next_breaks h n body front =
         let w = whole_len bytes len whole in
         let many : length bytes ≡ length (take n body) = ap (λ (l : List ℕ). length l) front in
         let same : take len bytes ≡ take len body = ap (λ (l : List ℕ). take len l) front ∙ take-take len n body (omega (arith, w.0, w.1, many, length-take n body)) in
         next_broken_there bytes body len whole same (omega (arith, w.0, w.1, many, length-take n body)) f lo hi last (same_test false h)
 
-pub next_lacks : (f : Format) (lo hi : ℕ) (last : LastRead) (bytes : List ℕ) → IsBytes bytes → len_found bytes ≡ None → (n : ℕ) (body : List ℕ) → MOST_RECORD ≤ n → bytes ≡ take n body → next_found f lo hi last body ≡ Err Broken
-unfolding next_found number_in
-next_lacks f lo hi last bytes fits lacks n body le front = ap (next_kept f lo hi last) (entry_none body (none (len_found body) refl))
+pub next_lacks : (f : Format) (lo hi : ℕ) (last : LastRead) (bytes : List ℕ) → IsBytes bytes → len_found bytes ≡ None → (n : ℕ) (body : List ℕ) → MOST_RECORD ≤ n → bytes ≡ take n body → record_found f lo hi last body ≡ Err Broken
+unfolding record_found number_in
+next_lacks f lo hi last bytes fits lacks n body le front = ap (record_kept f lo hi last) (entry_none body (none (len_found body) refl))
   where
     small : number_in 2 (drop 25 bytes) < 65536
     small = let h = little_from-lt 0 2 (drop 25 bytes) (IsBytes-drop 25 bytes fits) in omega (arith, h)

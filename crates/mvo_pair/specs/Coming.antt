@@ -32,35 +32,35 @@ is_behind None e = true
 is_behind (Some l) e =
     is_lt (ordering_then (nat_cmp l.0.0 e.begin) (key_cmp l.1 e.row.key))
 
-abbrev pub next_kept : Format → ℕ → ℕ → LastRead → Option (EntryData × List ℕ)
+abbrev pub record_kept : Format → ℕ → ℕ → LastRead → Option (EntryData × List ℕ)
     → FoundOrUnread (EntryData × List ℕ)
-next_kept f lo hi last None = Err Broken
-next_kept f lo hi last (Some x) =
+record_kept f lo hi last None = Err Broken
+record_kept f lo hi last (Some x) =
     if keeps f lo hi x.0 && is_behind last x.0 then Ok x else Err Broken
 
 -- the record at the front, which keeps its rules behind the last one, and what stands behind it
-unfoldable pub next_found : Format → ℕ → ℕ → LastRead → List ℕ
+unfoldable pub record_found : Format → ℕ → ℕ → LastRead → List ℕ
     → FoundOrUnread (EntryData × List ℕ)
-next_found f lo hi last body = next_kept f lo hi last (entry_at body)
+record_found f lo hi last body = record_kept f lo hi last (entry_at body)
 
 -- so many records, one behind another
 abbrev pub entries_behind : Format → ℕ → ℕ → LastRead → ℕ → List ℕ
     → FoundOrUnread (List EntryData)
 entries_behind f lo hi last zero body = Ok []
 entries_behind f lo hi last (suc n) body =
-    read_then (next_found f lo hi last body) (λ x.
+    read_then (record_found f lo hi last body) (λ x.
     read_then (entries_behind f lo hi (read_last x.0) n x.1) (λ es. Ok (x.0 ∷ es)))
 
 -- What the front of some bytes gives as a record, and how many bytes that takes: so it is found,
 -- whatever stands behind it. None where it isn't whole. An error where it breaks a rule.
-abbrev pub IsNext : Format → ℕ → ℕ → LastRead → List ℕ
+abbrev pub IsNextRecord : Format → ℕ → ℕ → LastRead → List ℕ
     → Result (Option (EntryData × ℕ)) Unread → Type 0
-IsNext f lo hi last bytes (Ok (Some x)) = (x.1 ≤ length bytes)
-    × ((rest : List ℕ) → next_found f lo hi last (take x.1 bytes ++ rest) ≡ Ok (x.0, rest))
-IsNext f lo hi last bytes (Ok None) = (n : ℕ) (body : List ℕ) → MOST_RECORD ≤ n →
-    bytes ≡ take n body → next_found f lo hi last body ≡ Err Broken
-IsNext f lo hi last bytes (Err e) = (e ≡ Memory) ⊎ ((n : ℕ) (body : List ℕ) →
-    bytes ≡ take n body → next_found f lo hi last body ≡ Err e)
+IsNextRecord f lo hi last bytes (Ok (Some x)) = (x.1 ≤ length bytes)
+    × ((rest : List ℕ) → record_found f lo hi last (take x.1 bytes ++ rest) ≡ Ok (x.0, rest))
+IsNextRecord f lo hi last bytes (Ok None) = (n : ℕ) (body : List ℕ) → MOST_RECORD ≤ n →
+    bytes ≡ take n body → record_found f lo hi last body ≡ Err Broken
+IsNextRecord f lo hi last bytes (Err e) = (e ≡ Memory) ⊎ ((n : ℕ) (body : List ℕ) →
+    bytes ≡ take n body → record_found f lo hi last body ≡ Err e)
 
 -- ---- the live ones of them
 
@@ -91,8 +91,8 @@ AreNamed f p delta_file_bytes flags refused = (es : List EntryData) → length e
 
 -- What the pair gives behind the records that are read, where these bytes are the rest of its data
 -- file: the live ones of the records that come, or the first broken rule.
-unfoldable pub to_come : PairReadingData → ReadSoFar → List ℕ → Result (List Numbered) Refusal
-to_come r so_far rest = read_then
+unfoldable pub still_found : PairReadingData → ReadSoFar → List ℕ → Result (List Numbered) Refusal
+still_found r so_far rest = read_then
     (of_file r.pair.data_file (entries_behind r.format r.pair.lo.0 r.pair.hi.0 so_far.last
     (r.pair.records - so_far.count) rest))
     (λ es. unless_refused r.refused (unflagged r.named so_far.count es))
@@ -106,8 +106,8 @@ in_front live (Err e) = Err e
 -- ---- calls
 
 -- behind one more record, which takes so many bytes
-abbrev pub after_record : ReadSoFar → EntryData → ℕ → ReadSoFar
-after_record s e len = record { count = s.count + 1; place = s.place + len; last = read_last e }
+abbrev pub behind_record : ReadSoFar → EntryData → ℕ → ReadSoFar
+behind_record s e len = record { count = s.count + 1; place = s.place + len; last = read_last e }
 
 -- before the first record
 abbrev pub at_start : ReadSoFar
@@ -115,14 +115,14 @@ at_start = record { count = 0; place = 8; last = None }
 
 -- What is found of the pair, whatever stands in its data file, where that begins as these bytes do,
 -- is what comes behind the header.
-abbrev pub IsBegun : ℕ → Pair → List ℕ → List ℕ → PairReadingData → Type 0
-IsBegun upto p front delta r = (data_file_bytes : List ℕ) →
+abbrev pub IsReadingBegun : ℕ → Pair → List ℕ → List ℕ → PairReadingData → Type 0
+IsReadingBegun upto p front delta r = (data_file_bytes : List ℕ) →
     take 8 data_file_bytes ≡ take 8 front →
-    pair_found upto p data_file_bytes delta ≡ to_come r at_start (drop 8 data_file_bytes)
+    pair_found upto p data_file_bytes delta ≡ still_found r at_start (drop 8 data_file_bytes)
 
 -- It is this refusal, whatever stands in a data file of no more bytes than so many.
-abbrev pub IsNotBegun : ℕ → Pair → ℕ → List ℕ → List ℕ → Refusal → Type 0
-IsNotBegun upto p len front delta e = (data_file_bytes : List ℕ) →
+abbrev pub IsNoReading : ℕ → Pair → ℕ → List ℕ → List ℕ → Refusal → Type 0
+IsNoReading upto p len front delta e = (data_file_bytes : List ℕ) →
     take 8 data_file_bytes ≡ take 8 front → length data_file_bytes ≤ len →
     pair_found upto p data_file_bytes delta ≡ Err e
 
@@ -143,13 +143,13 @@ pub record IsReadOn (r : PairReadingData) (from : ReadSoFar) (bytes : List ℕ)
   pub place_is : to.place ≡ from.place + place
   pub within : place ≤ length bytes
   pub comes : (rest : List ℕ) →
-      to_come r from (take place bytes ++ rest) ≡ in_front live (to_come r to rest)
+      still_found r from (take place bytes ++ rest) ≡ in_front live (still_found r to rest)
 
 -- Where these are the next bytes of a file, the whole rest of it or as many as a record may take,
 -- this refusal comes.
 abbrev pub IsBroken : PairReadingData → ReadSoFar → List ℕ → Refusal → Type 0
 IsBroken r from bytes e = (n : ℕ) (rest : List ℕ) → MOST_RECORD ≤ n → bytes ≡ take n rest →
-    to_come r from rest ≡ Err e
+    still_found r from rest ≡ Err e
 
 -- nothing more comes, or this refusal
 abbrev pub nothing_more : {X : Type 0} → Result X Refusal → Result (List Numbered) Refusal

@@ -1,6 +1,6 @@
 //! Reads the data file of a pair in slices.
 ghost use Rattle.std.specs.Prelude.{◌≡◌, ◌≢◌, ◌⊎◌, ◌↔◌, ◌<◌, ◌≤◌, ◌+◌, ◌-◌, ◌/◌, ◌^◌, ◌&&◌, ℕ, List, IsTrue, IfOk, OnOk, IfErr, MatchOption, length, drop};
-ghost use Rattle.mvo_pair.specs.Coming.{IsNext, IsBegun, IsNotBegun, FoundIsLoaded, IsReadOn, IsBroken, AreNamed, after_record, at_start, is_behind, nothing_more, to_come};
+ghost use Rattle.mvo_pair.specs.Coming.{IsNextRecord, IsReadingBegun, IsNoReading, FoundIsLoaded, IsReadOn, IsBroken, AreNamed, behind_record, at_start, is_behind, nothing_more, still_found};
 ghost use Rattle.mvo_pair.specs.Answers.{Tells, file_refusal};
 ghost use Rattle.mvo_pair.specs.Loading.{LoadsAs};
 ghost use Rattle.mvo_pair.specs.Reading.{Finds, keeps};
@@ -84,7 +84,7 @@ fn next_record(
     last: Option<(Stamp, RowKey)>,
     bytes: &[u8],
 ) -> Result<Option<(DataRecord, usize)>, Unread>
-    ensures { IsNext format pair.lo.0 pair.hi.0 last bytes.now result }
+    ensures { IsNextRecord format pair.lo.0 pair.hi.0 last bytes.now result }
 {
     let Some(len) = entry_len(bytes) else {
         return Ok(None);
@@ -112,7 +112,7 @@ impl ReadSoFar {
     fn behind(self, entry: &DataRecord, len: usize) -> ReadSoFar
         requires count { self.count + 1 < 2 ^ 32 }
         requires place { self.place + len < 2 ^ 64 }
-        ensures { result ≡ after_record self entry.now len }
+        ensures { result ≡ behind_record self entry.now len }
     {
         ReadSoFar {
             count: self.count + 1,
@@ -177,12 +177,12 @@ impl PairReading {
         front: &[u8],
         delta: &[u8],
     ) -> Result<PairReading, Refusal>
-        ensures begun { IfOk result (IsBegun upto pair front.now delta.now) }
+        ensures begun { IfOk result (IsReadingBegun upto pair front.now delta.now) }
         ensures loaded { FoundIsLoaded upto pair }
         ensures header { OnOk result (8 ≤ length front.now) }
         ensures pair { IfOk result (λ r. r.pair ≡ pair) }
         ensures refused { IfErr result (λ e. (e ≡ Refusal.OutOfMemory)
-            ⊎ IsNotBegun upto pair data_len front.now delta.now e) }
+            ⊎ IsNoReading upto pair data_len front.now delta.now e) }
     {
         let format = match behind_format(DATA_MAGIC, upto, front) {
             Ok((format, _)) => format,
@@ -219,8 +219,8 @@ impl PairReading {
     /// come again. It takes memory for the records alone.
     ///
     /// Refused: Corrupt with the data file where a record breaks a rule, or where not one is whole;
-    /// so hand it the rest of the file, or at least `MOST_RECORD` bytes. Or OutOfMemory; then it may
-    /// be repeated.
+    /// so hand it the rest of the file, or at least `MOST_RECORD` bytes. Or OutOfMemory; then it
+    /// may be repeated.
     pub fn more(
         &self,
         alloc: Global,
@@ -263,7 +263,7 @@ impl PairReading {
     /// Ends a reading: behind all records it tells how the delta file is refused, if it is.
     pub fn end(&self) -> Result<(), Refusal>
         ensures { (so_far : ReadSoFar) (rest : List ℕ) → self.now.pair.records ≤ so_far.count →
-            to_come self.now so_far rest ≡ nothing_more result }
+            still_found self.now so_far rest ≡ nothing_more result }
     {
         match self.refused {
             Some(e) => Err(e),
@@ -274,7 +274,7 @@ impl PairReading {
     /// The live records of a pair whose data file has these bytes.
     fn read_all(&self, alloc: Global, data_bytes: &[u8]) -> Result<Vec<Live>, Refusal>
         ensures { Finds Refusal.OutOfMemory (λ v. v.items) result
-            (to_come self.now at_start (drop 8 data_bytes.now)) }
+            (still_found self.now at_start (drop 8 data_bytes.now)) }
     {
         let mut live = Vec::new(alloc);
         let mut so_far = ReadSoFar::start();
