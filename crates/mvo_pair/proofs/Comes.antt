@@ -1,10 +1,11 @@
 -- Records that are read one after another, and what comes behind them.
-use Rattle.std.proofs.Common.{◌≡◌, ◌⊎◌, inl, inr, ℕ, suc, ◌+◌, ◌-◌, ◌≤◌, ◌<◌, Bool, false, List, [], ◌∷◌, ◌++◌, length, take, drop, Option, Some, None, Result, Ok, Err, refl, sym, ap, subst, ◌∙◌, append_assoc, arith}
-use Rattle.std.specs.Prelude.{slice_index_or}
+use Rattle.std.proofs.Common.{◌≡◌, ◌⊎◌, inl, inr, ℕ, suc, ◌+◌, ◌-◌, ◌≤◌, ◌<◌, Bool, true, false, cond, List, [], ◌∷◌, ◌++◌, length, take, drop, Option, Some, None, Result, Ok, Err, refl, sym, ap, subst, ◌∙◌, append_assoc, arith}
+use Rattle.std.specs.Prelude.{slice_index_or, ◌&&◌}
 use Rattle.std.proofs.Math.Seq.{take-add}
 use Rattle.std.proofs.lemmas.List.{append-nil, take_all, take-take, drop-take, drop-drop, length-take, length-drop, take-append-drop}
 use Rattle.mvo_types.specs.declared.refusal.Refusal.{Refusal}
-use Rattle.mvo_types.specs.declared.refusal.Refusal.TheVariants.{OutOfMemory}
+use Rattle.mvo_types.specs.declared.refusal.Refusal.TheVariants.{OutOfMemory, Corrupt}
+use Rattle.mvo_format.specs.declared.format.Format.{Format}
 use Rattle.mvo_pair.specs.declared.reading.ReadSoFar.{ReadSoFar}
 use Rattle.mvo_pair.specs.declared.reading.TheConstants.{MOST_RECORD}
 use Rattle.mvo_pair.specs.declared.unread.Unread.{Unread}
@@ -12,8 +13,8 @@ use Rattle.mvo_pair.specs.declared.unread.Unread.TheVariants.{Broken}
 use Rattle.mvo_pair.specs.Answers.{FoundOrUnread, file_refusal}
 use Rattle.mvo_pair.specs.Data.{EntryData, Numbered}
 use Rattle.mvo_pair.specs.Flags.{live_one}
-use Rattle.mvo_pair.specs.Reading.{read_then, of_file}
-use Rattle.mvo_pair.specs.Coming.{LastRead, read_last, record_found, entries_behind, IsNextRecord, unflagged, PairReadingData, unless_refused, still_found, in_front, behind_record, IsReadOn, IsBroken}
+use Rattle.mvo_pair.specs.Reading.{read_then, of_file, entry_at, keeps}
+use Rattle.mvo_pair.specs.Coming.{LastRead, read_last, is_behind, record_kept, record_found, entries_behind, IsNextRecord, unflagged, PairReadingData, unless_refused, still_found, in_front, behind_record, IsReadOn, IsBroken}
 
 -- ---- in front
 
@@ -63,6 +64,23 @@ module _ (r : PairReadingData) (s : ReadSoFar) where
     pub comes_more : (e : EntryData) (after : List ℕ) (len : ℕ) → record_found r.format r.pair.lo.0 r.pair.hi.0 s.last body ≡ Ok (e, after) → still_found r s body ≡ in_front (one e) (still_found r (behind_record s e len) after)
     unfolding still_found
     comes_more e after len is = by_first ∙ ap first_then is ∙ behind e r.refused (entries_behind r.format r.pair.lo.0 r.pair.hi.0 (read_last e) (r.pair.records - (s.count + 1)) after)
+
+-- only a broken rule refuses a record
+record_breaks : (f : Format) (lo hi : ℕ) (last : LastRead) (body : List ℕ) (u : Unread) → record_found f lo hi last body ≡ Err u → u ≡ Broken
+unfolding record_found
+record_breaks f lo hi last body u is = go (entry_at body) is
+  where
+    by_test : (t : Bool) (x : EntryData × List ℕ) → cond t (Ok x) (Err Broken) ≡ Err u → u ≡ Broken
+    by_test true x h = absurd cc
+    by_test false x h = cc
+
+    go : (o : Option (EntryData × List ℕ)) → record_kept f lo hi last o ≡ Err u → u ≡ Broken
+    go None h = cc
+    go (Some x) h = by_test (keeps f lo hi x.0 && is_behind last x.0) x h
+
+pub refused_why : (f : Format) (lo hi : ℕ) (last : LastRead) (bytes : List ℕ) (file : ℕ) (u : Unread) (e : Refusal) → e ≡ file_refusal file u → IsNextRecord f lo hi last bytes (Err u) → (e ≡ OutOfMemory) ⊎ (e ≡ Corrupt file)
+refused_why f lo hi last bytes file u e is (inl memory) = inl (is ∙ ap (file_refusal file) memory)
+refused_why f lo hi last bytes file u e is (inr found) = inr (is ∙ ap (file_refusal file) (record_breaks f lo hi last bytes u (found (length bytes) bytes (sym (take_all (length bytes) bytes (omega arith))))))
 
 -- what is next by the parts of a reading
 pub next_of : (q r : PairReadingData) → q ≡ r → (last : LastRead) (bytes : List ℕ) (x : Result (Option (EntryData × ℕ)) Unread) → IsNextRecord q.format q.pair.lo.0 q.pair.hi.0 last bytes x → IsNextRecord r.format r.pair.lo.0 r.pair.hi.0 last bytes x

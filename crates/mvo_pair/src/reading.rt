@@ -3,7 +3,7 @@ ghost use Rattle.std.specs.Prelude.{◌≡◌, ◌≢◌, ◌⊎◌, ◌↔◌, 
 ghost use Rattle.mvo_pair.specs.Coming.{IsNextRecord, IsReadingBegun, IsNoReading, FoundIsLoaded, IsReadOn, IsBroken, AreNamed, behind_record, at_start, is_behind, nothing_more, still_found};
 ghost use Rattle.mvo_pair.specs.Answers.{Tells, file_refusal};
 ghost use Rattle.mvo_pair.specs.Loading.{LoadsAs};
-ghost use Rattle.mvo_pair.specs.Reading.{Finds, keeps};
+ghost use Rattle.mvo_pair.specs.Reading.{Finds, IsBytes, keeps};
 ghost use Rattle.mvo_pair.specs.declared.reading.ReadSoFar.{ReadSoFar};
 
 use crate::data::{DATA_MAGIC, RECORD, entry_len, entry_of, from_place, keeps};
@@ -180,6 +180,8 @@ impl PairReading {
         ensures begun { IfOk result (IsReadingBegun upto pair front.now delta.now) }
         ensures loaded { FoundIsLoaded upto pair }
         ensures header { OnOk result (8 ≤ length front.now) }
+        ensures front_bytes { IsBytes front.now }
+        ensures delta_bytes { IsBytes delta.now }
         ensures pair { IfOk result (λ r. r.pair ≡ pair) }
         ensures refused { IfErr result (λ e. (e ≡ Refusal.OutOfMemory)
             ⊎ IsNoReading upto pair data_len front.now delta.now e) }
@@ -235,6 +237,9 @@ impl PairReading {
         ensures few { IfOk result (λ x. x.1.count ≤ from.count + most) }
         ensures refused { IfErr result (λ e. (e ≡ Refusal.OutOfMemory)
             ⊎ IsBroken self.now from bytes.now e) }
+        ensures why { IfErr result (λ e. (e ≡ Refusal.OutOfMemory)
+            ⊎ (e ≡ Refusal.Corrupt self.now.pair.data_file)) }
+        ensures bytes { IsBytes bytes.now }
     {
         let left = self.pair.records.saturating_sub(from.count);
         let mut live = Vec::new(alloc);

@@ -3,7 +3,7 @@ use Rattle.std.proofs.lemmas.List.{get_or_default}
 use Rattle.mvo_pair.specs.Coming.{PairReadingData}
 use Rattle.mvo_pair.specs.Answers.{file_refusal}
 use Rattle.mvo_pair.specs.declared.unread.Unread.TheVariants.{Broken}
-use Rattle.mvo_pair.proofs.Comes.{AreRead, none_read, next_of, one_breaks, none_whole, one_read}
+use Rattle.mvo_pair.proofs.Comes.{AreRead, none_read, next_of, refused_why, one_breaks, none_whole, one_read}
 use Rattle.mvo_pair.proofs.reading.PairReading.more.Goals as goal
 
 pub loop-init : goal.loop-init
@@ -38,3 +38,10 @@ loop-preserved c =
     is ∙ get_or_default c.self.inside.named.items c.loop.so_far.count c.index-is_named.result.now false within
     ∙ ap (λ (s : PairReadingData). get_or s.named c.loop.so_far.count false) c.self.view_is) c.in_ok-add_unnamed.ensures c.behind-so_far.ensures in
     subst (λ (l : List ℕ). AreRead r c.args.from c.args.bytes.now l c.add_unnamed.new.live.items (c.loop.counter + 1) c.behind-so_far.result) (sym c.from_place-rest.ensures) read
+
+pub returns-in-Err-clause-why : goal.returns-in-Err-clause-why
+returns-in-Err-clause-why c =
+    let file = ap (λ (s : PairReadingData). s.pair.data_file) c.self.view_is in
+    let r = c.args.self.now in
+    refused_why r.format r.pair.lo.0 r.pair.hi.0 c.loop.so_far.last c.loop.rest.now r.pair.data_file c.in-Err.e c.refusal_of.result (c.refusal_of.ensures ∙ ap (λ n. file_refusal n c.in-Err.e) file)
+    (next_of _ r c.self.view_is c.loop.so_far.last c.loop.rest.now (Err c.in-Err.e) c.in-Err.ensures)
