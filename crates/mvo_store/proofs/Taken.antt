@@ -1,5 +1,5 @@
 -- Which calls keep a store's mark and the group that it took.
-use Rattle.std.proofs.Common.{rules, arith, refl, ◌≡◌, ◌≢◌, ◌⊎◌, inl, inr, ⊎_elim, ap, Result, Ok, Err, subst}
+use Rattle.std.proofs.Common.{rules, arith, refl, ◌≡◌, ◌≢◌, ◌⊎◌, inl, inr, ⊎_elim, ap, Option, Some, None, Result, Ok, Err, subst}
 use Rattle.std.specs.Prelude.{⊤}
 use Rattle.mvo_types.specs.declared.refusal.Refusal.{Refusal}
 use Rattle.mvo_types.specs.declared.refusal.Refusal.TheVariants.{DiskFault, OutOfMemory, Corrupt, BadVersion}
@@ -81,5 +81,19 @@ refused_so A B d old call e new h =
       comes = refused_as A B d old call e new h.comes;
       honest = h.honest;
       keeps = λ honest. let k = h.keeps honest in record { any_moment = k.any_moment; keeps = λ rows kept. subst (KeepsRows d new) (same_refused A B old call e rows) (k.keeps rows kept) };
+      others = h.others;
+    }
+
+-- whatever the opening of a gate answers
+accepted_as : (A B : Type 0) (call : StoreStep) (why : Option Refusal) (a : A) (b : B) → IsRefused {A = A} call why (Ok a) → IsRefused {A = B} call why (Ok b)
+accepted_as A B call None a b h = tt
+accepted_as A B call (Some cause) a b h = absurd (cc h)
+
+pub opened_so : {D : Type 0} (A B : Type 0) (d : Ghosts D) (old : StoreData D) (a : A) (b : B) (new : StoreData D) → IsStoreStep {A = A} d old (Call (Step (Install Open))) (Ok a) new → IsStoreStep {A = B} d old (Call (Step (Install Open))) (Ok b) new
+opened_so A B d old a b new h =
+    record {
+      comes = record { refused = accepted_as A B (Call (Step (Install Open))) (why_not_store old (Call (Step (Install Open)))) a b h.comes.refused; made = h.comes.made; left = h.comes.left };
+      honest = h.honest;
+      keeps = h.keeps;
       others = h.others;
     }

@@ -4,4 +4,5 @@ pub mod generation;
 pub mod install;
 pub mod install_step;
 pub mod placing;
+pub mod spent;
 pub mod steps;

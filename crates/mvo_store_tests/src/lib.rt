@@ -41,6 +41,8 @@ mod runs;
 #[cfg(test)]
 mod slices;
 #[cfg(test)]
+mod spent;
+#[cfg(test)]
 mod step;
 #[cfg(test)]
 mod stores;

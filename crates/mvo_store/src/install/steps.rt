@@ -8,11 +8,12 @@ ghost use Rattle.mvo_store.specs.Calls.{IsStoreStep, AnswersGeneration};
 ghost use Rattle.mvo_store.specs.Causes.{why_not_install_open};
 ghost use Rattle.mvo_store.specs.Jobs.{next_installed, after_install};
 ghost use Rattle.mvo_store.specs.Old.{AreUnmarked};
-ghost use Rattle.mvo_store.specs.Steps.{manifest_by, segment_by, filled_by};
+ghost use Rattle.mvo_store.specs.Steps.{manifest_by, segment_by, filled_by, spent_by};
 
 use crate::install::generation::Generation;
 use crate::install::install_step::InstallStep;
 use crate::install::placing::take_over;
+use crate::install::spent::Spent;
 use crate::jobs::due::Due;
 use crate::jobs::jobs::Jobs;
 use crate::jobs::step_files::write_step;
@@ -38,28 +39,34 @@ fn unmark_taken(marks: &mut Vec<bool>, jobs: &Jobs)
 }
 
 /// Puts the job's manifest in the place of the installed one, and a rotation's fresh segment in
-/// that of the last. Answers the jobs that run on: a merge whose files aren't all written.
-fn put_installed(jobs: Jobs, manifest: &mut Manifest, segment: &mut Segment) -> Jobs
+/// that of the last. Answers the jobs that run on, which are a merge whose files aren't all
+/// written, and what the job held.
+fn put_installed(jobs: Jobs, manifest: &mut Manifest, segment: &mut Segment) -> (Jobs, Spent)
     ensures manifest { manifest.new ≡ manifest_by (next_installed jobs) manifest.old }
     ensures segment { segment.new ≡ segment_by (next_installed jobs) segment.old }
-    ensures jobs { result ≡ after_install jobs }
+    ensures jobs { result.0 ≡ after_install jobs }
+    ensures spent { result.1 ≡ spent_by (next_installed jobs) }
 {
     match jobs {
         Jobs::Rotation(fresh, install) => {
             *manifest = install.next;
             *segment = fresh;
-            Jobs::none()
+            (Jobs::none(), Spent::Nothing)
         }
-        Jobs::Merge(_, _, install) => {
+        Jobs::Merge(seen, _, install) => {
             *manifest = install.next;
-            Jobs::none()
+            (Jobs::none(), Spent::Merge(seen.made))
         }
-        Jobs::Beside(checkpoint, merge) => {
-            if let Some(checkpoint) = checkpoint {
+        Jobs::Beside(checkpoint, merge) => match checkpoint {
+            Some(checkpoint) => {
                 *manifest = checkpoint.next;
+                (
+                    Jobs::Beside(None, merge),
+                    Spent::Checkpoint(checkpoint.made),
+                )
             }
-            Jobs::Beside(None, merge)
-        }
+            None => (Jobs::Beside(None, merge), Spent::Nothing),
+        },
     }
 }
 
@@ -96,16 +103,15 @@ impl<D: Disk> Store<D> {
         None
     }
 
-    /// Opens the gate, and syncs. The manifest is installed then; the fresh segment of a rotation
-    /// takes frames, and the records of a checkpoint or a merge have their places: those that
-    /// `place_slice` left are put. A merge beside the checkpoint runs on. Answers the generation of
-    /// the manifest.
+    /// Opens the gate, and syncs, as `install_open` does. Answers what the job held, beside the
+    /// generation of the manifest: who holds a lock meanwhile lets it go behind the lock.
     ///
     /// Refused: Down, then NothingToDo where this isn't due, then for a rotation Busy while a body
     /// is written whose gate isn't open, then DiskFault.
-    pub fn install_open(&mut self) -> Result<Generation, Refusal>
+    pub fn open_installed(&mut self) -> Result<(Generation, Spent), Refusal>
         ensures step { IsStoreStep D.Disk self.old (Call (Step (InstallDue Open))) result self.new }
-        ensures generation { IfOk result (λ g. AnswersGeneration self.new g.0) }
+        ensures generation { IfOk result (λ x. AnswersGeneration self.new x.0.0) }
+        ensures spent { IfOk result (λ x. x.1 ≡ spent_by (next_installed self.old.jobs)) }
     {
         if let Some(refusal) = self.why_not_open() {
             return Err(refusal);
@@ -116,13 +122,31 @@ impl<D: Disk> Store<D> {
                 take_over(&mut self.places, &self.jobs);
                 unmark_taken(&mut self.old_marks, &self.jobs);
                 let jobs = replace(&mut self.jobs, Jobs::none());
-                self.jobs = put_installed(jobs, &mut self.manifest, &mut self.segment);
-                Ok(Generation(self.manifest.generation()))
+                let (jobs, spent) = put_installed(jobs, &mut self.manifest, &mut self.segment);
+                self.jobs = jobs;
+                Ok((Generation(self.manifest.generation()), spent))
             }
             Err(refusal) => {
                 self.down = true;
                 Err(refusal)
             }
+        }
+    }
+
+    /// Opens the gate, and syncs. The manifest is installed then; the fresh segment of a rotation
+    /// takes frames, and the records of a checkpoint or a merge have their places: those that
+    /// `place_slice` left are put. A merge beside the checkpoint runs on. Answers the generation of
+    /// the manifest, and lets go of what the job held.
+    ///
+    /// Refused: Down, then NothingToDo where this isn't due, then for a rotation Busy while a body
+    /// is written whose gate isn't open, then DiskFault.
+    pub fn install_open(&mut self) -> Result<Generation, Refusal>
+        ensures step { IsStoreStep D.Disk self.old (Call (Step (InstallDue Open))) result self.new }
+        ensures generation { IfOk result (λ g. AnswersGeneration self.new g.0) }
+    {
+        match self.open_installed() {
+            Ok((generation, _)) => Ok(generation),
+            Err(refusal) => Err(refusal),
         }
     }
 }
