@@ -10,3 +10,4 @@ pub mod InOrder
 pub mod Few
 pub mod LastPuts
 pub mod Taking
+pub mod Slicing

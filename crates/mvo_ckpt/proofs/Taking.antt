@@ -1,5 +1,5 @@
 -- The places after a checkpoint is taken over.
-use Rattle.std.proofs.Common.{◌≡◌, ℕ, ◌+◌, Bool, true, false, cond, List, [], ◌∷◌, ◌++◌, length, Option, None, Some, refl, sym, ap, subst, ◌∙◌, arith, length-append}
+use Rattle.std.proofs.Common.{◌≡◌, ℕ, Bool, true, false, cond, List, [], ◌∷◌, ◌++◌, length, Option, None, Some, refl, sym, ap, subst, ◌∙◌, arith, length-append}
 use Rattle.std.specs.Prelude.{map, filter, not}
 use Rattle.std.specs.List.{AllByRecursion, IsDistinct, enumerate_from, list_any}
 use Rattle.std.specs.FinMap.{find, get, get-from_entries, from_entries, same_map}

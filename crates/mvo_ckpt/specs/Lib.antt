@@ -3,3 +3,4 @@ pub mod Checkpoint
 pub mod Ended
 pub mod Walk
 pub mod Laws
+pub mod Building

@@ -4,9 +4,11 @@
 
 mod building;
 mod checkpoint;
+mod gaining;
 mod laws;
 mod newest;
+mod walking;
 
-pub use building::build;
+pub use building::{Building, Built, SLICE_WRITES, build};
 pub use checkpoint::{Checkpoint, DeltaEntries};
 pub use laws::laws_of_checkpoint;

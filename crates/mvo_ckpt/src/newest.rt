@@ -1,10 +1,10 @@
 //! Walks writes from the last to the first, and keeps the last one of each key.
 ghost use Rattle.std.specs.Prelude.{◌≡◌, OnOk, map};
 ghost use Rattle.mvo_group.specs.Data.{write_data};
-ghost use Rattle.mvo_ckpt.specs.Writes.{stamped, writes_in, writes_of};
+ghost use Rattle.mvo_ckpt.specs.Writes.{stamped};
 ghost use Rattle.mvo_ckpt.specs.Walk.{walk_of, none_met, with_place, with_write, step, walk_writes};
 
-use mvo_group::{Group, Record, Write};
+use mvo_group::Write;
 use mvo_hash::Heads;
 use mvo_pair::DataRecord;
 use mvo_places::Places;
@@ -74,7 +74,8 @@ fn take_write(
     Ok(())
 }
 
-fn take_writes(
+/// Takes the writes of a transaction that stand in front of those before.
+pub fn take_writes(
     newest: &mut Newest,
     places: &Places,
     end: Stamp,
@@ -86,36 +87,6 @@ fn take_writes(
 {
     while let Some(write) = writes.pop() {
         take_write(newest, places, end, write)?;
-    }
-    Ok(())
-}
-
-fn take_records(
-    newest: &mut Newest,
-    places: &Places,
-    mut records: Vec<Record>,
-) -> Result<(), AllocError>
-    ensures { OnOk result (walk_of newest.new ≡
-        walk_writes places.now.at (writes_in records.items) (walk_of newest.old)) }
-{
-    while let Some(commit) = records.pop() {
-        let Record { end, writes } = commit;
-        take_writes(newest, places, end, writes)?;
-    }
-    Ok(())
-}
-
-/// Takes the writes of groups that stand in front of those before.
-pub fn take_groups(
-    newest: &mut Newest,
-    places: &Places,
-    mut groups: Vec<Group>,
-) -> Result<(), AllocError>
-    ensures { OnOk result (walk_of newest.new ≡
-        walk_writes places.now.at (writes_of groups.items) (walk_of newest.old)) }
-{
-    while let Some(group) = groups.pop() {
-        take_records(newest, places, group.into_records())?;
     }
     Ok(())
 }
