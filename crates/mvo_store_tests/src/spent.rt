@@ -23,7 +23,7 @@ enum Held {
     Merge(usize),
 }
 
-fn held(spent: &Spent) -> Held {
+fn kind_of(spent: &Spent) -> Held {
     match spent {
         Spent::Nothing => Held::Nothing,
         Spent::Checkpoint(made) => Held::Checkpoint(made.records.len()),
@@ -39,7 +39,7 @@ fn opens(
 ) -> Result<(), Fail> {
     let (installed, spent) = store.open_installed()?;
     same(rt, &installed, &Generation(generation));
-    same(rt, &held(&spent), &wanted);
+    same(rt, &kind_of(&spent), &wanted);
     Ok(())
 }
 
