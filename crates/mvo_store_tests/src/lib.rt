@@ -33,6 +33,7 @@ mod numbers;
 mod old;
 #[cfg(test)]
 mod places;
+#[cfg(test)]
 mod refused;
 #[cfg(test)]
 mod reply;
