@@ -28,11 +28,17 @@ use Rattle.mvo_store.specs.Seen.{mark_of}
 use Rattle.mvo_store.specs.Causes.{why_not_take}
 use Rattle.mvo_store.specs.Calls.{AnswersCall, AnswersSlice, AnswersPlaces, IsStoreStep, StoreStep}
 use Rattle.mvo_store.specs.Calls.StoreStep.{Take, Call, Slice as SliceOf, Place}
-use Rattle.mvo_store.specs.declared.jobs.due.Due.TheVariants.{Data, MergeData}
+use Rattle.mvo_store.specs.declared.jobs.due.Due.TheVariants.{Data, MergeData, Install}
+use Rattle.mvo_store.specs.declared.install.generation.Generation.{Generation}
+use Rattle.mvo_store.specs.declared.install.install_step.InstallStep.TheVariants.{Open}
+use Rattle.mvo_store.specs.declared.install.spent.Spent.{Spent}
+use Rattle.mvo_store.specs.Jobs.{next_installed}
+use Rattle.mvo_store.specs.Steps.{spent_by}
 use Rattle.mvo_store.specs.declared.jobs.progress.Progress.{Progress}
 use Rattle.mvo_store.specs.declared.call.StoreCall.{StoreCall}
+use Rattle.mvo_store.specs.declared.call.StoreCall.TheVariants.{Step as StepOf}
 use Rattle.mvo_store.specs.declared.done.Done.{Done}
-use Rattle.mvo_store.specs.declared.done.Done.TheVariants.{Durable}
+use Rattle.mvo_store.specs.declared.done.Done.TheVariants.{Durable, Installed}
 use Rattle.mvo_engine.specs.declared.run.run.TheConstants.{MAX_SESSIONS}
 use Rattle.mvo_engine.specs.declared.slice.Slice.{Slice}
 use Rattle.mvo_engine.specs.declared.slice.Slice.TheVariants.{Checkpoint, Merge, Places}
@@ -160,6 +166,17 @@ pub record IsLockedSlice {D : Type 0} (d : Ghosts D) (old : StoreState D) (slice
   pub answers : IfOk result (λ progress. AnswersAsked slice new.store progress)
   pub received : new.received ≡ old.received
   pub published : new.published ≡ old.published
+
+-- what the call answers that installs a manifest
+abbrev pub installed_by : Result (Generation × Spent) Refusal → Result Done Refusal
+installed_by (Ok opened) = Ok (Installed opened.0)
+installed_by (Err e) = Err e
+
+-- A manifest is installed, as by the call, and what its job held is answered beside.
+pub record IsLockedOpening {D : Type 0} (d : Ghosts D) (old : StoreState D)
+    (result : Result (Generation × Spent) Refusal) (new : StoreState D) : Type 0 where
+  pub call : IsLockedCall d old (StepOf (Install Open)) (installed_by result) new
+  pub spent : IfOk result (λ opened. opened.1 ≡ spent_by (next_installed old.store.jobs))
 
 -- ---- a session
 

@@ -12,7 +12,7 @@ use crate::taken::Taken;
 use mvo_disk::Disk;
 use mvo_group::Group;
 use mvo_marks::{Marks, Publisher, Seat};
-use mvo_store::{Done, Manifest, Progress, Store, StoreCall};
+use mvo_store::{Done, Generation, Manifest, Progress, Spent, Store, StoreCall};
 use mvo_types::{Refusal, Stamp};
 use rtrb::{Consumer, Producer};
 use std::alloc::Global;
@@ -85,7 +85,8 @@ impl<L: Run, D: Disk> LockedStore<L, D> {
     ghost use Rattle.mvo_engine.specs.Passing.{count_of_groups};
     ghost use Rattle.mvo_engine.specs.run.Rings.{ring_of, ring_from};
     ghost use Rattle.mvo_engine.specs.Sound.{IsSoundStore, GivesReceived, LeavesReceived};
-    ghost use Rattle.mvo_engine.specs.Calls.{IsLockedCall, IsLockedSlice, HasTaken, IsNotTaken};
+    ghost use Rattle.mvo_engine.specs.Calls.{IsLockedCall, IsLockedSlice, IsLockedOpening};
+    ghost use Rattle.mvo_engine.specs.Calls.{HasTaken, IsNotTaken};
     ghost use Rattle.mvo_engine.specs.Asked.{WasDown};
 
     /// A store with its end of the ring, out of which so many groups were taken, and the publishing
@@ -218,6 +219,16 @@ impl<L: Run, D: Disk> LockedStore<L, D> {
     {
         match slice_of(&mut self.store, slice) {
             Ok(progress) => Ok(progress),
+            Err(refusal) => Err(refusal),
+        }
+    }
+
+    /// As `Store::open_installed`.
+    pub fn open_installed(&mut self) -> Result<(Generation, Spent), Refusal>
+        ensures { IsLockedOpening D.Disk self.old result self.new }
+    {
+        match self.store.open_installed() {
+            Ok(opened) => Ok(opened),
             Err(refusal) => Err(refusal),
         }
     }

@@ -8,7 +8,7 @@ use crate::slice::Slice;
 use crate::turns::Turns;
 use mvo_disk::Disk;
 use mvo_marks::Marks;
-use mvo_store::{Done, Log, Manifest, Progress, StoreCall, StoreCaller, turn};
+use mvo_store::{Done, Generation, Log, Manifest, Progress, Spent, StoreCall, StoreCaller, turn};
 use mvo_types::{Refusal, Stamp};
 use std::marker::Model;
 use std::sync::MutexGuard;
@@ -53,7 +53,7 @@ impl<'e, L: Run, D: Disk> StoreGuard<'e, L, D> {
     ghost use Rattle.mvo_store.specs.Causes.{why_not_take};
     ghost use Rattle.mvo_store.specs.Flushing.{IsTurn};
     ghost use Rattle.mvo_engine.specs.Sound.{LeavesReceived};
-    ghost use Rattle.mvo_engine.specs.Calls.{IsLockedCall, IsLockedSlice};
+    ghost use Rattle.mvo_engine.specs.Calls.{IsLockedCall, IsLockedSlice, IsLockedOpening};
     ghost use Rattle.mvo_engine.specs.Calls.{IsTaking, HasTaken, IsNotTaken};
     ghost use Rattle.mvo_engine.specs.Flushing.{IsFlushOfOne};
 
@@ -122,6 +122,14 @@ impl<'e, L: Run, D: Disk> StoreGuard<'e, L, D> {
         ensures { IsLockedSlice D.Disk self.old slice result self.new }
     {
         self.held.slice(slice)
+    }
+
+    /// The last step of an install, as `Store::open_installed`: it answers what the job held, whose
+    /// memory is given back row by row. Drop it behind the guard.
+    pub fn open_installed(&mut self) -> Result<(Generation, Spent), Refusal>
+        ensures { IsLockedOpening D.Disk self.old result self.new }
+    {
+        self.held.open_installed()
     }
 
     /// One step of a flush: makes the group durable that is being appended, or else the next one

@@ -20,6 +20,9 @@ impl<L: Run, D: Disk, G: Gate + Drop> Engine<L, D, G> {
     ghost use Rattle.mvo_store.specs.Wholes.{AreToRefusal, IsCheckpoint, rotation, merge};
     ghost use Rattle.mvo_engine.specs.Jobs.{IsCallAlone, IsInSlices, IsDataAlone, IsBehindPlaces};
     ghost use Rattle.mvo_engine.specs.Jobs.{IsOneCallAlone, AreSlicesAlone, IsSliceAlone, told_of};
+    ghost use Rattle.mvo_store.specs.declared.call.StoreCall.TheVariants.{Step};
+    ghost use Rattle.mvo_store.specs.declared.jobs.due.Due.TheVariants.{Install as InstallDue};
+    ghost use Rattle.mvo_store.specs.declared.install.install_step.InstallStep.TheVariants.{Open};
 
     /// All steps of a rotation of the log, from the fresh segment to its installing. The lock of
     /// the store is taken anew for each step, so that others flush in between: those who wait for
@@ -141,6 +144,18 @@ impl<L: Run, D: Disk, G: Gate + Drop> Engine<L, D, G> {
     fn one_call_in_turn<R: Wait>(&self, rt: &R, call: StoreCall) -> Result<Done, Refusal>
         ensures { IsOneCallAlone D.Disk call result }
     {
+        let done = match call {
+            StoreCall::Step(Due::Install(InstallStep::Open)) => self.opening_in_turn(rt),
+            call => self.any_call_in_turn(rt, call),
+        };
+        self.counting.count_call(call, &done);
+        done
+    }
+
+    // Any call alone.
+    fn any_call_in_turn<R: Wait>(&self, rt: &R, call: StoreCall) -> Result<Done, Refusal>
+        ensures { IsOneCallAlone D.Disk call result }
+    {
         self.gate.pass(Place::Turn);
         let turn = self.turns.take(rt);
         let mut store = self.guard_store(rt);
@@ -149,8 +164,26 @@ impl<L: Run, D: Disk, G: Gate + Drop> Engine<L, D, G> {
         self.count_hold(since);
         drop(store);
         drop(turn);
-        self.counting.count_call(call, &done);
         done
+    }
+
+    // The last step of an install, alone. What the job held is let go of behind the lock and the
+    // turn: that takes the time of giving back the memory of each of its rows.
+    fn opening_in_turn<R: Wait>(&self, rt: &R) -> Result<Done, Refusal>
+        ensures { IsOneCallAlone D.Disk (Step (InstallDue Open)) result }
+    {
+        self.gate.pass(Place::Turn);
+        let turn = self.turns.take(rt);
+        let mut store = self.guard_store(rt);
+        let since = self.nanos();
+        let opened = store.open_installed();
+        self.count_hold(since);
+        drop(store);
+        drop(turn);
+        match opened {
+            Ok((generation, _)) => Ok(Done::Installed(generation)),
+            Err(refusal) => Err(refusal),
+        }
     }
 }
 
