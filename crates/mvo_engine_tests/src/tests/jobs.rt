@@ -4,7 +4,7 @@ use super::asking::Ask::{Change, Find, Put};
 use super::calls::{BODY, CLOSE, DATA, DELTA, MERGE_DATA, MERGE_DELTA, OPEN};
 use super::counting::Counting;
 use super::steps::Step::{Checkpoint, Flush, Merge, One, Rotate, Store};
-use super::steps::StoreStep::{Call, Installed, Pairs, SliceOf};
+use super::steps::StoreStep::{Call, Installed, OpenInstalled, Pairs, SliceOf};
 use super::steps::{Line, follow_new};
 use super::told::Told::{self, Byte, Done, More, Number, Ready, Shut, Written};
 use super::told::{BUSY, NOTHING_TO_DO, called, installed};
@@ -42,7 +42,7 @@ const WHOLE: [Line; 15] = [
 ];
 
 /// Behind a rotation, so that the log has a sealed segment.
-const BY_STEPS: [Line; 30] = [
+const BY_STEPS: [Line; 31] = [
     (Store(SliceOf(Slice::Places)), NOTHING_TO_DO),
     // A checkpoint runs, and no other job begins. It goes on by its steps: the merged pair's delta
     // file gains a number behind the new pair's own.
@@ -71,9 +71,10 @@ const BY_STEPS: [Line; 30] = [
     (Store(Call(MERGE_DELTA)), Ready),
     (Store(SliceOf(Slice::Places)), Ready),
     (Store(SliceOf(Slice::Places)), NOTHING_TO_DO),
+    (Store(OpenInstalled), NOTHING_TO_DO),
     (Store(Call(CLOSE)), Shut),
     (Store(Call(BODY)), Written),
-    (Store(Call(OPEN)), Number(8)),
+    (Store(OpenInstalled), Number(8)),
     (Store(Installed), Number(8)),
     (Store(Pairs), Number(1)),
     // The files that no manifest names any more are emptied, one a call.

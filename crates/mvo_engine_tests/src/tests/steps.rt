@@ -2,7 +2,7 @@
 
 use super::asking::Ask;
 use super::lasting::forget;
-use super::told::{Told, called, done, installed, said, sliced, stamped};
+use super::told::{Told, called, done, installed, opened, said, sliced, stamped};
 use crate::equal::same_at;
 use mvo_core::Collection;
 use mvo_disk::Disk;
@@ -63,6 +63,8 @@ pub enum StoreStep {
     Call(StoreCall),
     /// The next slice of a job.
     SliceOf(Slice),
+    /// The last step of an install: the generation of the manifest.
+    OpenInstalled,
     /// The generation of the installed manifest, and how many pairs and segments it names.
     Installed,
     Pairs,
@@ -121,6 +123,7 @@ impl StoreStep {
             StoreStep::FlushOne => said(store.flush_one()),
             StoreStep::Call(call) => called(store.call(call)),
             StoreStep::SliceOf(slice) => sliced(store.slice(slice)),
+            StoreStep::OpenInstalled => opened(store.open_installed()),
             StoreStep::Installed => Told::Number(store.manifest().generation()),
             StoreStep::Pairs => Told::Number(store.manifest().pairs().len() as u64),
             StoreStep::Segments => Told::Number(store.manifest().segments().len() as u64),

@@ -3,7 +3,7 @@
 use super::rows::byte_in;
 use mvo_disk::Disk;
 use mvo_engine::{Gate, Run, Session, Transacted};
-use mvo_store::{Done, Generation, Progress, Reclaimed};
+use mvo_store::{Done, Generation, Progress, Reclaimed, Spent};
 use mvo_types::{Answer, Refusal, Stamp, TxId};
 
 /// What a step is answered.
@@ -106,6 +106,14 @@ pub fn stamped(answer: Result<Stamp, Refusal>) -> Told {
 pub fn installed(answer: Result<Generation, Refusal>) -> Told {
     match answer {
         Ok(generation) => Told::Number(generation.0),
+        Err(refusal) => Told::Refused(refusal.code()),
+    }
+}
+
+/// The generation that is installed, whatever the job held.
+pub fn opened(answer: Result<(Generation, Spent), Refusal>) -> Told {
+    match answer {
+        Ok((generation, _)) => Told::Number(generation.0),
         Err(refusal) => Told::Refused(refusal.code()),
     }
 }
