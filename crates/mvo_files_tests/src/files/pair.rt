@@ -2,6 +2,7 @@
 
 mod late;
 mod plain;
+mod reading;
 mod slices;
 mod spelling;
 mod vectors;

@@ -10,10 +10,10 @@ use std::process::Abort;
 use std::test::Fail;
 
 /// How many records: three more than fit into a slice.
-const COUNT: u32 = 1_020;
+pub const COUNT: u32 = 1_020;
 
 /// Records of as much data as there may be.
-fn long_records(alloc: Global) -> Result<Vec<DataRecord>, AllocError> {
+pub fn long_records(alloc: Global) -> Result<Vec<DataRecord>, AllocError> {
     let mut records = Vec::new(alloc);
     for key in 0..u64::from(COUNT) {
         let data = vec![in alloc; (key % 256) as u8; 4_096]?;
@@ -26,7 +26,7 @@ fn long_records(alloc: Global) -> Result<Vec<DataRecord>, AllocError> {
 }
 
 /// A disk with the records in one piece.
-fn in_one(alloc: Global, records: &[DataRecord]) -> Result<MemDisk, Fail> {
+pub fn in_one(alloc: Global, records: &[DataRecord]) -> Result<MemDisk, Fail> {
     let mut disk = MemDisk::new(alloc)?;
     let pair = pair(COUNT, 0);
     if pair.data_file >= 1024 || !are_entries(LAST_FORMAT, pair, records) {
