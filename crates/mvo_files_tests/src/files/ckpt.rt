@@ -4,4 +4,5 @@ mod falling;
 mod making;
 mod places;
 mod plain;
+mod slices;
 mod vectors;

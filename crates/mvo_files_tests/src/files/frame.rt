@@ -1,4 +1,5 @@
 //! File headers and log segments.
 
 mod headers;
+mod slices;
 mod tests;

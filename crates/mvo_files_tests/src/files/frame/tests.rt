@@ -10,7 +10,7 @@ use std::process::Abort;
 use std::test::Fail;
 
 // A segment with the group (0, 2]: one record, end 2, one put at table 0, key 5, sort 50, data 61.
-const SEGMENT: [u8; 63] = [
+pub const SEGMENT: [u8; 63] = [
     0x4d, 0x56, 0x4f, 0x4c, 1, 0, 0, 0, 0xa5, 0x31, 0, 0, 0, 0, 0, 0, 0, 0, 0, 0, 0, 2, 0, 0, 0, 0,
     0, 0, 0, 1, 0, 2, 0, 0, 0, 0, 0, 0, 0, 1, 0, 1, 0, 5, 0, 0, 0, 0, 0, 0, 0, 0x32, 0, 0, 0, 0, 0,
     0, 0, 1, 0, 0x61, 0,
