@@ -1,5 +1,5 @@
 -- A whole job ends with an install.
-use Rattle.std.proofs.Common.{◌≡◌, ℕ, Option, List, [], ◌∷◌, inl, inr, Result, Ok, Err, refl, sym, subst}
+use Rattle.std.proofs.Common.{◌≡◌, ℕ, true, Option, List, [], ◌∷◌, inl, inr, Result, Ok, Err, refl, sym, subst}
 use Rattle.std.specs.Prelude.{IfOk}
 use Rattle.mvo_types.specs.declared.refusal.Refusal.{Refusal}
 use Rattle.mvo_disk.specs.declared.disk.Disk.{Ghosts}
@@ -14,11 +14,16 @@ use Rattle.mvo_store.proofs.Taken.{IsQuiet}
 use Rattle.mvo_engine.specs.declared.slice.Slice.{Slice}
 use Rattle.mvo_engine.specs.declared.slice.Slice.TheVariants.{Checkpoint, Merge, Places}
 use Rattle.mvo_engine.specs.Calls.{asked_by}
-use Rattle.mvo_engine.specs.Jobs.{IsAloneWith, IsCallAlone, slices_of, IsInstallAnswer}
+use Rattle.mvo_engine.specs.Jobs.{IsAloneWith, IsCallAlone, IsOneCallAlone, slices_of, opens_a_manifest, IsInstallAnswer}
 
 -- what is known of the call's slices says how it is made
 pub alone_with : {D : Type 0} (d : Ghosts D) (call : StoreCall) (r : Result Done Refusal) {slices : Option Slice} → slices_of call ≡ slices → IsAloneWith d slices call r → IsCallAlone d tt call r tt
 alone_with d call r {slices} is h = subst (λ (x : Option Slice). IsAloneWith d x call r) (sym is) h
+
+-- the call that installs a manifest is the last step of an install
+pub opens_alone : {D : Type 0} (d : Ghosts D) (call : StoreCall) (r : Result Done Refusal) → opens_a_manifest call ≡ true → IsOneCallAlone d (Step (Install Open)) r → IsOneCallAlone d call r
+opens_alone d (Step (Install Open)) r is h = h
+opens_alone d call r is h = absurd (cc is)
 
 refused_so : (P : Done → Type 0) (r : Result Done Refusal) (e : Refusal) → r ≡ Err e → IfOk r P
 refused_so P r e is = subst (λ (x : Result Done Refusal). IfOk x P) (sym is) tt

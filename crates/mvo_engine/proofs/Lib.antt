@@ -22,6 +22,7 @@ mod Transacting
 mod Asking
 mod ReadingMany
 mod OneCall
+mod Opened
 mod RollingBack
 pub mod Upkeep
 pub mod Passing

@@ -1,12 +1,12 @@
 -- What the jobs of the store come to that an engine makes whole.
-use Rattle.std.specs.Prelude.{◌≡◌, Option, Some, None, Result, Ok, Err}
+use Rattle.std.specs.Prelude.{◌≡◌, Bool, true, false, Option, Some, None, Result, Ok, Err}
 use Rattle.mvo_types.specs.declared.refusal.Refusal.{Refusal}
 use Rattle.mvo_disk.specs.declared.disk.Disk.{Ghosts}
 use Rattle.mvo_store.specs.declared.install.generation.Generation.{Generation}
 use Rattle.mvo_store.specs.declared.call.StoreCall.{StoreCall}
 use Rattle.mvo_store.specs.declared.call.StoreCall.TheVariants.{Step}
 use Rattle.mvo_store.specs.declared.jobs.due.Due.TheVariants.{Data, MergeData, Install}
-use Rattle.mvo_store.specs.declared.install.install_step.InstallStep.TheVariants.{Close}
+use Rattle.mvo_store.specs.declared.install.install_step.InstallStep.TheVariants.{Close, Open}
 use Rattle.mvo_store.specs.declared.jobs.progress.Progress.{Progress}
 use Rattle.mvo_store.specs.declared.jobs.progress.Progress.TheVariants.{More, Ready}
 use Rattle.mvo_store.specs.declared.done.Done.{Done}
@@ -36,6 +36,11 @@ AreSlicesAlone d slice result =
 -- begins with some store, and not with the one that the call before it left.
 abbrev pub IsOneCallAlone : {D : Type 0} → Ghosts D → StoreCall → Result Done Refusal → Type 0
 IsOneCallAlone {D} d call result = (old new : StoreState D) × IsLockedCall d old call result new
+
+-- the call installs a manifest
+abbrev pub opens_a_manifest : StoreCall → Bool
+opens_a_manifest (Step (Install Open)) = true
+opens_a_manifest call = false
 
 -- the slices that a call is made of, or that are made before it
 abbrev pub slices_of : StoreCall → Option Slice

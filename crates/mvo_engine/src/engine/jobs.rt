@@ -1,6 +1,7 @@
 //! The jobs of the store, each from its first step to its installing.
 ghost use Rattle.std.specs.Prelude.{◌≡◌, IfOk};
-ghost use Rattle.mvo_engine.specs.Jobs.{IsInstallAnswer, slices_of, told_of};
+ghost use Rattle.mvo_engine.specs.Calls.{installed_by};
+ghost use Rattle.mvo_engine.specs.Jobs.{IsInstallAnswer, opens_a_manifest, slices_of, told_of};
 
 use super::Engine;
 use super::call_by_call::CallByCall;
@@ -10,7 +11,7 @@ use crate::run::Run;
 use crate::slice::Slice;
 use mvo_disk::Disk;
 use mvo_store::{
-    Done, Due, Generation, InstallStep, Progress, StoreCall, run_checkpoint, run_merge,
+    Done, Due, Generation, InstallStep, Progress, Spent, StoreCall, run_checkpoint, run_merge,
     run_rotation,
 };
 use mvo_types::Refusal;
@@ -144,12 +145,19 @@ impl<L: Run, D: Disk, G: Gate + Drop> Engine<L, D, G> {
     fn one_call_in_turn<R: Wait>(&self, rt: &R, call: StoreCall) -> Result<Done, Refusal>
         ensures { IsOneCallAlone D.Disk call result }
     {
-        let done = match call {
-            StoreCall::Step(Due::Install(InstallStep::Open)) => self.opening_in_turn(rt),
-            call => self.any_call_in_turn(rt, call),
-        };
+        let done = self.uncounted_in_turn(rt, call);
         self.counting.count_call(call, &done);
         done
+    }
+
+    // So it is made, and isn't counted.
+    fn uncounted_in_turn<R: Wait>(&self, rt: &R, call: StoreCall) -> Result<Done, Refusal>
+        ensures { IsOneCallAlone D.Disk call result }
+    {
+        if opens_a_manifest(call) {
+            return self.opening_in_turn(rt);
+        }
+        self.any_call_in_turn(rt, call)
     }
 
     // Any call alone.
@@ -180,10 +188,7 @@ impl<L: Run, D: Disk, G: Gate + Drop> Engine<L, D, G> {
         self.count_hold(since);
         drop(store);
         drop(turn);
-        match opened {
-            Ok((generation, _)) => Ok(Done::Installed(generation)),
-            Err(refusal) => Err(refusal),
-        }
+        installed_by(opened)
     }
 }
 
@@ -196,6 +201,26 @@ fn slices_of(call: StoreCall) -> Option<Slice>
         StoreCall::Step(Due::MergeData) => Some(Slice::Merge),
         StoreCall::Step(Due::Install(InstallStep::Close)) => Some(Slice::Places),
         _ => None,
+    }
+}
+
+// Whether it is the last step of an install.
+fn opens_a_manifest(call: StoreCall) -> bool
+    ensures { result ≡ opens_a_manifest call }
+{
+    match call {
+        StoreCall::Step(Due::Install(InstallStep::Open)) => true,
+        _ => false,
+    }
+}
+
+// What the call answers that installs a manifest. What the job held is let go of.
+fn installed_by(opened: Result<(Generation, Spent), Refusal>) -> Result<Done, Refusal>
+    ensures { result ≡ installed_by opened }
+{
+    match opened {
+        Ok((generation, _)) => Ok(Done::Installed(generation)),
+        Err(refusal) => Err(refusal),
     }
 }
 
