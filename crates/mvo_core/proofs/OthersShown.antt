@@ -34,11 +34,11 @@ use Rattle.mvo_content.proofs.Fitting.{shown_fits}
 use Rattle.mvo_standing.specs.Scans.{ShownAtKeys, row_if_sorted, sorted_row_of, row_at_sort_place, rows_of_places, places_of_range, others_shown}
 use Rattle.mvo_standing.proofs.Absent.{shown_others, none_in_front}
 use Rattle.mvo_standing.proofs.Others.{others_scanned}
-use Rattle.mvo_standing.proofs.Telling.{holds_history, shows_others_range}
+use Rattle.mvo_standing.proofs.Telling.{shows_others_range}
 use Rattle.mvo_core.specs.declared.kept_transaction.KeptTransaction.{KeptTransaction}
 use Rattle.mvo_core.specs.Readers.{Readers}
-use Rattle.mvo_core.specs.Data.{CoreData, own_of}
-use Rattle.mvo_core.specs.Own.{has_own_writes}
+use Rattle.mvo_core.specs.Data.{CoreData}
+use Rattle.mvo_core.specs.Own.{has_writes, done_in}
 use Rattle.mvo_core.specs.Others.{shown_as_of, AreOthersFor, AreOthersShown}
 use Rattle.mvo_core.specs.Scanning.{row_at_sort, row_with_sort}
 use Rattle.mvo_core.specs.Standing.{StandsAmong}
@@ -113,23 +113,21 @@ module _ (rs : Readers) (opening : Map) (steps : List Step) (s : State) (c : Cor
       (ap (λ (n : ℕ). active_of n s.active) id ∙ here.found) of lo hi)
 
   -- who has written nothing, has no written key
-  none_written : has_own_writes (own_of c.table t) ≡ false → written_keys (works_in c.works t).history ≡ []
-  none_written e =
-      let held = (holds_history opening steps s h.beside.given (works_in c.works) h.beside.together t here.tx here.found).history in
-      ap written_keys (held ∙ sym here.history)
-      ∙ no_keys (written_keys here.own.work.history) (sym (ap has_own_writes here.kept) ∙ e)
+  none_written : has_writes (done_in c.works t) ≡ false → written_keys (works_in c.works t).history ≡ []
+  none_written e = no_keys (written_keys (works_in c.works t).history) e
     where
       no_keys : (ks : List RowKey) → not (length ks == 0) ≡ false → ks ≡ []
       no_keys [] f = refl
       no_keys (k ∷ ks) f = let n = eqb-true (length (k ∷ ks)) 0 (denied (length (k ∷ ks) == 0) f) in absurd (omega (arith, n))
 
-  pub others_are : (rows others : List RowData) → rows ≡ scan (snapshot s t) of lo hi → AreOthersShown c.table c.versions t of lo hi rows others → others ≡ scan (seen_by s.base s.stamped t) of lo hi
-  others_are rows others own o = go (has_own_writes (own_of c.table t)) refl o
-    where
-      go : (b : Bool) → has_own_writes (own_of c.table t) ≡ b → AreOthersFor b c.table c.versions t of lo hi rows others → others ≡ scan (seen_by s.base s.stamped t) of lo hi
-      go true e w = w in_order ∙ ap (λ (shown : ShownAtKeys). rows_of_places c.versions.slots shown (places_of_range c.versions.places of lo hi)) as_others ∙ scanned
-      go false e w = w ∙ own ∙ shows_others_range opening steps s h.beside.given (works_in c.works) h.beside.together t here.tx of lo hi here.found (none_written e)
+  module _ (ts : History) (same : ts ≡ done_in c.works t) (rows others : List RowData) (own : rows ≡ scan (snapshot s t) of lo hi) (o : AreOthersShown ts c.table c.versions t of lo hi rows others) where
+    pub others_are : others ≡ scan (seen_by s.base s.stamped t) of lo hi
+    others_are = go (has_writes ts) refl o
+      where
+        go : (b : Bool) → has_writes ts ≡ b → AreOthersFor b c.table c.versions t of lo hi rows others → others ≡ scan (seen_by s.base s.stamped t) of lo hi
+        go true e w = w in_order ∙ ap (λ (shown : ShownAtKeys). rows_of_places c.versions.slots shown (places_of_range c.versions.places of lo hi)) as_others ∙ scanned
+        go false e w = w ∙ own ∙ shows_others_range opening steps s h.beside.given (works_in c.works) h.beside.together t here.tx of lo hi here.found (none_written (ap has_writes (sym same) ∙ e))
 
-  -- so they can be the rows of the range
-  pub others_fit : (rows others : List RowData) → rows ≡ scan (snapshot s t) of lo hi → AreOthersShown c.table c.versions t of lo hi rows others → AreRowsOf (Range of lo hi) others
-  others_fit rows others own o = subst (AreRowsOf (Range of lo hi)) (sym (others_are rows others own o)) (shown_fits (Range of lo hi) (seen_by s.base s.stamped t))
+    -- so they can be the rows of the range
+    pub others_fit : AreRowsOf (Range of lo hi) others
+    others_fit = subst (AreRowsOf (Range of lo hi)) (sym others_are) (shown_fits (Range of lo hi) (seen_by s.base s.stamped t))

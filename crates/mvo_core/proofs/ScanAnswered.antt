@@ -7,6 +7,7 @@ use Rattle.mvo_types.specs.AnswerData.{AnswerData}
 use Rattle.mvo_types.specs.AnswerData.AnswerData.{Rows}
 use Rattle.mvo_types.specs.Keys.{Map}
 use Rattle.mvo_types.specs.RowData.{RowData}
+use Rattle.mvo_model.specs.History.{History}
 use Rattle.mvo_model.specs.Serial.{scan}
 use Rattle.mvo_model.specs.Trace.{Step}
 use Rattle.mvo_theory.specs.Calls.{answer_in}
@@ -60,19 +61,19 @@ module _ (rs : Readers) (opening : Map) (steps : List Step) (s : State) (c : Cor
     rows_there = seen.rows' ∙ rows_are_scan rs opening steps s c h t.0 here.tx here.found of lo hi
 
     -- it is told what the state answers
-    pub scan_answers : (others : List RowData) → AreOthersShown c.table c.versions t.0 of lo hi rows others → (n : NextData) → IsPreparedAt c.works t.0 (Scan of lo hi) others n → (a : AnswerData) → a ≡ n.answer → a ≡ answer_in s t.0 (Scan of lo hi)
-    scan_answers others o n p a told =
+    pub scan_answers : (ts : History) → ts ≡ done_in c.works t.0 → (others : List RowData) → AreOthersShown ts c.table c.versions t.0 of lo hi rows others → (n : NextData) → IsPreparedAt c.works t.0 (Scan of lo hi) others n → (a : AnswerData) → a ≡ n.answer → a ≡ answer_in s t.0 (Scan of lo hi)
+    scan_answers ts same others o n p a told =
         told
-        ∙ told_answer rs opening steps s c h t.0 (Scan of lo hi) (may_scan rs opening steps s c h t of lo hi looks none) others (λ new. others_are rs opening steps s c h t.0 here of lo hi rows others rows_there o) n p
+        ∙ told_answer rs opening steps s c h t.0 (Scan of lo hi) (may_scan rs opening steps s c h t of lo hi looks none) others (λ new. others_are rs opening steps s c h t.0 here of lo hi ts same rows others rows_there o) n p
 
-    pub scan_fits : (others : List RowData) → AreOthersShown c.table c.versions t.0 of lo hi rows others → AreRowsOf (Range of lo hi) others
-    scan_fits others o = others_fit rs opening steps s c h t.0 here of lo hi rows others rows_there o
+    pub scan_fits : (ts : History) → ts ≡ done_in c.works t.0 → (others : List RowData) → AreOthersShown ts c.table c.versions t.0 of lo hi rows others → AreRowsOf (Range of lo hi) others
+    scan_fits ts same others o = others_fit rs opening steps s c h t.0 here of lo hi ts same rows others rows_there o
 
     -- with these ids, and these rows
     pub scan_leads : (ids : List TxId) → ids ≡ on → (table : Txns (Node KeptTransaction)) → IsRecorded c.table table t ids (Scan of lo hi) (Rows rows)
-        → (others : List RowData) → AreOthersShown c.table c.versions t.0 of lo hi rows others → (more : WorksData) → IsNextTold c.works t.0 (Scan of lo hi) others more → LeadsAmong rs opening steps s (Do t.0 (Scan of lo hi)) Accepted (record c { table = table; works = more })
-    scan_leads ids all table k others o more next =
+        → (ts : History) → ts ≡ done_in c.works t.0 → (others : List RowData) → AreOthersShown ts c.table c.versions t.0 of lo hi rows others → (more : WorksData) → IsNextTold c.works t.0 (Scan of lo hi) others more → LeadsAmong rs opening steps s (Do t.0 (Scan of lo hi)) Accepted (record c { table = table; works = more })
+    scan_leads ids all table k ts same others o more next =
         recorded_leads rs opening steps s c h t here.tx here.found (Scan of lo hi) (Rows rows) (may_scan rs opening steps s c h t of lo hi looks none) (ap Rows rows_there) refl on
         (scan_depends rs opening steps s c h t.0 of lo hi rows on here.tx here.found seen) table
         (subst (λ (xs : List TxId). IsRecorded c.table table t xs (Scan of lo hi) (Rows rows)) all k) more
-        (was_told rs opening steps s c h t.0 (Scan of lo hi) (may_scan rs opening steps s c h t of lo hi looks none) others (λ new. others_are rs opening steps s c h t.0 here of lo hi rows others rows_there o) more next)
+        (was_told rs opening steps s c h t.0 (Scan of lo hi) (may_scan rs opening steps s c h t of lo hi looks none) others (λ new. others_are rs opening steps s c h t.0 here of lo hi ts same rows others rows_there o) more next)

@@ -2,6 +2,7 @@
 use Rattle.std.specs.Prelude.{ℕ, ◌≡◌, ◌+◌, Bool, true, false, List}
 use Rattle.mvo_types.specs.declared.row.RowKey.{RowKey}
 use Rattle.mvo_types.specs.RowData.{RowData}
+use Rattle.mvo_model.specs.History.{History}
 use Rattle.mvo_txn.specs.Txns.{Txns, state_of}
 use Rattle.mvo_deps.specs.declared.node.Node.{Node}
 use Rattle.mvo_visible.specs.Words.{States}
@@ -10,8 +11,7 @@ use Rattle.mvo_visible.specs.Shown.{AreVersionsInOrder, shown_to}
 use Rattle.mvo_versions.specs.Data.{VersionsData}
 use Rattle.mvo_standing.specs.Scans.{ShownAtKeys, rows_of_places, places_of_range}
 use Rattle.mvo_core.specs.declared.kept_transaction.KeptTransaction.{KeptTransaction}
-use Rattle.mvo_core.specs.Data.{own_of}
-use Rattle.mvo_core.specs.Own.{has_own_writes}
+use Rattle.mvo_core.specs.Own.{has_writes}
 
 -- which version a reader with this id is shown at each key as of the begin b
 abbrev pub shown_as_of : States → VersionsData → ℕ → ℕ → ShownAtKeys
@@ -33,7 +33,7 @@ AreOthersFor true table vs t of lo hi rows others =
     AreShownAsOf (state_of table) vs t (table.clock + 1) of lo hi others
 AreOthersFor false table vs t of lo hi rows others = others ≡ rows
 
-abbrev pub AreOthersShown : Txns (Node KeptTransaction) → VersionsData → ℕ → ℕ → ℕ → ℕ
-    → List RowData → List RowData → Type 0
-AreOthersShown table vs t of lo hi rows others =
-    AreOthersFor (has_own_writes (own_of table t)) table vs t of lo hi rows others
+abbrev pub AreOthersShown : History → Txns (Node KeptTransaction) → VersionsData → ℕ → ℕ → ℕ
+    → ℕ → List RowData → List RowData → Type 0
+AreOthersShown ts table vs t of lo hi rows others =
+    AreOthersFor (has_writes ts) table vs t of lo hi rows others

@@ -23,10 +23,9 @@ abbrev pub own_history : Option KeptTransaction → History
 own_history None = []
 own_history (Some own) = own.work.history
 
--- whether it has written
-abbrev pub has_own_writes : Option KeptTransaction → Bool
-has_own_writes None = false
-has_own_writes (Some own) = not (length (written_keys own.work.history) == 0)
+-- whether one that did this has written
+abbrev pub has_writes : History → Bool
+has_writes ts = not (length (written_keys ts) == 0)
 
 -- its next entry to check
 abbrev pub own_entry : Option KeptTransaction → Option Entry

@@ -1,13 +1,12 @@
 //! What others show a transaction in a range.
 ghost use Rattle.std.specs.Prelude.{◌≡◌, ◌+◌, IfOk};
 ghost use Rattle.mvo_txn.specs.Txns.{state_of};
-ghost use Rattle.mvo_core.specs.Data.{own_of};
-ghost use Rattle.mvo_core.specs.Own.{has_own_writes};
+ghost use Rattle.mvo_core.specs.Own.{done_in, has_writes};
 ghost use Rattle.mvo_core.specs.Others.{AreShownAsOf, AreOthersShown};
 
 use crate::kept_transaction::Table;
 use crate::scanning::{add_row, copies_of, row_at_place};
-use mvo_txn::Located;
+use mvo_content::Works;
 use mvo_types::{MAX_STAMP, Row, Stamp, TxId};
 use mvo_versions::Versions;
 use std::alloc::{AllocError, Global};
@@ -18,17 +17,18 @@ pub fn others_shown(
     alloc: Global,
     versions: &Versions,
     table: &Table,
-    tx: Located,
+    works: &Works,
+    tx: TxId,
     of: u8,
     lo: u64,
     hi: u64,
     rows: &[Row],
 ) -> Result<Vec<Row>, AllocError>
-    ensures { IfOk result (λ others. AreOthersShown table.now versions.now tx.id.0 of lo hi rows.now
-        others.items) }
+    ensures { IfOk result (λ others. AreOthersShown (done_in works.now tx.0) table.now versions.now
+        tx.0 of lo hi rows.now others.items) }
 {
-    match has_written(table, tx) {
-        true => others_at_places(alloc, versions, table, tx.id, of, lo, hi),
+    match has_written(works, tx) {
+        true => others_at_places(alloc, versions, table, tx, of, lo, hi),
         false => copies_of(alloc, rows),
     }
 }
@@ -68,11 +68,11 @@ fn next_id(table: &Table) -> TxId
 }
 
 /// Whether the transaction has written.
-fn has_written(table: &Table, tx: Located) -> bool
-    ensures { result ≡ has_own_writes (own_of table.now tx.id.0) }
+fn has_written(works: &Works, id: TxId) -> bool
+    ensures { result ≡ has_writes (done_in works.now id.0) }
 {
-    match table.get(tx) {
-        Some(seat) => seat.kept.own.work.has_writes(),
+    match works.work(id) {
+        Some(work) => work.has_writes(),
         None => false,
     }
 }

@@ -64,7 +64,17 @@ impl Core {
         let (versions, start) = (&self.versions, self.start);
         let scanned = scan_places(alloc, versions, &self.table, start, tx.id, table, lo, hi)?;
         let Scanned { rows, on } = scanned;
-        let others = others_shown(alloc, versions, &self.table, tx, table, lo, hi, &rows)?;
+        let others = others_shown(
+            alloc,
+            versions,
+            &self.table,
+            &self.works,
+            tx.id,
+            table,
+            lo,
+            hi,
+            &rows,
+        )?;
         let op = Op::Scan(table, lo, hi);
         let next = self.works.prepare(tx.id, op, RowsShown::Many(others))?;
         let (op, told) = (Op::Scan(table, lo, hi), Answer::Rows(rows));
