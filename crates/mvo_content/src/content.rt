@@ -10,7 +10,7 @@ ghost use Rattle.mvo_model.specs.History.{after_history};
 ghost use Rattle.mvo_model.specs.Serial.{answer_to, scan};
 ghost use Rattle.mvo_theory.specs.Told.{history_told};
 ghost use Rattle.mvo_theory.specs.Causes.{is_entry_too_many, is_write_too_many};
-ghost use Rattle.mvo_theory.specs.Entries.{entry_of, written_keys};
+ghost use Rattle.mvo_theory.specs.Entries.{entry_of, entries, written_keys};
 ghost use Rattle.mvo_shared.specs.Kept.{IsWork, IsOrdered};
 ghost use Rattle.mvo_shared.specs.Kept.{map_of_rows, with_looked, answer_kept, after_op};
 ghost use Rattle.mvo_theory.specs.Limits.{AreLimited};
@@ -25,7 +25,7 @@ use crate::looks::Looks;
 use crate::memory::{clear_items, take_items};
 use crate::next_operation::NextOperation;
 use crate::own_rows::{by_key, write_all};
-use crate::own_writes::{Left, clear_left, left_at, note_left};
+use crate::own_writes::{Left, clear_left, keys_left, left_at, note_left};
 use crate::rows_shown::RowsShown;
 use indexmap::IndexMap;
 use mvo_model::Serial;
@@ -113,6 +113,20 @@ impl WorkContent {
         &self.looks
     }
 
+    /// How many entries there are.
+    pub fn entry_count(&self) -> usize
+        ensures { result ≡ length (entries self.now.history) }
+    {
+        self.looks.len()
+    }
+
+    /// The entry at a place, from 0 on.
+    pub fn entry_at(&self, place: usize) -> Option<Entry>
+        ensures { result ≡ slice_get (entries self.now.history) place }
+    {
+        self.looks.entry_at(place)
+    }
+
     /// Whether as many entries are kept as may be, and this isn't one of them.
     pub fn is_entry_too_many(&self, entry: Entry) -> bool
         ensures { result ≡ is_entry_too_many self.now.history entry }
@@ -135,6 +149,13 @@ impl WorkContent {
         ensures { result ≡ not (length (written_keys self.now.history) == 0) }
     {
         !self.left.is_empty()
+    }
+
+    /// The keys that it wrote, each once, in the order of the first write.
+    pub fn keys_written(&self) -> Result<Vec<RowKey>, AllocError>
+        ensures { IfOk result (λ keys. keys.items ≡ written_keys self.now.history) }
+    {
+        keys_left(*self.operations.allocator(), &self.left)
     }
 
     /// Takes an empty list for its operations, unless its own has memory. Nothing is done by it.

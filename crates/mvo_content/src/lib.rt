@@ -11,6 +11,7 @@ mod next_operation;
 mod own_rows;
 mod own_writes;
 mod rows_shown;
+mod taken;
 mod works;
 
 pub use content::WorkContent;
@@ -18,4 +19,5 @@ pub use held_work::HeldWork;
 pub use looks::Looks;
 pub use next_operation::NextOperation;
 pub use rows_shown::RowsShown;
+pub use taken::TakenContent;
 pub use works::Works;

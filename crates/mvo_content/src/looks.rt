@@ -75,6 +75,16 @@ impl Looks {
         }
     }
 
+    /// The entry at a place, from 0 on.
+    pub fn entry_at(&self, place: usize) -> Option<Entry>
+        ensures { result ≡ slice_get (entries_in self.now.looked) place }
+    {
+        match self.at(place) {
+            Some((entry, _)) => Some(*entry),
+            None => None,
+        }
+    }
+
     /// The rows that are kept for the entry, if it is kept.
     pub fn rows(&self, entry: Entry) -> Option<&RowsShown>
         ensures there { is_some result ≡ has_entry (entries_in self.now.looked) entry }

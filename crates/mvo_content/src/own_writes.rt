@@ -1,5 +1,5 @@
 //! What the own writes of a transaction left at the keys that it wrote.
-ghost use Rattle.std.specs.Prelude.{◌≡◌, ◌<◌, [], Some, option_copied};
+ghost use Rattle.std.specs.Prelude.{◌≡◌, ◌<◌, [], Some, IfOk, option_copied};
 ghost use Rattle.mvo_types.specs.declared.row.RowKey.{RowKey};
 ghost use Rattle.std.specs.Map.{keys_of};
 ghost use Rattle.std.specs.Option.{option_map};
@@ -9,6 +9,7 @@ ghost use Rattle.mvo_content.specs.Done.{left_at, left_later};
 
 use indexmap::IndexMap;
 use mvo_types::{Row, RowKey};
+use std::alloc::{AllocError, Global};
 
 // The memory of more keys than this isn't kept for another transaction.
 const KEPT: usize = 128;
@@ -21,6 +22,18 @@ pub fn left_at(left: &Left, key: RowKey) -> Option<&Option<Row>>
     ensures { option_copied result ≡ left_at left.now.entries key }
 {
     left.get(&key)
+}
+
+/// The keys that were written, in the order of the first write, in a list with no room for more.
+pub fn keys_left(alloc: Global, left: &Left) -> Result<Vec<RowKey>, AllocError>
+    ensures { IfOk result (λ keys. keys.items ≡ keys_of left.now.entries) }
+{
+    let mut keys = Vec::new(alloc);
+    keys.reserve_exact(left.len())?;
+    for key in left.keys() {
+        keys.push(*key)?;
+    }
+    Ok(keys)
 }
 
 /// Notes what a write left, where there is room.

@@ -4,6 +4,7 @@ ghost use Rattle.mvo_theory.specs.Entries.{entry_of};
 ghost use Rattle.mvo_shared.specs.Held.{empty_work};
 ghost use Rattle.mvo_shared.specs.Kept.{after_op};
 ghost use Rattle.mvo_content.specs.Shown.{rows_in, AreRowsOf};
+ghost use Rattle.mvo_content.specs.Done.{work_in};
 ghost use Rattle.mvo_content.specs.Works.{done_at, work_if_there, works_in};
 ghost use Rattle.mvo_content.specs.Works.{HaveSameWorks, HasWorkFor, IsPreparedAt, MayBeTold};
 
@@ -93,6 +94,17 @@ impl Works {
         match self.held.get_mut(&id.0) {
             Some(content) => content.tell(next),
             None => unreachable!(),
+        }
+    }
+
+    /// Takes out what the transaction did. It is as if it had done nothing. It takes no memory.
+    pub fn take(&mut self, id: TxId) -> WorkContent
+        ensures taken { work_in result ≡ works_in self.old id.0 }
+        ensures left { HasWorkFor self.old self.new id.0 empty_work }
+    {
+        match self.held.swap_remove(&id.0) {
+            Some(content) => content,
+            None => WorkContent::new(*self.held.allocator()),
         }
     }
 
