@@ -123,7 +123,7 @@ pub recorded_alone : (table : Txns (Node KeptTransaction)) (t : TxId) (node : No
 recorded_alone table t node after op answer kept told =
     record {
       roomy = table_after_write table t.0 (record node { own = roomy node.own });
-      room = written table t.0 node (roomy node.own) HasMadeRoom kept (record { same = record { history = refl; words = refl; place = refl; checked = refl; valid = refl; kind = refl }; room = record { operation = omega arith; words = omega arith } });
+      room = written table t.0 node (roomy node.own) HasMadeRoom kept (record { same = record { history = refl; taken = refl; words = refl; place = refl; checked = refl; valid = refl; kind = refl }; room = record { operation = omega arith; words = omega arith } });
       told = written_again table t.0 node (roomy node.own) after (IsTold op answer) kept
           (record { history = told.history; words = told.words; place = told.place; checked = told.checked; valid = told.valid; kind = told.kind });
     }

@@ -33,7 +33,7 @@ SaysAsMuch old new = (u : ℕ) (own : KeptTransaction) → own_of old u ≡ Some
     → (after : KeptTransaction) × (own_of new u ≡ Some after) × HasDoneAsMuch own after
 
 pub as_much : (own : KeptTransaction) → HasDoneAsMuch own own
-as_much own = record { history = refl; words = refl; place = refl; checked = refl; valid = refl; kind = refl }
+as_much own = record { history = refl; taken = refl; words = refl; place = refl; checked = refl; valid = refl; kind = refl }
 
 pub works_carried : (s : State) (old new : Txns (Node KeptTransaction)) (tale : List TalePlace) → SaysAsMuch old new → HasWorks s old tale → HasWorks s new tale
 works_carried s old new tale says h = record {
@@ -43,7 +43,7 @@ works_carried s old new tale says h = record {
       (λ x w open'. let p = w open' in let m = says x.id p.own p.kept in record {
         own = m.0;
         kept = m.1;
-        history = m.2.history ∙ p.history;
+        history = m.2.taken ∙ p.history;
         checked = λ v. m.2.checked ∙ p.checked v;
         valid = m.2.valid ∙ p.valid;
         place = ap (open_end_at tale) m.2.place ∙ p.place;

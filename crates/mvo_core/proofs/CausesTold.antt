@@ -180,10 +180,13 @@ module _ (rs : Readers) (opening : Map) (steps : List Step) (s : State) (c : Cor
   own_if_none none = own_of_active (stands_active c.table t none)
 
   -- its work has what the history has
-  done_is : why_not_active c.table t ≡ None → done_in c.works t ≡ history_of_active t s.active
-  done_is none =
-      let found = active_is s t (sym (h.dependencies.stands.phases t) ∙ ap phase_as (stands_active c.table t none)) in
+  pub done_of_active : state_of c.table t ≡ Some Active → done_in c.works t ≡ history_of_active t s.active
+  done_of_active was =
+      let found = active_is s t (sym (h.dependencies.stands.phases t) ∙ ap phase_as was) in
       (holds_history opening steps s h.beside.given (works_in c.works) h.beside.together t found.0 found.1).history ∙ sym (found_is t s.active found.0 found.1).1
+
+  done_is : why_not_active c.table t ≡ None → done_in c.works t ≡ history_of_active t s.active
+  done_is none = done_of_active (stands_active c.table t none)
 
   pub entry_over_is : (e : Entry) → why_not_active c.table t ≡ None → is_entry_too_many (done_in c.works t) e ≡ is_entry_too_many (history_of_active t s.active) e
   entry_over_is e none = ap (λ ts. is_entry_too_many ts e) (done_is none)

@@ -179,7 +179,7 @@ module _ (rs : Readers) (opening : Map) (steps : List Step) (s : State) (c : Cor
       x_ends = there.2 ∙ sym ends
 
       history_is : x.history ≡ entry.history
-      history_is = sym (history ∙ ap own_history kept.kept ∙ ap (λ own. own.work.history) (sym kept.own_is) ∙ kept.same.history)
+      history_is = sym (history ∙ ap own_history kept.kept ∙ ap (λ own. own.taken.history) (sym kept.own_is) ∙ kept.same.history)
 
       -- ---- what is kept of the others
       active_beside : AllByRecursion (λ r. r.id ≢ t.0) s.active

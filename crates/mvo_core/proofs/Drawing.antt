@@ -40,7 +40,11 @@ use Rattle.mvo_versions.specs.Data.{VersionsData}
 use Rattle.mvo_readonly.specs.Whole.{stage_of}
 use Rattle.mvo_core.specs.Readers.{Readers, reader_in}
 use Rattle.mvo_core.specs.declared.kept_transaction.KeptTransaction.{KeptTransaction}
+use Rattle.mvo_shared.specs.Held.{empty_work}
+use Rattle.mvo_content.specs.Done.{DoneData}
+use Rattle.mvo_content.specs.Works.{WorksData, HasWorkFor}
 use Rattle.mvo_core.specs.Data.{CoreData, own_of}
+use Rattle.mvo_core.specs.Own.{done_in}
 use Rattle.mvo_core.specs.Standing.{IsKeptActive, IsKeptPreparing, HasWorks, own_words_of, words_in, StandsAmong}
 use Rattle.mvo_core.specs.Causes.{why_not_active}
 use Rattle.mvo_core.specs.Aborting.{IsGivenUp}
@@ -58,7 +62,7 @@ use Rattle.mvo_core.proofs.ReaderTales.{places_later, places_with}
 use Rattle.mvo_core.proofs.Rest.{HasRest, stands_then}
 use Rattle.mvo_core.proofs.KeptTale.{tale_opened_among}
 use Rattle.mvo_core.proofs.TaleMoves.{open_behind, open_last}
-use Rattle.mvo_core.proofs.Carried.{some_own}
+use Rattle.mvo_core.proofs.WorksHeld.{work_held, stands_taken_work}
 
 -- ---- numbers
 pub over_limit : (m n : ℕ) → n < m → nat_le m n ≡ false
@@ -126,7 +130,7 @@ module _ (rs : Readers) (opening : Map) (steps : List Step) (s : State) (c : Cor
     abbrev r : ActiveTx
     r = found.0
 
-    module _ (placed : Txns (Node KeptTransaction)) (change : IsOwnChanged c.table placed t.0 (IsPlacedInTale (length c.tale))) where
+    module _ (taken : DoneData) (same : taken.history ≡ done_in c.works t.0) (placed : Txns (Node KeptTransaction)) (change : IsOwnChanged c.table placed t.0 (IsPlacedInTale (length c.tale) taken)) where
       pub still_active : state_of placed t.0 ≡ Some Active
       still_active = change.states t.0 ∙ was_active
 
@@ -164,15 +168,9 @@ module _ (rs : Readers) (opening : Map) (steps : List Step) (s : State) (c : Cor
       others u ne = state_restated placed.seats t.0 (Preparing end') u ne ∙ change.states u
 
       same_words : words_in c.table ≡ words_in table
-      same_words = sym ((λ i u. own_words_of (own_drawn u i)) ∙ words_stay c.table placed t.0 (IsPlacedInTale (length c.tale)) change (ap (λ w. w.words) change.changed.writes))
+      same_words = sym ((λ i u. own_words_of (own_drawn u i)) ∙ words_stay c.table placed t.0 (IsPlacedInTale (length c.tale) taken) change (ap (λ w. w.words) change.changed.writes))
 
       -- ---- what is kept of each
-      kept_active : IsKeptActive c.table r × (r.id ≡ t.0)
-      kept_active = active_holds (IsKeptActive c.table) t.0 s.active r found.1 h.works.active
-
-      before_is : change.before ≡ kept_active.0.own
-      before_is = some_own change.before kept_active.0.own (sym change.was ∙ ap (own_of c.table) (sym its_id) ∙ kept_active.0.kept)
-
       beside : (u : ℕ) → u ≢ t.0 → own_of table u ≡ own_of c.table u
       beside u ne = own_drawn u ∙ change.beside u ne
 
@@ -180,7 +178,7 @@ module _ (rs : Readers) (opening : Map) (steps : List Step) (s : State) (c : Cor
       new_one = record {
         own = change.after;
         kept = ap (own_of table) its_id ∙ own_drawn t.0 ∙ change.is;
-        history = ap (λ w. w.history) change.changed.work ∙ ap (λ own. own.work.history) before_is ∙ kept_active.0.history;
+        history = ap (λ w. w.history) change.changed.took ∙ same ∙ (work_held rs opening steps s c h t.0 r found.1).history;
         checked = λ v. change.changed.checked;
         valid = change.changed.valid;
         place = ap (open_end_at tale) change.changed.is ∙ open_last c.tale end' ∙ ap (λ (n : ℕ). Some n) end_is;
@@ -208,7 +206,7 @@ module _ (rs : Readers) (opening : Map) (steps : List Step) (s : State) (c : Cor
       }
 
       readers : stage_of t.0 rs.unfinished ≡ None → AreSameReaders c.table table
-      readers other u = ap reader_in (own_drawn u) ∙ others_changed c.table placed t.0 (IsPlacedInTale (length c.tale)) change rs.unfinished c.tale h.stages other change.changed.kind u
+      readers other u = ap reader_in (own_drawn u) ∙ others_changed c.table placed t.0 (IsPlacedInTale (length c.tale) taken) change rs.unfinished c.tale h.stages other change.changed.kind u
 
       rest : stage_of t.0 rs.unfinished ≡ None → HasRest rs (after_prepare s r (s.clock + 1)) table tale c
       rest other = record {
@@ -255,23 +253,25 @@ module _ (rs : Readers) (opening : Map) (steps : List Step) (s : State) (c : Cor
           (stands_by_places rs opening _ _ _ versions.places front.places (drawn other free))
 
     -- by what the table answers: with the clock below its limit, the end
-    module _ (place : ℕ) (last : place ≡ length c.tale) (e : Stamp) (drawn : e.0 ≡ c.table.clock + 1) (tale : List TalePlace) (opened : tale ≡ c.tale ++ Open e ∷ []) (versions : VersionsData) (front : AreInFront (comes_at_draw (state_of c.table) t.0) c.versions versions (words_in c.table t.0)) (lt : c.table.clock < MAX_STAMP) (other : stage_of t.0 rs.unfinished ≡ None) where
+    module _ (place : ℕ) (last : place ≡ length c.tale) (e : Stamp) (drawn : e.0 ≡ c.table.clock + 1) (tale : List TalePlace) (opened : tale ≡ c.tale ++ Open e ∷ []) (versions : VersionsData) (front : AreInFront (comes_at_draw (state_of c.table) t.0) c.versions versions (words_in c.table t.0)) (lt : c.table.clock < MAX_STAMP) (other : stage_of t.0 rs.unfinished ≡ None)
+        (taken : DoneData) (same : taken.history ≡ done_in c.works t.0) (works : WorksData) (left : HasWorkFor c.works works t.0 empty_work) where
       free : why_not_precommit s t.0 ≡ None
       free = why other false (over_limit MAX_STAMP c.table.clock lt)
 
       pub unspent : spent_clock c.table.clock ≡ None
       unspent = ap (λ (b : Bool). cond b (Some ClockSpent) None) (over_limit MAX_STAMP c.table.clock lt)
 
-      pub draw_leads : (result : Result Stamp Refusal) (table : Txns (Node KeptTransaction)) → OnOk result (IsWrittenThen c.table table t.0 (IsPlacedInTale place) (λ x. txns.table_after_prepare x t.0)) → IfErr result (λ why. spent_clock c.table.clock ≡ Some why)
-          → LeadsAmong rs opening steps s (Precommit t.0) (came result) (record c { versions = versions; table = table; tale = tale })
+      pub draw_leads : (result : Result Stamp Refusal) (table : Txns (Node KeptTransaction)) → OnOk result (IsWrittenThen c.table table t.0 (IsPlacedInTale place taken) (λ x. txns.table_after_prepare x t.0)) → IfErr result (λ why. spent_clock c.table.clock ≡ Some why)
+          → LeadsAmong rs opening steps s (Precommit t.0) (came result) (record c { versions = versions; table = table; tale = tale; works = works })
       draw_leads (Ok d) new w spent =
           let placed = w.between in
-          let change = own_changed c.table placed t.0 (IsPlacedInTale (length c.tale)) (subst (λ (n : ℕ). IsWritten c.table placed t.0 (IsPlacedInTale n)) last w.written) in
-          let same_clock = clock_written c.table placed t.0 (IsPlacedInTale place) w.written in
+          let change = own_changed c.table placed t.0 (IsPlacedInTale (length c.tale) taken) (subst (λ (n : ℕ). IsWritten c.table placed t.0 (IsPlacedInTale n taken)) last w.written) in
+          let same_clock = clock_written c.table placed t.0 (IsPlacedInTale place taken) w.written in
           let tale_is : tale ≡ c.tale ++ Open (record { 0 = placed.clock + 1 }) ∷ [] = opened ∙ ap (λ (n : ℕ). c.tale ++ Open (record { 0 = n }) ∷ []) (drawn ∙ ap (λ (n : ℕ). n + 1) (sym same_clock)) in
           record {
             may = (free, tt);
-            stands = subst (λ x. StandsAmong rs opening (steps ++ theory.steps_of s (Precommit t.0) Accepted) (after_precommit s t.0) (record c { versions = versions; table = x; tale = tale })) (sym w.is)
-                (stands_drawn placed change other free versions tale front tale_is);
+            stands = subst (λ x. StandsAmong rs opening (steps ++ theory.steps_of s (Precommit t.0) Accepted) (after_precommit s t.0) (record c { versions = versions; table = x; tale = tale; works = works })) (sym w.is)
+                (stands_taken_work rs opening (steps ++ theory.steps_of s (Precommit t.0) Accepted) (after_precommit s t.0) (record c { versions = versions; table = txns.table_after_prepare placed t.0; tale = tale })
+                (stands_drawn taken same placed change other free versions tale front tale_is) works t.0 (record { 0 = placed.clock + 1 }) (here taken same placed change) left);
           }
       draw_leads (Err r) new w spent = absurd (none_refusal r (sym unspent ∙ spent))

@@ -22,15 +22,16 @@ use Rattle.mvo_tale.specs.Slots.{reading_begin_at}
 use Rattle.mvo_tale.specs.WholePlaces.{HasReaders}
 use Rattle.mvo_core.specs.declared.answers.Validation.TheVariants as validation
 use Rattle.mvo_core.specs.declared.kept_transaction.KeptTransaction.{KeptTransaction}
-use Rattle.mvo_core.specs.Causes.{why_not_preparing}
+use Rattle.mvo_core.specs.Causes.{why_not_preparing, is_read_only_kind}
+use Rattle.mvo_core.specs.Checking.{entries_to_check}
 use Rattle.mvo_core.specs.Data.{CoreData, own_of}
 use Rattle.mvo_core.specs.Keeping.{IsWritten, IsCounted}
-use Rattle.mvo_core.specs.Own.{is_own_valid, is_last_check, checked_as, own_check}
+use Rattle.mvo_core.specs.Own.{done_in, is_own_valid, is_last_check, checked_as, own_check}
 use Rattle.mvo_core.specs.Readers.{HaveStages}
 use Rattle.mvo_core.specs.Standing.{StandsAmong}
 use Rattle.mvo_core.specs.WholeStanding.{readers_of, StandsWhole, LeadsWhole, HasSameWork}
 use Rattle.mvo_core.proofs.Carried.{some_own}
-use Rattle.mvo_core.proofs.CausesTold.{IsOwnOfActive, own_of_active}
+use Rattle.mvo_core.proofs.CausesTold.{done_of_active}
 use Rattle.mvo_core.proofs.OwnChanged.{IsOwnChanged, own_changed}
 use Rattle.mvo_core.proofs.ReaderAborted.{reader_kept, reader_apart}
 use Rattle.mvo_core.proofs.ReaderCalled.{state_is, not_preparing, staged}
@@ -120,20 +121,27 @@ module _ (opening : Map) (steps own : List Step) (w : WholeState) (c : CoreData)
         counted_stage : checked_more w.core t (IsPreparing n v) ≡ IsPreparing (n + 1) last
         counted_stage = ap (λ (b : Bool). cond b (IsPreparing n v) (IsPreparing (n + 1) last)) (sym valid_is ∙ unvalid)
 
-        did : IsOwnOfActive w.core c t
-        did = own_of_active (readers_of w) opening own w.core c h.core t active
+        -- its entries are those of its work
+        abbrev count : ℕ
+        count = entries_to_check (done_in c.works t) (own_of c.table t)
 
-        last_is : (o : KeptTransaction) → own_of c.table t ≡ Some o → is_last_check o ≡ last
+        count_is : count ≡ length (entries (history_of_active t w.core.active))
+        count_is =
+            ap (entries_to_check (done_in c.works t)) here.kept
+            ∙ ap (λ k. length (entries (cond (is_read_only_kind k) (done_in c.works t) here.own.taken.history))) here.kind
+            ∙ ap (λ ts. length (entries ts)) (done_of_active (readers_of w) opening own w.core c h.core t active)
+
+        last_is : (o : KeptTransaction) → own_of c.table t ≡ Some o → is_last_check count o ≡ last
         last_is o k =
-            ap (λ ts. nat_le (length (entries ts)) (o.checked + 1)) (ap (λ (x : KeptTransaction). x.work.history) (some_own o did.own (sym k ∙ did.kept)) ∙ did.history)
+            ap (λ (m : ℕ). nat_le m (o.checked + 1)) count_is
             ∙ ap (λ (m : ℕ). nat_le (length (entries (history_of_active t w.core.active))) (m + 1)) (ap (λ (x : KeptTransaction). x.checked) (some_own o here.own (sym k ∙ here.kept)) ∙ here.checked.0 (sym valid_is ∙ unvalid))
 
-        pub reader_counts_as : own_check (own_of c.table t) ≡ cond (is_valid_stage (checked_more w.core t (IsPreparing n v))) validation.Valid validation.More
-        reader_counts_as = ap own_check here.kept ∙ ap checked_as (last_is here.own here.kept) ∙ sym (ap (λ q. cond (is_valid_stage q) validation.Valid validation.More) counted_stage)
+        pub reader_counts_as : own_check count (own_of c.table t) ≡ cond (is_valid_stage (checked_more w.core t (IsPreparing n v))) validation.Valid validation.More
+        reader_counts_as = ap (own_check count) here.kept ∙ ap checked_as (last_is here.own here.kept) ∙ sym (ap (λ q. cond (is_valid_stage q) validation.Valid validation.More) counted_stage)
 
-        module _ (table : Txns (Node KeptTransaction)) (written : IsWritten c.table table t IsCounted) where
-          change : IsOwnChanged c.table table t IsCounted
-          change = own_changed c.table table t IsCounted written
+        module _ (table : Txns (Node KeptTransaction)) (written : IsWritten c.table table t (IsCounted count)) where
+          change : IsOwnChanged c.table table t (IsCounted count)
+          change = own_changed c.table table t (IsCounted count) written
 
           before_is : change.before ≡ here.own
           before_is = some_own change.before here.own (sym change.was ∙ here.kept)

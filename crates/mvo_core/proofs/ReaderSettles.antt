@@ -55,14 +55,16 @@ use Rattle.mvo_representation.specs.Laws as representation
 use Rattle.mvo_representation.specs.Order.{AllStandInOrder, is_put_by}
 use Rattle.mvo_representation.specs.WordLists.{HasWordLists}
 use Rattle.mvo_versions.specs.Data.{VersionsData}
+use Rattle.mvo_shared.specs.Held.{empty_work}
+use Rattle.mvo_content.specs.Works.{WorksData, HasWorkFor}
 use Rattle.mvo_core.specs.declared.answers.Settlement.TheVariants as settlement
 use Rattle.mvo_core.specs.declared.kept_transaction.KeptTransaction.{KeptTransaction}
-use Rattle.mvo_core.specs.declared.kept_transaction.TransactionKind.TheVariants.{Other}
+use Rattle.mvo_core.specs.declared.kept_transaction.TransactionKind.TheVariants.{Other, Committed as KindCommitted}
 use Rattle.mvo_core.specs.Aborting.{tale_left}
 use Rattle.mvo_core.specs.Causes.{why_not_preparing}
 use Rattle.mvo_core.specs.Data.{CoreData, own_of}
 use Rattle.mvo_core.specs.Fronts.{AreInFront}
-use Rattle.mvo_core.specs.Keeping.{IsWritten, HasHandedOverRead}
+use Rattle.mvo_core.specs.Keeping.{IsWritten, HasEndedAs}
 use Rattle.mvo_core.specs.Own.{is_own_valid, own_place}
 use Rattle.mvo_core.specs.Readers.{Readers, HaveStages, HasTalePlaces}
 use Rattle.mvo_core.specs.Standing.{StandsAmong, HasWorks, IsKeptActive, IsKeptPreparing, words_in}
@@ -78,12 +80,13 @@ use Rattle.mvo_core.proofs.ReaderWaits.{reader_awaited_told}
 use Rattle.mvo_core.proofs.Reporting.{own_same}
 use Rattle.mvo_core.proofs.Rest.{not_preparing_too}
 use Rattle.mvo_core.proofs.Undone.{stands_undone}
+use Rattle.mvo_core.proofs.WorksHeld.{stands_without_work}
 
--- ---- its operations are taken out, once it is Aborted for the others
+-- ---- it is Committed, once it is Aborted for the others
 module _ (before : Readers) (opening : Map) (steps : List Step) (s : State) (c : CoreData) (h : StandsAmong before opening steps s c) (t : ℕ) (table : Txns (Node KeptTransaction)) (tale : List TalePlace)
-    (apart : AllByRecursion (λ x. x.settled ≡ false → x.id ≢ t) s.stamped) (gone : AllByRecursion (λ r. r.id ≢ t) s.active) (written : IsWritten c.table table t HasHandedOverRead) (opens : (q d : ℕ) → open_end_at c.tale q ≡ Some d → open_end_at tale q ≡ Some d) where
-  change : IsOwnChanged c.table table t HasHandedOverRead
-  change = own_changed c.table table t HasHandedOverRead written
+    (apart : AllByRecursion (λ x. x.settled ≡ false → x.id ≢ t) s.stamped) (gone : AllByRecursion (λ r. r.id ≢ t) s.active) (written : IsWritten c.table table t (HasEndedAs KindCommitted)) (opens : (q d : ℕ) → open_end_at c.tale q ≡ Some d → open_end_at tale q ≡ Some d) where
+  change : IsOwnChanged c.table table t (HasEndedAs KindCommitted)
+  change = own_changed c.table table t (HasEndedAs KindCommitted) written
 
   states : state_of c.table ≡ state_of table
   states = λ i u. sym (change.states u) i
@@ -114,7 +117,7 @@ module _ (before : Readers) (opening : Map) (steps : List Step) (s : State) (c :
     dependencies = change.dependencies s h.dependencies;
     order = subst (λ st. AllStandInOrder s.start st c.versions.slots c.versions.lists) states h.order;
     works = works;
-    words = subst (HasWordLists s c.versions.slots) (sym (words_stay c.table table t HasHandedOverRead change change.changed.words)) h.words;
+    words = subst (HasWordLists s c.versions.slots) (sym (words_stay c.table table t (HasEndedAs KindCommitted) change (ap (λ v. v.words) change.changed.writes))) h.words;
     tale = has;
     places = places;
     stages = stages;
@@ -209,7 +212,7 @@ module _ (opening : Map) (steps own : List Step) (w : WholeState) (c : CoreData)
       reader_commits_as = sym (ap (reader_settled_as t.0) awaits)
 
       -- it wrote nothing
-      idle : WritesNothing (history_of_active t.0 s.active)
+      pub idle : WritesNothing (history_of_active t.0 s.active)
       idle =
           let at = core_stands steps own s t.0 w.readers p is h.kept.readers in
           let found = found_active s t.0 (in_core opening steps own w t.0 p is h.kept) in
@@ -237,7 +240,8 @@ module _ (opening : Map) (steps own : List Step) (w : WholeState) (c : CoreData)
       reading = place_reading (readers_of w) opening own s c h.core t.0 p is refl
 
       module _ (rising : AreRising (ends c.tale)) (untold table last : Txns (Node KeptTransaction)) (aborted : untold ≡ txns.table_after_change c.table t.0 Aborted) (reported : IsReported (deps.after_dependency_abort t) untold table t)
-          (graph : KeepsGraphAtAbort untold table t) (versions : VersionsData) (front : AreInFront (is_put_by t.0) c.versions versions (words_in table t.0)) (written : IsWritten table last t.0 HasHandedOverRead) where
+          (graph : KeepsGraphAtAbort untold table t) (versions : VersionsData) (front : AreInFront (is_put_by t.0) c.versions versions (words_in table t.0)) (written : IsWritten table last t.0 (HasEndedAs KindCommitted))
+          (works : WorksData) (taken : HasWorkFor c.works works t.0 empty_work) where
         base : StandsAmong (readers_of w) opening (own ++ Aborts t.0 ∷ []) then' (record c { versions = versions; table = table; tale = c.tale })
         base = stands_undone (readers_of w) opening own s c h.core t (subst IsUnended (sym active) tt) untold table aborted reported graph versions c.tale front
             (sym (ap (λ o. tale_left o Other c.tale place) active))
@@ -251,8 +255,8 @@ module _ (opening : Map) (steps own : List Step) (w : WholeState) (c : CoreData)
         gone : AllByRecursion (λ r. r.id ≢ t.0) then'.active
         gone = subst (λ (o : Option StampedTx). AllByRecursion (λ r. r.id ≢ t.0) (after_abort_of s t.0 o).active) (sym none_prepares) (gone_in t.0 s.active)
 
-        changed : IsOwnChanged table last t.0 HasHandedOverRead
-        changed = own_changed table last t.0 HasHandedOverRead written
+        changed : IsOwnChanged table last t.0 (HasEndedAs KindCommitted)
+        changed = own_changed table last t.0 (HasEndedAs KindCommitted) written
 
         whole : HasWholeTale (record { core = then'; readers = after.unfinished; committed_readers = after.committed }) stored
         whole = whole_settled (record { core = then'; readers = w.readers; committed_readers = w.committed_readers }) entry place c.tale rising reading refl idle (record { others = base.tale; readers = base.places.readers })
@@ -275,18 +279,21 @@ module _ (opening : Map) (steps own : List Step) (w : WholeState) (c : CoreData)
         grouped : AreGroupedTo stored c.grouped c.closed
         grouped = grouped_read c.tale c.grouped c.closed place entry (ap is_some reading) (never_due 0 1 (history_of_active t.0 s.active) idle) base.grouped
 
-        settled : StandsAmong after opening (own ++ Aborts t.0 ∷ []) then' (record c { versions = versions; table = last; tale = stored })
-        settled = handed_over (readers_of w) opening (own ++ Aborts t.0 ∷ []) then' (record c { versions = versions; table = table; tale = c.tale }) base t.0 last stored apart gone written
+        stored_there : StandsAmong after opening (own ++ Aborts t.0 ∷ []) then' (record c { versions = versions; table = last; tale = stored })
+        stored_there = handed_over (readers_of w) opening (own ++ Aborts t.0 ∷ []) then' (record c { versions = versions; table = table; tale = c.tale }) base t.0 last stored apart gone written
             (λ q d k. open_elsewhere c.tale place q d (Settled entry) (reading_not_open c.tale place q t.0 d reading k) k) after whole.others places stages grouped
 
-        pub reader_settles : LeadsWhole opening steps own w (CoreCall (Settle t.0)) Accepted (record c { versions = versions; table = last; tale = stored })
+        settled : StandsAmong after opening (own ++ Aborts t.0 ∷ []) then' (record c { versions = versions; table = last; tale = stored; works = works })
+        settled = stands_without_work after opening (own ++ Aborts t.0 ∷ []) then' (record c { versions = versions; table = last; tale = stored }) stored_there works t.0 gone taken
+
+        pub reader_settles : LeadsWhole opening steps own w (CoreCall (Settle t.0)) Accepted (record c { versions = versions; table = last; tale = stored; works = works })
         reader_settles = record {
           may = may;
           stands = record {
             core = subst (λ (o : Option ReaderStage). StandsAmong (record { unfinished = readers_at_stage s (Settle t.0) Accepted o w.readers; committed = committed_at_stage s (Settle t.0) Accepted o w.committed_readers }) opening
-                (own ++ trace_of s (core_at_stage s (Settle t.0) Accepted o)) (after_run s (core_at_stage s (Settle t.0) Accepted o)) (record c { versions = versions; table = last; tale = stored })) (sym is)
+                (own ++ trace_of s (core_at_stage s (Settle t.0) Accepted o)) (after_run s (core_at_stage s (Settle t.0) Accepted o)) (record c { versions = versions; table = last; tale = stored; works = works })) (sym is)
                 (subst (λ (a : Option StampedTx). StandsAmong (record { unfinished = settled_unless t.0 w.readers a; committed = committed_unless s t.0 w.committed_readers a }) opening
-                (own ++ trace_of s (unless_awaited t.0 a)) (after_run s (unless_awaited t.0 a)) (record c { versions = versions; table = last; tale = stored })) (sym awaits) settled);
+                (own ++ trace_of s (unless_awaited t.0 a)) (after_run s (unless_awaited t.0 a)) (record c { versions = versions; table = last; tale = stored; works = works })) (sym awaits) settled);
             kept = whole_after_call opening steps own w (CoreCall (Settle t.0)) Accepted may h.kept;
           };
         }

@@ -33,10 +33,10 @@ use Rattle.mvo_core.specs.Readers.{Readers}
 use Rattle.mvo_core.specs.declared.kept_transaction.KeptTransaction.{KeptTransaction}
 use Rattle.mvo_core.specs.declared.answers.Validation.TheVariants as validation
 use Rattle.mvo_core.specs.Data.{CoreData, own_of}
-use Rattle.mvo_core.specs.Own.{is_own_valid, own_entry, own_check, is_last_check, checked_as}
+use Rattle.mvo_core.specs.Own.{done_in, is_own_valid, own_entry, own_check, is_last_check, checked_as}
 use Rattle.mvo_core.specs.Standing.{IsKeptActive, IsKeptPreparing, words_in, StandsAmong}
-use Rattle.mvo_core.specs.Causes.{why_not_preparing, flag_of}
-use Rattle.mvo_core.specs.Checking.{change_between, change_for}
+use Rattle.mvo_core.specs.Causes.{why_not_preparing, is_read_only}
+use Rattle.mvo_core.specs.Checking.{change_between, change_for, entries_to_check}
 use Rattle.mvo_core.specs.Aborting.{IsGivenUp}
 use Rattle.mvo_core.specs.Keeping.{IsWritten, IsCounted}
 use Rattle.mvo_core.specs.Steps.{LeadsAmong}
@@ -48,6 +48,7 @@ use Rattle.mvo_core.proofs.Rest.{HasRest, preparing_there, stands_then}
 use Rattle.mvo_core.proofs.KeptTale.{tale_checked}
 use Rattle.mvo_core.proofs.Undone.{IsKeptOfPreparing, kept_of_preparing}
 use Rattle.mvo_core.proofs.Carried.{some_own}
+use Rattle.mvo_core.proofs.CausesTold.{may_write}
 
 -- ---- what is found, and what is refused
 failed_by : (o : Option Stamp) → differs (option_map (λ stamp. stamp.0) o) ≡ option_map ValidationFailed o
@@ -85,7 +86,7 @@ module _ (rs : Readers) (opening : Map) (steps : List Step) (s : State) (c : Cor
     next_entry =
         let k = kept_of_preparing rs opening steps s c h t x found in
         ap own_entry k.kept
-        ∙ ap (λ own. slice_get (entries own.work.history) own.checked) (sym k.own_is)
+        ∙ ap (λ own. slice_get (entries own.taken.history) own.checked) (sym k.own_is)
         ∙ ap (λ ts. slice_get (entries ts) k.same.own.checked) k.same.history
         ∙ ap (slice_get (entries x.history)) (k.same.checked unvalid)
 
@@ -162,29 +163,39 @@ module _ (rs : Readers) (opening : Map) (steps : List Step) (s : State) (c : Cor
       abbrev last : Bool
       last = nat_le (length (entries x.history)) (x.checked + 1)
 
-      last_is : (own : KeptTransaction) → own_of c.table t ≡ Some own → is_last_check own ≡ last
+      abbrev count : ℕ
+      count = entries_to_check (done_in c.works t) (own_of c.table t)
+
+      count_is : count ≡ length (entries x.history)
+      count_is =
+          ap (entries_to_check (done_in c.works t)) kept.kept
+          ∙ ap (λ (b : Bool). length (entries (cond b (done_in c.works t) kept.own.taken.history))) (sym (ap is_read_only kept.kept) ∙ may_write rs opening steps s c h t other)
+          ∙ ap (λ (own : KeptTransaction). length (entries own.taken.history)) (sym kept.own_is)
+          ∙ ap (λ ts. length (entries ts)) kept.same.history
+
+      last_is : (own : KeptTransaction) → own_of c.table t ≡ Some own → is_last_check count own ≡ last
       last_is own w =
-          ap is_last_check (some_own own kept.own (sym w ∙ kept.kept) ∙ sym kept.own_is)
-          ∙ ap (λ ts. nat_le (length (entries ts)) (kept.same.own.checked + 1)) kept.same.history
+          ap (λ (n : ℕ). nat_le n (own.checked + 1)) count_is
+          ∙ ap (λ (o : KeptTransaction). nat_le (length (entries x.history)) (o.checked + 1)) (some_own own kept.own (sym w ∙ kept.kept) ∙ sym kept.own_is)
           ∙ ap (λ (n : ℕ). nat_le (length (entries x.history)) (n + 1)) (kept.same.checked x_unvalid)
 
       state_then : after_validate s t ≡ after_check s x.end last
       state_then = ap (after_validate_of s) found.1 ∙ ap (λ (b : Bool). cond b s (after_check s x.end last)) x_unvalid
 
-      pub counts_as : own_check (own_of c.table t) ≡ cond (is_valid_now s t) validation.Valid validation.More
+      pub counts_as : own_check count (own_of c.table t) ≡ cond (is_valid_now s t) validation.Valid validation.More
       counts_as =
-          ap own_check kept.kept
+          ap (own_check count) kept.kept
           ∙ ap checked_as (last_is kept.own kept.kept)
           ∙ sym (ap (λ (b : Bool). cond b validation.Valid validation.More) (ap is_valid_at found.1 ∙ ap (λ (b : Bool). b || last) x_unvalid))
 
-      module _ (table : Txns (Node KeptTransaction)) (counted : IsWritten c.table table t IsCounted) where
-        change : IsOwnChanged c.table table t IsCounted
-        change = own_changed c.table table t IsCounted counted
+      module _ (table : Txns (Node KeptTransaction)) (counted : IsWritten c.table table t (IsCounted count)) where
+        change : IsOwnChanged c.table table t (IsCounted count)
+        change = own_changed c.table table t (IsCounted count) counted
 
         before_is : change.before ≡ kept.same.own
         before_is = some_own change.before kept.own (sym change.was ∙ kept.kept) ∙ sym kept.own_is
 
-        last_before : is_last_check change.before ≡ last
+        last_before : is_last_check count change.before ≡ last
         last_before = last_is change.before change.was
 
         same_end : (x.end == x.end) ≡ true
@@ -197,7 +208,7 @@ module _ (rs : Readers) (opening : Map) (steps : List Step) (s : State) (c : Cor
         own_checked = record {
           own = change.after;
           kept = ap (own_of table) kept.is ∙ change.is;
-          history = ap (λ w. w.history) change.changed.work ∙ ap (λ own. own.work.history) before_is ∙ kept.same.history;
+          history = ap (λ w. w.history) change.changed.taken ∙ ap (λ own. own.taken.history) before_is ∙ kept.same.history;
           checked = λ v.
               change.changed.checked
               ∙ ap (λ (b : Bool). cond b change.before.checked (change.before.checked + 1)) (last_before ∙ sym now_valid ∙ v)
@@ -240,7 +251,7 @@ module _ (rs : Readers) (opening : Map) (steps : List Step) (s : State) (c : Cor
           };
           tale = tale_checked s (others_places c.tale) h.versions.kept.started h.versions.kept.sound.rising h.tale x.end last;
           places = h.places;
-          stages = stages_same rs.unfinished c.table table c.tale (others_changed c.table table t IsCounted change rs.unfinished c.tale h.stages other change.changed.kind) h.stages;
+          stages = stages_same rs.unfinished c.table table c.tale (others_changed c.table table t (IsCounted count) change rs.unfinished c.tale h.stages other change.changed.kind) h.stages;
           marks = h.marks;
           grouped = h.grouped;
           start = h.start;
@@ -258,6 +269,6 @@ module _ (rs : Readers) (opening : Map) (steps : List Step) (s : State) (c : Cor
           stands = stands_then rs opening steps s c h (Validate t) Accepted table c.versions.lists c.tale tt (λ g ws. refl) (why None (named None is), tt) refl h.versions.numbers
               (change.dependencies (after_validate s t) (check_in_table s c.table t h.dependencies))
               (subst (λ states. AllStandInOrder s.start states c.versions.slots c.versions.lists) same_states h.order)
-              (subst (HasWordLists (after_validate s t) c.versions.slots) (sym (words_stay c.table table t IsCounted change (ap (λ w. w.words) change.changed.writes))) (check_in_lists s c.versions.slots (words_in c.table) t h.words))
+              (subst (HasWordLists (after_validate s t) c.versions.slots) (sym (words_stay c.table table t (IsCounted count) change (ap (λ w. w.words) change.changed.writes))) (check_in_lists s c.versions.slots (words_in c.table) t h.words))
               (subst (λ z. HasRest rs z table c.tale c) (sym state_then) rest_checked);
         }

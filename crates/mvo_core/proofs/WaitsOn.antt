@@ -37,7 +37,9 @@ use Rattle.mvo_core.specs.Readers.{Readers}
 use Rattle.mvo_core.specs.declared.kept_transaction.KeptTransaction.{KeptTransaction}
 use Rattle.mvo_core.specs.Causes.{why_not_active}
 use Rattle.mvo_core.specs.Collecting.{IsTaken}
+use Rattle.mvo_content.specs.Done.{DoneData}
 use Rattle.mvo_core.specs.Data.{CoreData}
+use Rattle.mvo_core.specs.Own.{done_in}
 use Rattle.mvo_core.specs.Fronts.{comes_at_draw, AreInFront}
 use Rattle.mvo_core.specs.Keeping.{IsWritten, IsWrittenThen, IsPlacedInTale, HasHandedOver}
 use Rattle.mvo_core.specs.Standing.{words_in, StandsAmong}
@@ -108,12 +110,12 @@ taken_so start old new w w' Nothing q = q.0
 -- ---- a transaction draws its end
 module _ (rs : Readers) (opening : Map) (steps : List Step) (s : State) (c : CoreData) (h : StandsAmong rs opening steps s c) (t : TxId) (none : why_not_active c.table t.0 ≡ None) (place : ℕ) (last : place ≡ length c.tale) (e : Stamp) (drawn : e.0 ≡ c.table.clock + 1) (versions : VersionsData)
     (front : AreInFront (comes_at_draw (state_of c.table) t.0) c.versions versions (words_in c.table t.0)) where
-  module _ (placed : Txns (Node KeptTransaction)) (written : IsWritten c.table placed t.0 (IsPlacedInTale place)) where
-    change : IsOwnChanged c.table placed t.0 (IsPlacedInTale (length c.tale))
-    change = own_changed c.table placed t.0 (IsPlacedInTale (length c.tale)) (subst (λ (n : ℕ). IsWritten c.table placed t.0 (IsPlacedInTale n)) last written)
+  module _ (taken : DoneData) (same : taken.history ≡ done_in c.works t.0) (placed : Txns (Node KeptTransaction)) (written : IsWritten c.table placed t.0 (IsPlacedInTale place taken)) where
+    change : IsOwnChanged c.table placed t.0 (IsPlacedInTale (length c.tale) taken)
+    change = own_changed c.table placed t.0 (IsPlacedInTale (length c.tale) taken) (subst (λ (n : ℕ). IsWritten c.table placed t.0 (IsPlacedInTale n taken)) last written)
 
     same_clock : placed.clock ≡ c.table.clock
-    same_clock = clock_written c.table placed t.0 (IsPlacedInTale place) written
+    same_clock = clock_written c.table placed t.0 (IsPlacedInTale place taken) written
 
     end_is : e ≡ record { 0 = placed.clock + 1 }
     end_is = λ i. record { 0 = (drawn ∙ ap (λ (n : ℕ). n + 1) (sym same_clock)) i }
@@ -127,8 +129,8 @@ module _ (rs : Readers) (opening : Map) (steps : List Step) (s : State) (c : Cor
         let ns = end_numbers (words_in c.table t.0) in
         let roomy_waits = waits_roomy_ended c.table.clock (state_of c.table) c.versions.slots w roomy roomy.ended_room room waits in
         let now = draw_keeps_waiting opening s (state_of c.table) states' c.versions (words_in c.table) roomy t.0 e ns (stands_with rs opening steps s c h roomy roomy_waits)
-        (was_active rs opening steps s c h t none) (others rs opening steps s c h t none placed change)
-        (subst (λ (x : Stamp). states' t.0 ≡ Some (Preparing x)) (sym end_is) (here rs opening steps s c h t none placed change))
+        (was_active rs opening steps s c h t none) (others rs opening steps s c h t none taken same placed change)
+        (subst (λ (x : Stamp). states' t.0 ≡ Some (Preparing x)) (sym end_is) (here rs opening steps s c h t none taken same placed change))
         (drawn ∙ ap (λ (n : ℕ). n + 1) h.dependencies.stands.clock)
         (λ n x at named. ends_are_listed s c.versions.slots (words_in c.table) t.0 n x h.words at named) in
         let clock : s.clock + 1 ≡ placed.clock + 1 = ap (λ (n : ℕ). n + 1) (sym (same_clock ∙ h.dependencies.stands.clock)) in
@@ -137,14 +139,14 @@ module _ (rs : Readers) (opening : Map) (steps : List Step) (s : State) (c : Cor
         (subst (λ ss. AreWaiting (placed.clock + 1) states' ss (record roomy { ended = roomy.ended ++ waiting_drawn e ns })) (sym front.slots)
         (subst (λ (n : ℕ). AreWaiting n states' c.versions.slots (record roomy { ended = roomy.ended ++ waiting_drawn e ns })) clock now))
 
-  pub drawn_waits : c.table.clock < MAX_STAMP → (w roomy w' : WaitingData) → roomy ≡ record w { ended_room = roomy.ended_room }
+  pub drawn_waits : (taken : DoneData) → taken.history ≡ done_in c.works t.0 → c.table.clock < MAX_STAMP → (w roomy w' : WaitingData) → roomy ≡ record w { ended_room = roomy.ended_room }
       → w' ≡ record roomy { ended = roomy.ended ++ waiting_drawn e (end_numbers (words_in c.table t.0)); ended_room = w'.ended_room }
       → AreWaiting c.table.clock (state_of c.table) c.versions.slots w
-      → (result : Result Stamp Refusal) (table : Txns (Node KeptTransaction)) → OnOk result (IsWrittenThen c.table table t.0 (IsPlacedInTale place) (λ x. txns.table_after_prepare x t.0)) → IfErr result (λ why. spent_clock c.table.clock ≡ Some why)
+      → (result : Result Stamp Refusal) (table : Txns (Node KeptTransaction)) → OnOk result (IsWrittenThen c.table table t.0 (IsPlacedInTale place taken) (λ x. txns.table_after_prepare x t.0)) → IfErr result (λ why. spent_clock c.table.clock ≡ Some why)
       → AreWaiting table.clock (state_of table) versions.slots w'
-  drawn_waits lt w roomy w' room is waits (Ok d) table made spent =
-      subst (λ (x : Txns (Node KeptTransaction)). AreWaiting x.clock (state_of x) versions.slots w') (sym made.is) (prepared_waits made.between made.written w roomy w' room is waits)
-  drawn_waits lt w roomy w' room is waits (Err why) table made spent =
+  drawn_waits taken same lt w roomy w' room is waits (Ok d) table made spent =
+      subst (λ (x : Txns (Node KeptTransaction)). AreWaiting x.clock (state_of x) versions.slots w') (sym made.is) (prepared_waits taken same made.between made.written w roomy w' room is waits)
+  drawn_waits taken same lt w roomy w' room is waits (Err why) table made spent =
       absurd (none_refusal why (sym (ap (λ b. Rattle.std.proofs.Common.cond b (Some Rattle.mvo_types.specs.declared.refusal.Refusal.TheVariants.ClockSpent) None) (over_limit MAX_STAMP c.table.clock lt)) ∙ spent))
 
 -- ---- one stands otherwise, and is reported

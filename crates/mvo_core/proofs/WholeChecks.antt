@@ -18,10 +18,10 @@ use Rattle.mvo_core.specs.declared.answers.Validation.TheVariants as validation
 use Rattle.mvo_core.specs.declared.kept_transaction.KeptTransaction.{KeptTransaction}
 use Rattle.mvo_core.specs.Aborting.{IsGivenUp, IsReaderGivenUp}
 use Rattle.mvo_core.specs.Causes.{why_not_preparing}
-use Rattle.mvo_core.specs.Checking.{IsNextChange, change_for}
+use Rattle.mvo_core.specs.Checking.{IsNextChange, change_for, entries_to_check}
 use Rattle.mvo_core.specs.Data.{CoreData, own_of}
 use Rattle.mvo_core.specs.Keeping.{IsWritten, IsCounted}
-use Rattle.mvo_core.specs.Own.{is_own_valid, own_check, own_entry}
+use Rattle.mvo_core.specs.Own.{done_in, is_own_valid, own_check, own_entry}
 use Rattle.mvo_core.specs.WholeEnds.{valid_by_stage}
 use Rattle.mvo_core.specs.WholeStanding.{readers_of, StandsWhole, LeadsWhole}
 use Rattle.mvo_core.proofs.OthersLead.{others_lead}
@@ -72,6 +72,9 @@ module _ (opening : Map) (steps own : List Step) (w : WholeState) (c : CoreData)
 
     -- ---- the next one is checked
     module _ (unvalid : is_own_valid (own_of c.table t) ≡ false) where
+      abbrev count : ℕ
+      count = entries_to_check (done_in c.works t) (own_of c.table t)
+
       -- that of a read-only one never differs
       never_differs : (stamp : Stamp) → IsNextChange c.table c.versions t (Some stamp.0) → (n : ℕ) (v : Bool) → stage_of t w.readers ≡ Some (IsPreparing n v) → ⊥
       never_differs stamp differs n v k = none_found stamp.0 (differs (fall (readers_of w) opening own w.core c h.core) ∙ ap (λ o. change_for o (state_of c.table) c.versions t (own_entry (own_of c.table t))) (state_is opening steps own w c h t (IsPreparing n v) k))
@@ -81,12 +84,12 @@ module _ (opening : Map) (steps own : List Step) (w : WholeState) (c : CoreData)
           (λ k. others_lead opening steps own w (Validate t) (Refused (ValidationFailed stamp)) c new h k tt (differs_leads (readers_of w) opening own w.core c h.core t none k unvalid stamp new (differs (fall (readers_of w) opening own w.core c h.core)) left))
           (λ n v k. absurd (never_differs stamp differs n v k))
 
-      pub counted_leads_whole : (table : Txns (Node KeptTransaction)) → IsWritten c.table table t IsCounted → IsNextChange c.table c.versions t None → LeadsWhole opening steps own w (CoreCall (Validate t)) Accepted (record c { table = table })
+      pub counted_leads_whole : (table : Txns (Node KeptTransaction)) → IsWritten c.table table t (IsCounted count) → IsNextChange c.table c.versions t None → LeadsWhole opening steps own w (CoreCall (Validate t)) Accepted (record c { table = table })
       counted_leads_whole table written same = prepared_by_stage (λ o. LeadsWhole opening steps own w (CoreCall (Validate t)) Accepted (record c { table = table }))
           (λ k. others_lead opening steps own w (Validate t) Accepted c (record c { table = table }) h k tt (counted_leads (readers_of w) opening own w.core c h.core t none k unvalid table written (same (fall (readers_of w) opening own w.core c h.core))))
           (λ n v k. reader_counted opening steps own w c h t n v k none unvalid table written)
 
-      pub counts_as_whole : own_check (own_of c.table t) ≡ cond (valid_by_stage w.core t (stage_of t w.readers)) validation.Valid validation.More
-      counts_as_whole = prepared_by_stage (λ o. own_check (own_of c.table t) ≡ cond (valid_by_stage w.core t o) validation.Valid validation.More)
+      pub counts_as_whole : own_check count (own_of c.table t) ≡ cond (valid_by_stage w.core t (stage_of t w.readers)) validation.Valid validation.More
+      counts_as_whole = prepared_by_stage (λ o. own_check count (own_of c.table t) ≡ cond (valid_by_stage w.core t o) validation.Valid validation.More)
           (λ k. counts_as (readers_of w) opening own w.core c h.core t none k unvalid)
           (λ n v k. reader_counts_as opening steps own w c h t n v k none unvalid)

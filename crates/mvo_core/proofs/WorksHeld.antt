@@ -1,10 +1,12 @@
 -- What a core stands for where its works stay, where that of one that is over is forgotten, and where
 -- one is told an operation.
-use Rattle.std.proofs.Common.{◌≡◌, ℕ, ◌++◌, Bool, true, false, cond, List, Option, None, Some, refl, sym, ap, ◌∙◌, subst}
+use Rattle.std.proofs.Common.{◌≡◌, ◌≢◌, ℕ, ◌++◌, Bool, true, false, cond, List, Option, None, Some, refl, sym, ap, ◌∙◌, subst}
 use Rattle.std.specs.Prelude.{nat_lt, length, IfSome}
 use Rattle.std.specs.Option.{option_to_list}
+use Rattle.std.specs.List.{AllByRecursion}
 use Rattle.std.proofs.lemmas.Bool.{ltb-false}
 use Rattle.mvo_types.specs.declared.limits.TheConstants.{MAX_TABLE, MAX_DATA_LEN}
+use Rattle.mvo_types.specs.declared.ids.Stamp.{Stamp}
 use Rattle.mvo_types.specs.declared.op.Op.{Op}
 use Rattle.mvo_types.specs.declared.op.Op.TheVariants.{Read, Scan, Insert, Update, Delete}
 use Rattle.mvo_types.specs.declared.entry.Entry.{Entry}
@@ -24,9 +26,11 @@ use Rattle.mvo_theory.specs.Entries.{entry_of}
 use Rattle.mvo_theory.specs.State.{State, ActiveTx, active_of, snapshot, seen_by}
 use Rattle.mvo_theory.proofs.Cases.{if_stands, not_op}
 use Rattle.mvo_theory.proofs.Who.{active_done, active_holds}
+use Rattle.mvo_theory.proofs.Each.{each_weaker}
 use Rattle.mvo_shared.specs.Kept.{rows_shown, entries_in, with_looked, answer_kept, after_op}
 use Rattle.mvo_shared.specs.Held.{empty_work}
 use Rattle.mvo_shadow.specs.Shadowed.{IsWorkOf}
+use Rattle.mvo_txn.specs.declared.state.TxState.TheVariants.{Preparing}
 use Rattle.mvo_txn.specs.Txns.{state_of, IsEnded}
 use Rattle.mvo_work.specs.Limits.{MayFollow}
 use Rattle.mvo_work.proofs.Follows.{follows_read, follows_scan, follows_insert, follows_update, follows_delete}
@@ -35,6 +39,7 @@ use Rattle.mvo_visible.specs.Versions.{versions_at}
 use Rattle.mvo_visible.specs.Shown.{AreVersionsInOrder}
 use Rattle.mvo_representation.proofs.Tabled.{ended_is}
 use Rattle.mvo_representation.proofs.WordsSaid.{ended_not_active}
+use Rattle.mvo_representation.proofs.Facts.{found_holds}
 use Rattle.mvo_content.specs.Shown.{AreRowsOf}
 use Rattle.mvo_content.specs.Done.{DoneData}
 use Rattle.mvo_content.specs.Next.{NextData}
@@ -53,6 +58,7 @@ use Rattle.mvo_core.specs.Standing.{IsKeptActive, StandsAmong}
 use Rattle.mvo_core.specs.WholeStanding.{readers_of, StandsWhole}
 use Rattle.mvo_core.proofs.CausesTold.{some_none}
 use Rattle.mvo_core.proofs.GoesBeside.{same_beside}
+use Rattle.mvo_core.proofs.Rest.{preparing_there}
 use Rattle.mvo_core.proofs.Looked.{IsActiveHere, shown_in, versions_in_order, row_is}
 
 -- ---- what may be told of an operation that may come
@@ -120,11 +126,23 @@ module _ (rs : Readers) (opening : Map) (steps : List Step) (s : State) (c : Cor
   pub stands_same_works : (ws : WorksData) → HaveSameWorks c.works ws → StandsAmong rs opening steps s (record c { works = ws })
   stands_same_works ws same = with_works ws (same_beside opening steps s (works_in c.works) (works_in ws) h.beside same)
 
+  -- one isn't Active any more
+  pub stands_without_work : (ws : WorksData) (t : ℕ) → AllByRecursion (λ r. r.id ≢ t) s.active → HasWorkFor c.works ws t empty_work → StandsAmong rs opening steps s (record c { works = ws })
+  stands_without_work ws t apart told = with_works ws (forgotten_beside opening steps s (works_in c.works) h.beside (works_in ws) t apart told)
+
+  -- one that is Preparing isn't
+  pub stands_taken_work : (ws : WorksData) (t : ℕ) (e : Stamp) → state_of c.table t ≡ Some (Preparing e) → HasWorkFor c.works ws t empty_work → StandsAmong rs opening steps s (record c { works = ws })
+  stands_taken_work ws t e was told =
+      let x = preparing_there rs opening steps s c h t e was in
+      stands_without_work ws t
+      (each_weaker (λ r. AllByRecursion (λ y. y.id ≢ r.id) s.stamped) (λ r. r.id ≢ t)
+      (λ r k q. let p = found_holds (λ y. y.id ≢ r.id) t s.stamped x.0 x.1 k in p.0 (p.1 ∙ sym q)) s.active h.versions.kept.numbered.apart) told
+
   -- one that has ended is over
   pub stands_forgotten_work : (ws : WorksData) (t : ℕ) → IsEnded (state_of c.table t) → HasWorkFor c.works ws t empty_work → StandsAmong rs opening steps s (record c { works = ws })
   stands_forgotten_work ws t ended told =
       let found = ended_is s t (state_of c.table t) ended (sym (h.dependencies.stands.phases t)) in
-      with_works ws (forgotten_beside opening steps s (works_in c.works) h.beside (works_in ws) t (ended_not_active s t found.0 h.versions.kept.single found.1) told)
+      stands_without_work ws t (ended_not_active s t found.0 h.versions.kept.single found.1) told
 
   -- the work of an Active one holds its operations
   pub work_held : (t : ℕ) (r : ActiveTx) → active_of t s.active ≡ Some r → IsWorkOf r.history (works_in c.works t)

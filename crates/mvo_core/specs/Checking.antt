@@ -1,11 +1,13 @@
 -- What the check of a transaction's next entry finds among the versions.
-use Rattle.std.specs.Prelude.{ℕ, ◌≡◌, true, false, Option, None, Some}
+use Rattle.std.specs.Prelude.{ℕ, ◌≡◌, true, false, length, if◌then◌else◌, Option, None, Some}
 use Rattle.mvo_types.specs.declared.ids.TxId.{TxId}
 use Rattle.mvo_txn.specs.declared.state.TxState.{TxState}
 use Rattle.mvo_txn.specs.declared.state.TxState.TheVariants.{Active, Preparing, Committed, Aborted}
 use Rattle.mvo_visible.specs.Words.{States}
 use Rattle.mvo_visible.specs.Changes.{changes_of}
 use Rattle.mvo_types.specs.declared.entry.Entry.{Entry}
+use Rattle.mvo_model.specs.History.{History}
+use Rattle.mvo_theory.specs.Entries.{entries}
 use Rattle.mvo_validate.specs.Between.{stamp_between}
 use Rattle.mvo_validate.specs.Entries.{versions_in}
 use Rattle.mvo_versions.specs.Data.{VersionsData}
@@ -15,7 +17,7 @@ use Rattle.mvo_deps.specs.declared.node.Node.{Node}
 use Rattle.mvo_core.specs.declared.kept_transaction.KeptTransaction.{KeptTransaction}
 use Rattle.mvo_core.specs.declared.next_check.NextCheck.{NextCheck}
 use Rattle.mvo_core.specs.declared.next_check.NextCheck.TheVariants.{Refused, Valid, Differs, Same}
-use Rattle.mvo_core.specs.Causes.{why_not_preparing}
+use Rattle.mvo_core.specs.Causes.{why_not_preparing, is_read_only_kind}
 use Rattle.mvo_core.specs.Data.{own_of}
 use Rattle.mvo_core.specs.Own.{own_entry}
 use Rattle.mvo_core.specs.Settling.{IsCalled}
@@ -38,6 +40,13 @@ change_for (Some Aborted) states v t entry = None
 abbrev pub IsNextChange : Txns (Node KeptTransaction) → VersionsData → ℕ → Option ℕ → Type 0
 IsNextChange table v t change = AllHaveFallingStamps (state_of table) v.slots v.lists
     → change ≡ change_for (state_of table t) (state_of table) v t (own_entry (own_of table t))
+
+-- how many entries are checked of one whose work has this: those of its work where it is read-only,
+-- and else those that precommit took out of it
+abbrev pub entries_to_check : History → Option KeptTransaction → ℕ
+entries_to_check work None = 0
+entries_to_check work (Some own) =
+    length (entries (if is_read_only_kind own.kind then work else own.taken.history))
 
 -- what a look at a transaction that is to be validated tells: each says that no earlier one was due
 abbrev pub IsNextCheck : Txns (Node KeptTransaction) → VersionsData → TxId → NextCheck → Type 0

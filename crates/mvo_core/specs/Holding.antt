@@ -17,9 +17,9 @@ use Rattle.mvo_core.specs.WholeAnswers.{InEachWhole}
 abbrev pub told_as : Op × Answer → Op × AnswerData
 told_as t = (t.0, answer_data t.1)
 
--- the operations with their answers of what is kept of a transaction, if something is
+-- the operations with their answers that precommit took, if something is kept of a transaction
 abbrev pub own_told : Option KeptTransaction → Option History
-own_told own = option_map (λ t. t.work.history) own
+own_told own = option_map (λ t. t.taken.history) own
 
 -- those of one that stands so: the work of an Active one has them
 abbrev pub told_at : Option TxState → History → Option KeptTransaction → Option History

@@ -8,9 +8,10 @@ use Rattle.mvo_deps.specs.declared.node.Node.{Node}
 use Rattle.mvo_deps.specs.Nodes.{after_register_all}
 use Rattle.mvo_work.specs.declared.word_place.WordPlace.{WordPlace}
 use Rattle.mvo_work.specs.Writes.{HasRoom}
+use Rattle.mvo_content.specs.Done.{DoneData}
 use Rattle.mvo_core.specs.declared.kept_transaction.KeptTransaction.{KeptTransaction}
 use Rattle.mvo_core.specs.declared.kept_transaction.TransactionKind.{TransactionKind}
-use Rattle.mvo_core.specs.declared.kept_transaction.TransactionKind.TheVariants.{Preparing, Committed}
+use Rattle.mvo_core.specs.declared.kept_transaction.TransactionKind.TheVariants.{Preparing}
 use Rattle.mvo_core.specs.Data.{own_of}
 use Rattle.mvo_core.specs.Own.{is_last_check}
 
@@ -44,6 +45,7 @@ pub record IsWrittenThen (old new : Txns (Node KeptTransaction)) (t : ℕ)
 -- as much is done
 pub record HasDoneAsMuch (old new : KeptTransaction) : Type 0 where
   pub history : new.work.history ≡ old.work.history
+  pub taken : new.taken.history ≡ old.taken.history
   pub words : new.writes.words ≡ old.writes.words
   pub place : new.place ≡ old.place
   pub checked : new.checked ≡ old.checked
@@ -83,18 +85,18 @@ pub record HasDropped (old new : KeptTransaction) : Type 0 where
   pub valid : new.valid ≡ old.valid
   pub kind : new.kind ≡ old.kind
 
--- its operations are taken out. The words stay
+-- the operations that precommit took are taken out. The words stay
 pub record HasHandedOver (old new : KeptTransaction) : Type 0 where
-  pub history : new.work.history ≡ []
+  pub history : new.taken.history ≡ []
   pub words : new.writes.words ≡ old.writes.words
   pub place : new.place ≡ old.place
   pub checked : new.checked ≡ old.checked
   pub valid : new.valid ≡ old.valid
   pub kind : new.kind ≡ old.kind
 
--- it has this place in the tale, and none of its entries is checked
-pub record IsPlacedInTale (place : ℕ) (old new : KeptTransaction) : Type 0 where
-  pub work : new.work ≡ old.work
+-- it has this place in the tale, this is taken out of its work, and none of its entries is checked
+pub record IsPlacedInTale (place : ℕ) (taken : DoneData) (old new : KeptTransaction) : Type 0 where
+  pub took : new.taken ≡ taken
   pub writes : new.writes ≡ old.writes
   pub is : new.place ≡ place
   pub checked : new.checked ≡ 0
@@ -110,14 +112,15 @@ pub record HasStartedChecks (old new : KeptTransaction) : Type 0 where
   pub valid : new.valid ≡ false
   pub kind : new.kind ≡ Preparing
 
--- one more of its entries is checked. The last one isn't counted: it is valid then
-pub record IsCounted (old new : KeptTransaction) : Type 0 where
+-- one more of so many entries is checked. The last one isn't counted: it is valid then
+pub record IsCounted (count : ℕ) (old new : KeptTransaction) : Type 0 where
   pub work : new.work ≡ old.work
+  pub taken : new.taken ≡ old.taken
   pub writes : new.writes ≡ old.writes
   pub place : new.place ≡ old.place
   pub checked :
-      new.checked ≡ (if is_last_check old then old.checked else old.checked + 1)
-  pub valid : new.valid ≡ is_last_check old
+      new.checked ≡ (if is_last_check count old then old.checked else old.checked + 1)
+  pub valid : new.valid ≡ is_last_check count old
   pub kind : new.kind ≡ old.kind
 
 -- it is read-only, and has ended so
@@ -128,15 +131,6 @@ pub record HasEndedAs (end : TransactionKind) (old new : KeptTransaction) : Type
   pub checked : new.checked ≡ old.checked
   pub valid : new.valid ≡ old.valid
   pub kind : new.kind ≡ end
-
--- it is read-only and Committed, and its operations are taken out. The words stay
-pub record HasHandedOverRead (old new : KeptTransaction) : Type 0 where
-  pub history : new.work.history ≡ []
-  pub words : new.writes.words ≡ old.writes.words
-  pub place : new.place ≡ old.place
-  pub checked : new.checked ≡ old.checked
-  pub valid : new.valid ≡ old.valid
-  pub kind : new.kind ≡ Committed
 
 -- so it has if it is read-only
 abbrev pub HasEndedIf : Bool → TransactionKind → Txns (Node KeptTransaction)

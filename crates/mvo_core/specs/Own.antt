@@ -18,10 +18,10 @@ abbrev pub own_place : Option KeptTransaction → ℕ
 own_place None = 0
 own_place (Some own) = own.place
 
--- its operations with their answers
+-- the operations with their answers that precommit took out of its work
 abbrev pub own_history : Option KeptTransaction → History
 own_history None = []
-own_history (Some own) = own.work.history
+own_history (Some own) = own.taken.history
 
 -- whether one that did this has written
 abbrev pub has_writes : History → Bool
@@ -30,19 +30,19 @@ has_writes ts = not (length (written_keys ts) == 0)
 -- its next entry to check
 abbrev pub own_entry : Option KeptTransaction → Option Entry
 own_entry None = None
-own_entry (Some own) = slice_get (entries own.work.history) own.checked
+own_entry (Some own) = slice_get (entries own.taken.history) own.checked
 
 -- ---- checks
--- no entry is left behind the next one
-abbrev pub is_last_check : KeptTransaction → Bool
-is_last_check own = nat_le (length (entries own.work.history)) (own.checked + 1)
+-- of so many entries none is left behind the next one
+abbrev pub is_last_check : ℕ → KeptTransaction → Bool
+is_last_check count own = nat_le count (own.checked + 1)
 
 abbrev pub checked_as : Bool → Validation
 checked_as last = if last then Valid else More
 
-abbrev pub own_check : Option KeptTransaction → Validation
-own_check None = Valid
-own_check (Some own) = checked_as (is_last_check own)
+abbrev pub own_check : ℕ → Option KeptTransaction → Validation
+own_check count None = Valid
+own_check count (Some own) = checked_as (is_last_check count own)
 
 -- what one has done, as its work has it
 abbrev pub done_in : WorksData → ℕ → History

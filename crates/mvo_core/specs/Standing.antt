@@ -35,7 +35,7 @@ pub record IsKeptPreparing (table : Txns (Node KeptTransaction)) (tale : List Ta
     (x : StampedTx) : Type 0 where
   pub own : KeptTransaction
   pub kept : own_of table x.id ≡ Some own
-  pub history : own.work.history ≡ x.history
+  pub history : own.taken.history ≡ x.history
   pub checked : x.valid ≡ false → own.checked ≡ x.checked
   pub valid : own.valid ≡ x.valid
   pub place : open_end_at tale own.place ≡ Some x.end

@@ -1,6 +1,6 @@
 //! How a transaction ends.
-ghost use Rattle.std.specs.Prelude.{◌≡◌, [], true, false, Some, IsSome, IfOk, IfErr, OnOk, OnErr};
-ghost use Rattle.mvo_theory.specs.Entries.{written_keys};
+ghost use Rattle.std.specs.Prelude.{◌≡◌, [], true, false, length, Some, IsSome, IfOk, IfErr, OnOk, OnErr};
+ghost use Rattle.mvo_theory.specs.Entries.{entries, written_keys};
 ghost use Rattle.mvo_theory.specs.Told.{history_told};
 ghost use Rattle.mvo_theory.specs.Limits.{AreLimited};
 ghost use Rattle.mvo_txn.specs.Txns.{state_of, spent_clock, IsPreparingState};
@@ -10,10 +10,13 @@ ghost use Rattle.mvo_deps.specs.Nodes.{data_of, IsReported};
 ghost use Rattle.mvo_deps.specs.Graph.{KeepsGraphAtCommit};
 ghost use Rattle.mvo_tale.specs.Slots.{ends, AreRising};
 ghost use Rattle.mvo_core.specs.Data.{own_of};
-ghost use Rattle.mvo_core.specs.Own.{own_place, own_history};
-ghost use Rattle.mvo_core.specs.Own.{own_check};
+ghost use Rattle.mvo_content.specs.Done.{work_in};
+ghost use Rattle.mvo_content.specs.Works.{works_in, HasWorkFor};
+ghost use Rattle.mvo_shared.specs.Held.{empty_work};
+ghost use Rattle.mvo_core.specs.Own.{done_in, own_place, own_history, own_check};
+ghost use Rattle.mvo_core.specs.Checking.{entries_to_check};
 ghost use Rattle.mvo_core.specs.Keeping.{IsWritten, IsWrittenThen, IsPlacedInTale, IsCounted, HasHandedOver};
-ghost use Rattle.mvo_core.specs.Keeping.{HasEndedIf, HasEndedAs, HasStartedChecks, HasHandedOverRead};
+ghost use Rattle.mvo_core.specs.Keeping.{HasEndedIf, HasEndedAs, HasStartedChecks};
 ghost use Rattle.mvo_core.specs.Aborting.{HasOpenPlace, tale_left, has_pending_place, has_reading_place};
 ghost use Rattle.mvo_core.specs.Causes.{kind_kept, is_read_only as is_reader};
 
@@ -24,11 +27,13 @@ use crate::kept_transaction::{KeptTransaction, Table, TransactionKind};
 use crate::next_check::{NextCheck, check_next};
 use crate::readiness::{Readiness, readiness_of};
 use crate::refusing::{active, is_failure, is_read_only, not_undone};
+use mvo_content::{TakenContent, WorkContent, Works};
 use mvo_deps::{Node, report_abort, report_commit};
 use mvo_tale::{Tale, TaleEntry};
 use mvo_txn::{Located, TableSeat, TxState};
-use mvo_types::{MAX_STAMP, Refusal, Stamp, TxId};
+use mvo_types::{MAX_STAMP, Refusal, RowKey, Stamp, TxId};
 use mvo_work::Operations;
+use std::alloc::{AllocError, Global};
 
 impl Core {
     ghost use Rattle.std.specs.Prelude.{◌≡◌, ◌+◌, None, Some, IfOk, IfErr};
@@ -68,6 +73,7 @@ impl Core {
             return Err(Refusal::ClockSpent);
         }
         let end = Stamp(clock + 1);
+        let written = keys_written(self.alloc, &self.works, tx.id)?;
         self.waiting.make_room_for_ended(count)?;
         let place = self.tale.open(end)?;
         draw_words(
@@ -78,7 +84,8 @@ impl Core {
             count,
             end,
         );
-        prepare(&mut self.table, tx, place, end)
+        let taken = take_out(&mut self.works, tx.id, written);
+        prepare(&mut self.table, tx, place, end, taken)
     }
 
     /// Checks the next entry of a Preparing transaction, in the order of the first look. After
@@ -97,7 +104,7 @@ impl Core {
             NextCheck::Refused(refusal) => Err(self.give_up(tx, refusal)),
             NextCheck::Valid => Ok(Validation::Valid),
             NextCheck::Differs(stamp) => Err(self.give_up(tx, Refusal::ValidationFailed(stamp))),
-            NextCheck::Same => Ok(count_check(&mut self.table, tx)),
+            NextCheck::Same => Ok(count_check(&mut self.table, &self.works, tx)),
         }
     }
 
@@ -146,16 +153,10 @@ impl Core {
         self.table.abort(reader);
         report_abort(&mut self.table, reader);
         bring_puts(&mut self.versions, &self.table, reader);
-        let (place, operations) = hand_over(&mut self.table, reader);
-        let Operations { told, written } = operations;
+        let place = commit_read(&mut self.table, reader);
+        let content = self.works.take(reader.id);
+        let entry = entry_read(self.alloc, reader.id, content);
         let end = Stamp(reader.id.0);
-        let entry = TaleEntry {
-            id: reader.id,
-            begin: end,
-            end,
-            operations: told,
-            written,
-        };
         self.tale.settle(place, entry);
         Settlement::Committed(end)
     }
@@ -273,18 +274,44 @@ fn end_as(table: &mut Table, tx: Located, kind: TransactionKind)
     }
 }
 
+/// The keys that the transaction wrote, in the order of the first write to each, in a list for its
+/// settlement, which takes no memory.
+fn keys_written(alloc: Global, works: &Works, id: TxId) -> Result<Vec<RowKey>, AllocError>
+    ensures { IfOk result (λ keys. keys.items ≡ written_keys (done_in works.now id.0)) }
+{
+    match works.work(id) {
+        Some(work) => work.keys_written(),
+        None => Ok(Vec::new(alloc)),
+    }
+}
+
+/// Takes out what the transaction did, which wrote these keys. It takes no memory.
+fn take_out(works: &mut Works, id: TxId, written: Vec<RowKey>) -> TakenContent
+    requires { written.items ≡ written_keys (done_in works.old id.0) }
+    ensures taken { result.history ≡ done_in works.old id.0 }
+    ensures left { HasWorkFor works.old works.new id.0 empty_work }
+{
+    TakenContent::new(works.take(id), written)
+}
+
 /// Makes an Active transaction Preparing by one look, with the next timestamp as its end, and keeps
-/// its place in the tale. None of its entries is checked yet.
-fn prepare(table: &mut Table, tx: Located, place: usize, end: Stamp) -> Result<Stamp, Refusal>
+/// its place in the tale and what was taken out of its work. None of its entries is checked yet.
+fn prepare(
+    table: &mut Table,
+    tx: Located,
+    place: usize,
+    end: Stamp,
+    taken: TakenContent,
+) -> Result<Stamp, Refusal>
     requires { state_of table.old tx.id.0 ≡ Some TxState.Active }
     ensures end { IfOk result (λ drawn. drawn ≡ end) }
-    ensures ok { OnOk result (IsWrittenThen table.old table.new tx.id.0 (IsPlacedInTale place)
-        (λ placed. table_after_prepare placed tx.id.0)) }
+    ensures ok { OnOk result (IsWrittenThen table.old table.new tx.id.0
+        (IsPlacedInTale place taken) (λ placed. table_after_prepare placed tx.id.0)) }
     ensures refused { IfErr result (λ why. spent_clock table.old.clock ≡ Some why) }
     ensures err { OnErr result (table.new ≡ table.old) }
 {
     let node = table.prepare(tx)?;
-    node.own.keep_place(place);
+    node.own.keep_place(place, taken);
     Ok(end)
 }
 
@@ -310,14 +337,41 @@ fn begin_checks(table: &mut Table, tx: Located)
 }
 
 /// Counts a check, and says whether an entry is left.
-fn count_check(table: &mut Table, tx: Located) -> Validation
+fn count_check(table: &mut Table, works: &Works, tx: Located) -> Validation
     requires { IsSome (own_of table.old tx.id.0) }
-    ensures counted { IsWritten table.old table.new tx.id.0 IsCounted }
-    ensures answer { result ≡ own_check (own_of table.old tx.id.0) }
+    ensures counted { let own = own_of table.old tx.id.0 in
+        IsWritten table.old table.new tx.id.0
+        (IsCounted (entries_to_check (done_in works.now tx.id.0) own)) }
+    ensures answer { let own = own_of table.old tx.id.0 in
+        result ≡ own_check (entries_to_check (done_in works.now tx.id.0) own) own }
 {
     match table.get_mut(tx) {
-        Some(node) => node.own.count_check(),
+        Some(node) => {
+            let count = entries_to_check(&node.own, works, tx.id);
+            node.own.count_check(count)
+        }
         None => unreachable!(),
+    }
+}
+
+/// How many entries of the transaction are checked: where it is read-only, those of its work, out
+/// of which its precommit takes nothing.
+fn entries_to_check(own: &KeptTransaction, works: &Works, id: TxId) -> usize
+    ensures { result ≡ entries_to_check (done_in works.now id.0) (Some own.now) }
+{
+    match is_read_only(own.kind) {
+        true => entries_in_work(works, id),
+        false => own.taken.entry_count(),
+    }
+}
+
+/// How many entries the work of the transaction has.
+fn entries_in_work(works: &Works, id: TxId) -> usize
+    ensures { result ≡ length (entries (done_in works.now id.0)) }
+{
+    match works.work(id) {
+        Some(work) => work.entry_count(),
+        None => 0,
     }
 }
 
@@ -347,22 +401,37 @@ fn commit(table: &mut Table, tx: Located) -> (Stamp, usize, Operations)
         (λ handed. table_after_change handed tx.id.0 (TxState.Committed result.0)) }
 {
     let (end, node) = table.commit(tx);
-    (end, node.own.place, node.own.work.take_operations())
+    (end, node.own.place, node.own.taken.take_operations())
 }
 
-/// Makes a read-only transaction Committed by one look: answers its place in the tale, with its
-/// operations, which are taken out.
-fn hand_over(table: &mut Table, tx: Located) -> (usize, Operations)
+/// Makes a read-only transaction Committed by one look, and answers its place in the tale.
+fn commit_read(table: &mut Table, tx: Located) -> usize
     requires { IsSome (own_of table.old tx.id.0) }
-    ensures place { result.0 ≡ own_place (own_of table.old tx.id.0) }
-    ensures told { history_told result.1.told.items ≡ own_history (own_of table.old tx.id.0) }
-    ensures written { result.1.written.items ≡
-        written_keys (own_history (own_of table.old tx.id.0)) }
-    ensures limits { AreLimited (own_history (own_of table.old tx.id.0)) }
-    ensures left { IsWritten table.old table.new tx.id.0 HasHandedOverRead }
+    ensures place { result ≡ own_place (own_of table.old tx.id.0) }
+    ensures left { IsWritten table.old table.new tx.id.0 (HasEndedAs TransactionKind.Committed) }
 {
     match table.get_mut(tx) {
-        Some(node) => node.own.hand_over(),
+        Some(node) => {
+            node.own.end_as(TransactionKind::Committed);
+            node.own.place
+        }
         None => unreachable!(),
+    }
+}
+
+/// The commit of a read-only transaction, which wrote nothing, with what it did. It takes no
+/// memory.
+fn entry_read(alloc: Global, id: TxId, content: WorkContent) -> TaleEntry
+    requires { written_keys content.history ≡ [] }
+    ensures { result ≡ record { id = id.0; end = id.0; history = content.history } }
+{
+    let mut content = content;
+    let begin = Stamp(id.0);
+    TaleEntry {
+        id,
+        begin,
+        end: begin,
+        operations: content.take_operations(),
+        written: Vec::new(alloc),
     }
 }

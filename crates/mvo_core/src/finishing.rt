@@ -54,8 +54,9 @@ impl Core {
             return Ok(Finishing::More);
         }
         let node = self.table.terminate(tx);
-        self.spares.keep(node.own.work);
-        self.spares.keep_writes(node.own.writes);
+        let (work, writes) = node.own.into_parts();
+        self.spares.keep(work);
+        self.spares.keep_writes(writes);
         self.works.forget(tx.id);
         Ok(Finishing::Done)
     }

@@ -56,7 +56,7 @@ fn has_told_in(
 {
     match seat.state {
         TxState::Active => same_operations(operations_of(works, id), told),
-        TxState::Preparing(_) => same_operations(seat.kept.own.work.operations(), told),
+        TxState::Preparing(_) => same_operations(seat.kept.own.taken.operations(), told),
         TxState::Committed(_) => true,
         TxState::Aborted => true,
     }

@@ -2,10 +2,11 @@ ghost use Rattle.std.specs.Prelude.{◌≡◌};
 ghost use Rattle.mvo_deps.specs.Data.{no_dependencies};
 
 use crate::answers::Validation;
+use mvo_content::TakenContent;
 use mvo_deps::{Dependencies, Node};
 use mvo_txn::TxnTable;
 use mvo_types::{Answer, Op};
-use mvo_work::{Operations, WordPlace, Work, Writes};
+use mvo_work::{WordPlace, Work, Writes};
 use std::alloc::{AllocError, Global};
 
 /// The unfinished transactions.
@@ -32,6 +33,8 @@ pub enum TransactionKind {
 pub struct KeptTransaction {
     /// What it has done.
     pub work: Work,
+    /// What its precommit took out of its work, if it isn't read-only: nothing before.
+    pub taken: TakenContent,
     /// What it has written: the words that name it.
     pub writes: Writes,
     /// Its place in the tale, from when it draws its end.
@@ -53,15 +56,14 @@ impl KeptTransaction {
     ghost use Rattle.mvo_core.specs.Own.{is_last_check, checked_as};
     ghost use Rattle.mvo_core.specs.Keeping.{IsPlacedInTale, IsCounted, IsTold};
     ghost use Rattle.mvo_core.specs.Keeping.{HasDoneAsMuch, HasMadeRoom, HasDoneMore};
-    ghost use Rattle.mvo_core.specs.Keeping.{HasEndedAs, HasStartedChecks, HasHandedOverRead};
-    ghost use Rattle.mvo_theory.specs.Entries.{written_keys};
-    ghost use Rattle.mvo_theory.specs.Limits.{AreLimited};
-    ghost use Rattle.mvo_theory.specs.Told.{history_told};
+    ghost use Rattle.mvo_core.specs.Keeping.{HasEndedAs, HasStartedChecks};
 
-    /// It has this place in the tale, and none of its entries is checked yet.
-    pub fn keep_place(&mut self, place: usize)
-        ensures { IsPlacedInTale place self.old self.new }
+    /// It has this place in the tale, this is taken out of its work, and none of its entries is
+    /// checked yet.
+    pub fn keep_place(&mut self, place: usize, taken: TakenContent)
+        ensures { IsPlacedInTale place taken self.old self.new }
     {
+        self.taken = taken;
         self.place = place;
         self.checked = 0;
         self.valid = false;
@@ -74,18 +76,6 @@ impl KeptTransaction {
         self.kind = TransactionKind::Preparing;
         self.checked = 0;
         self.valid = false;
-    }
-
-    /// It is read-only and Committed: its operations are taken out, and answered with its place.
-    pub fn hand_over(&mut self) -> (usize, Operations)
-        ensures place { result.0 ≡ self.old.place }
-        ensures told { history_told result.1.told.items ≡ self.old.work.history }
-        ensures written { result.1.written.items ≡ written_keys self.old.work.history }
-        ensures limits { AreLimited self.old.work.history }
-        ensures left { HasHandedOverRead self.old self.new }
-    {
-        self.kind = TransactionKind::Committed;
-        (self.place, self.work.take_operations())
     }
 
     /// It is read-only, and has ended so.
@@ -132,12 +122,26 @@ impl KeptTransaction {
         self.work.tell(op, answer);
     }
 
-    /// Counts a check, and says whether an entry is left. The last one isn't counted.
-    pub fn count_check(&mut self) -> Validation
-        ensures counted { IsCounted self.old self.new }
-        ensures answer { result ≡ checked_as (is_last_check self.old) }
+    /// What has memory that another transaction may use.
+    pub fn into_parts(self) -> (Work, Writes) {
+        let KeptTransaction {
+            work,
+            taken: _,
+            writes,
+            place: _,
+            checked: _,
+            valid: _,
+            kind: _,
+        } = self;
+        (work, writes)
+    }
+
+    /// Counts a check of so many entries, and says whether one is left. The last one isn't counted.
+    pub fn count_check(&mut self, count: usize) -> Validation
+        ensures counted { IsCounted count self.old self.new }
+        ensures answer { result ≡ checked_as (is_last_check count self.old) }
     {
-        let left = self.work.entry_count().saturating_sub(self.checked);
+        let left = count.saturating_sub(self.checked);
         self.valid = left <= 1;
         if self.valid {
             return Validation::Valid;
@@ -165,6 +169,7 @@ pub fn begun_reading(
         dependencies: Dependencies::new(alloc),
         own: KeptTransaction {
             work,
+            taken: TakenContent::nothing(alloc),
             writes,
             place,
             checked: 0,
@@ -185,6 +190,7 @@ pub fn begun(alloc: Global, work: Work, writes: Writes) -> Node<KeptTransaction>
         dependencies: Dependencies::new(alloc),
         own: KeptTransaction {
             work,
+            taken: TakenContent::nothing(alloc),
             writes,
             place: 0,
             checked: 0,

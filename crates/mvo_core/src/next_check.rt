@@ -72,7 +72,7 @@ fn next_change(
 fn next_entry(own: &KeptTransaction) -> Option<Entry>
     ensures { result ≡ own_entry (Some own.now) }
 {
-    own.work.entry_at(own.checked)
+    own.taken.entry_at(own.checked)
 }
 
 /// The greatest stamp of a change to the entry between the begin and the end, where the versions

@@ -8,7 +8,7 @@ use Rattle.mvo_core.proofs.ending.commit.Goals as goal
 pub returns-clause-left : goal.returns-clause-left
 returns-clause-left c =
     let node = c.commit-node.result.1.now in
-    let after : KeptTransaction = record node.own { work = c.take_operations.new.self } in
+    let after : KeptTransaction = record node.own { taken = c.take_operations.new.self } in
     let handed : HasHandedOver node.own after = record {
       history = c.take_operations.ensures.left;
       words = refl;

@@ -79,13 +79,13 @@ invariant_of-self-2 c =
     let unspent = subst (λ n. n < MAX_STAMP) c.clock-clock.ensures.value c.if-clock-ge-MAX_STAMP.false in
     record {
       stands =
-          whole_stands_on i (CoreCall (Precommit c.args.tx.0)) (came c.prepare.result) (record old { versions = c.draw_words.new.versions; table = c.prepare.new.table; tale = c.open.new.self })
+          whole_stands_on i (CoreCall (Precommit c.args.tx.0)) (came c.prepare.result) (record old { versions = c.draw_words.new.versions; table = c.prepare.new.table; tale = c.open.new.self; works = c.take_out-taken.new.works })
           (let drawn : Stamp = record { 0 = c.clock-clock.result.0 + 1 } in
-          other_leads_whole i.opening i.steps i.own i.whole old i.stands c.args.tx.0 (Precommit c.args.tx.0) refl tt (came c.prepare.result) (record old { versions = c.draw_words.new.versions; table = c.prepare.new.table; tale = c.open.new.self }) (sym c.active-refusal.ensures.reads ∙ c.if-reads.false)
+          other_leads_whole i.opening i.steps i.own i.whole old i.stands c.args.tx.0 (Precommit c.args.tx.0) refl tt (came c.prepare.result) (record old { versions = c.draw_words.new.versions; table = c.prepare.new.table; tale = c.open.new.self; works = c.take_out-taken.new.works }) (sym c.active-refusal.ensures.reads ∙ c.if-reads.false)
           (λ other. draw_leads (readers_of i.whole) i.opening i.own i.whole.core old i.stands.core c.args.tx (sym c.active-refusal.ensures.refusal ∙ c.in_default.is) c.in_ok-place.place c.in_ok-place.ensures.place
           drawn (ap (λ n. n + 1) c.clock-clock.ensures.value) c.open.new.self c.in_ok-place.ensures.ok c.draw_words.new.versions c.draw_words.ensures.fronts
-          (subst (λ n. n < MAX_STAMP) c.clock-clock.ensures.value c.if-clock-ge-MAX_STAMP.false) other c.prepare.result c.prepare.new.table c.prepare.ensures.ok c.prepare.ensures.refused));
-      waiting = drawn_waits (readers_of i.whole) i.opening i.own i.whole.core old i.stands.core c.args.tx none c.in_ok-place.place c.in_ok-place.ensures.place drawn (ap (λ n. n + 1) c.clock-clock.ensures.value) c.draw_words.new.versions c.draw_words.ensures.fronts unspent f.waiting c.make_room_for_ended.new.self c.draw_words.new.waiting c.make_room_for_ended.ensures.same c.draw_words.ensures.waits c.self.invariant.waiting c.prepare.result c.prepare.new.table c.prepare.ensures.ok c.prepare.ensures.refused;
+          (subst (λ n. n < MAX_STAMP) c.clock-clock.ensures.value c.if-clock-ge-MAX_STAMP.false) other c.take_out-taken.result c.take_out-taken.ensures.taken c.take_out-taken.new.works c.take_out-taken.ensures.left c.prepare.result c.prepare.new.table c.prepare.ensures.ok c.prepare.ensures.refused));
+      waiting = drawn_waits (readers_of i.whole) i.opening i.own i.whole.core old i.stands.core c.args.tx none c.in_ok-place.place c.in_ok-place.ensures.place drawn (ap (λ n. n + 1) c.clock-clock.ensures.value) c.draw_words.new.versions c.draw_words.ensures.fronts c.take_out-taken.result c.take_out-taken.ensures.taken unspent f.waiting c.make_room_for_ended.new.self c.draw_words.new.waiting c.make_room_for_ended.ensures.same c.draw_words.ensures.waits c.self.invariant.waiting c.prepare.result c.prepare.new.table c.prepare.ensures.ok c.prepare.ensures.refused;
     }
 
 pub returns-clause-step : goal.returns-clause-step
@@ -96,14 +96,23 @@ returns-clause-step c = λ opening steps s h.
     let drawn : Stamp = record { 0 = c.clock-clock.result.0 + 1 } in
     draw_leads no_readers opening steps s old g c.args.tx (sym c.active-refusal.ensures.refusal ∙ c.in_default.is) c.in_ok-place.place c.in_ok-place.ensures.place
     drawn (ap (λ n. n + 1) c.clock-clock.ensures.value) c.open.new.self c.in_ok-place.ensures.ok c.draw_words.new.versions c.draw_words.ensures.fronts
-    (subst (λ n. n < MAX_STAMP) c.clock-clock.ensures.value c.if-clock-ge-MAX_STAMP.false) refl c.prepare.result c.prepare.new.table c.prepare.ensures.ok c.prepare.ensures.refused
+    (subst (λ n. n < MAX_STAMP) c.clock-clock.ensures.value c.if-clock-ge-MAX_STAMP.false) refl c.take_out-taken.result c.take_out-taken.ensures.taken c.take_out-taken.new.works c.take_out-taken.ensures.left c.prepare.result c.prepare.new.table c.prepare.ensures.ok c.prepare.ensures.refused
+
+pub returns-in_err-written-clause-step : goal.returns-in_err-written-clause-step
+returns-in_err-written-clause-step c = λ opening steps s h.
+    let f = c.self.inside in
+    let old : CoreData = core_data f in
+    let g : StandsFor opening steps s old = subst (StandsFor opening steps s) (sym c.self.view_is) h in
+    subst (λ (x : CoreData). LeadsOn opening steps s (Precommit c.args.tx.0) (came c.from_residual.result) x) c.self.view_is
+    (subst (λ r. LeadsOn opening steps s (Precommit c.args.tx.0) r old) (came_spent c.from_residual.result c.from_residual.ensures.1)
+    (memory_spent_leads no_readers opening steps s old g c.args.tx (sym c.active-refusal.ensures.refusal ∙ c.in_default.is) refl (subst (λ n. n < MAX_STAMP) c.clock-clock.ensures.value c.if-clock-ge-MAX_STAMP.false)))
 
 pub returns-in_err-make_room_for_ended-clause-step : goal.returns-in_err-make_room_for_ended-clause-step
 returns-in_err-make_room_for_ended-clause-step c = λ opening steps s h.
     let f = c.self.inside in
     let old : CoreData = core_data f in
     let g : StandsFor opening steps s old = subst (StandsFor opening steps s) (sym c.self.view_is) h in
-    subst (λ r. LeadsOn opening steps s (Precommit c.args.tx.0) r old) (came_spent c.from_residual.result c.from_residual.ensures.1)
+    subst (λ r. LeadsOn opening steps s (Precommit c.args.tx.0) r old) (came_spent c.from_residual-in_err-make_room_for_ended.result c.from_residual-in_err-make_room_for_ended.ensures.1)
     (memory_spent_leads no_readers opening steps s old g c.args.tx (sym c.active-refusal.ensures.refusal ∙ c.in_default.is) refl (subst (λ n. n < MAX_STAMP) c.clock-clock.ensures.value c.if-clock-ge-MAX_STAMP.false))
 
 -- ---- room for what it has ended
@@ -123,6 +132,9 @@ invariant_of-self-in_err-place c =
       stands = subst (λ (slots : List TalePlace). StandsInWhole (record old { tale = slots })) (sym c.in_err-place.ensures.err) c.self.invariant.stands;
       waiting = waits_roomy_ended f.table.clock (state_of f.table) f.versions.slots f.waiting c.make_room_for_ended.new.self c.make_room_for_ended.new.self.ended_room c.make_room_for_ended.ensures.same c.self.invariant.waiting;
     }
+
+pub take_out-taken-requires : goal.take_out-taken-requires
+take_out-taken-requires c = c.in_ok-written.ensures
 
 pub draw_words-requires-clause-room : goal.draw_words-requires-clause-room
 draw_words-requires-clause-room c = let room = c.in_ok-make_room_for_ended.ensures.ok in omega (arith, room)
@@ -156,12 +168,22 @@ returns-in_err-place-clause-whole c = λ opening steps own w h.
     (other_leads_whole opening steps own w old g c.args.tx.0 (Precommit c.args.tx.0) refl tt (Refused OutOfMemory) old (sym c.active-refusal.ensures.reads ∙ c.if-reads.false)
     (λ other. memory_spent_leads (readers_of w) opening own w.core old g.core c.args.tx (sym c.active-refusal.ensures.refusal ∙ c.in_default.is) other (subst (λ n. n < MAX_STAMP) c.clock-clock.ensures.value c.if-clock-ge-MAX_STAMP.false))))
 
+pub returns-in_err-written-clause-whole : goal.returns-in_err-written-clause-whole
+returns-in_err-written-clause-whole c = λ opening steps own w h.
+    let f = c.self.inside in
+    let old : CoreData = core_data f in
+    let g : StandsWhole opening steps own w old = subst (StandsWhole opening steps own w) (sym c.self.view_is) h in
+    subst (λ (x : CoreData). LeadsWhole opening steps own w (CoreCall (Precommit c.args.tx.0)) (came c.from_residual.result) x) c.self.view_is
+    (subst (λ r. LeadsWhole opening steps own w (CoreCall (Precommit c.args.tx.0)) r old) (came_spent c.from_residual.result c.from_residual.ensures.1)
+    (other_leads_whole opening steps own w old g c.args.tx.0 (Precommit c.args.tx.0) refl tt (Refused OutOfMemory) old (sym c.active-refusal.ensures.reads ∙ c.if-reads.false)
+    (λ other. memory_spent_leads (readers_of w) opening own w.core old g.core c.args.tx (sym c.active-refusal.ensures.refusal ∙ c.in_default.is) other (subst (λ n. n < MAX_STAMP) c.clock-clock.ensures.value c.if-clock-ge-MAX_STAMP.false))))
+
 pub returns-in_err-make_room_for_ended-clause-whole : goal.returns-in_err-make_room_for_ended-clause-whole
 returns-in_err-make_room_for_ended-clause-whole c = λ opening steps own w h.
     let f = c.self.inside in
     let old : CoreData = core_data f in
     let g : StandsWhole opening steps own w old = subst (StandsWhole opening steps own w) (sym c.self.view_is) h in
-    subst (λ r. LeadsWhole opening steps own w (CoreCall (Precommit c.args.tx.0)) r old) (came_spent c.from_residual.result c.from_residual.ensures.1)
+    subst (λ r. LeadsWhole opening steps own w (CoreCall (Precommit c.args.tx.0)) r old) (came_spent c.from_residual-in_err-make_room_for_ended.result c.from_residual-in_err-make_room_for_ended.ensures.1)
     (other_leads_whole opening steps own w old g c.args.tx.0 (Precommit c.args.tx.0) refl tt (Refused OutOfMemory) old (sym c.active-refusal.ensures.reads ∙ c.if-reads.false)
     (λ other. memory_spent_leads (readers_of w) opening own w.core old g.core c.args.tx (sym c.active-refusal.ensures.refusal ∙ c.in_default.is) other (subst (λ n. n < MAX_STAMP) c.clock-clock.ensures.value c.if-clock-ge-MAX_STAMP.false)))
 
@@ -171,10 +193,10 @@ returns-clause-whole c = λ opening steps own w h.
     let old : CoreData = core_data f in
     let g : StandsWhole opening steps own w old = subst (StandsWhole opening steps own w) (sym c.self.view_is) h in
     let drawn : Stamp = record { 0 = c.clock-clock.result.0 + 1 } in
-    other_leads_whole opening steps own w old g c.args.tx.0 (Precommit c.args.tx.0) refl tt (came c.prepare.result) (record old { versions = c.draw_words.new.versions; table = c.prepare.new.table; tale = c.open.new.self }) (sym c.active-refusal.ensures.reads ∙ c.if-reads.false)
+    other_leads_whole opening steps own w old g c.args.tx.0 (Precommit c.args.tx.0) refl tt (came c.prepare.result) (record old { versions = c.draw_words.new.versions; table = c.prepare.new.table; tale = c.open.new.self; works = c.take_out-taken.new.works }) (sym c.active-refusal.ensures.reads ∙ c.if-reads.false)
     (λ other. draw_leads (readers_of w) opening own w.core old g.core c.args.tx (sym c.active-refusal.ensures.refusal ∙ c.in_default.is) c.in_ok-place.place c.in_ok-place.ensures.place
     drawn (ap (λ n. n + 1) c.clock-clock.ensures.value) c.open.new.self c.in_ok-place.ensures.ok c.draw_words.new.versions c.draw_words.ensures.fronts
-    (subst (λ n. n < MAX_STAMP) c.clock-clock.ensures.value c.if-clock-ge-MAX_STAMP.false) other c.prepare.result c.prepare.new.table c.prepare.ensures.ok c.prepare.ensures.refused)
+    (subst (λ n. n < MAX_STAMP) c.clock-clock.ensures.value c.if-clock-ge-MAX_STAMP.false) other c.take_out-taken.result c.take_out-taken.ensures.taken c.take_out-taken.new.works c.take_out-taken.ensures.left c.prepare.result c.prepare.new.table c.prepare.ensures.ok c.prepare.ensures.refused)
 
 -- ---- of one that is read-only, which none is
 pub start_checks-requires : goal.start_checks-requires

@@ -3,7 +3,6 @@ use Rattle.mvo_types.specs.declared.refusal.Refusal.TheVariants.{ValidationFaile
 use Rattle.mvo_theory.specs.Calls.Call.{Validate}
 use Rattle.mvo_theory.specs.Calls.Result.{Accepted, Refused}
 use Rattle.mvo_core.specs.Readers.{no_readers}
-use Rattle.mvo_core.specs.Data.{CoreData}
 use Rattle.mvo_core.specs.View.{core_data}
 use Rattle.mvo_core.specs.Causes.{why_not_preparing}
 use Rattle.mvo_core.specs.Standing.{StandsFor}
@@ -11,6 +10,9 @@ use Rattle.mvo_core.specs.Aborting.{IsGivenUp}
 use Rattle.mvo_core.specs.Steps.{LeadsOn}
 use Rattle.mvo_core.proofs.WholeStands.{whole_stands_on}
 use Rattle.mvo_core.proofs.Validating.{validate_refused, fall, valid_leads, valid_answers, differs_leads, own_there, counted_leads, counts_as}
+use Rattle.mvo_core.specs.Data.{CoreData, own_of}
+use Rattle.mvo_core.specs.Own.{done_in}
+use Rattle.mvo_core.specs.Checking.{entries_to_check}
 use Rattle.mvo_core.specs.Keeping.{IsCounted}
 use Rattle.mvo_core.proofs.Waits.{waits_alike, alike_written}
 use Rattle.mvo_readonly.specs.WholeCauses.WholeCall.{CoreCall}
@@ -68,7 +70,7 @@ invariant_of-self c =
       stands =
           whole_stands_on i (CoreCall (Validate c.args.tx.0)) Accepted (record old { table = c.count_check.new.table })
           (counted_leads_whole i.opening i.steps i.own i.whole old i.stands c.args.tx.0 c.in-Same.ensures.0.none c.in-Same.ensures.0.valid_is c.count_check.new.table c.count_check.ensures.counted c.in-Same.ensures.1);
-      waiting = waits_alike f.table c.count_check.new.table f.versions.slots f.waiting (alike_written f.table c.count_check.new.table c.args.tx.0 IsCounted c.count_check.ensures.counted) c.self.invariant.waiting;
+      waiting = waits_alike f.table c.count_check.new.table f.versions.slots f.waiting (alike_written f.table c.count_check.new.table c.args.tx.0 (IsCounted (entries_to_check (done_in f.works c.args.tx.0) (own_of f.table c.args.tx.0))) c.count_check.ensures.counted) c.self.invariant.waiting;
     }
 
 pub returns-in-Same-clause-step : goal.returns-in-Same-clause-step
