@@ -1,7 +1,7 @@
 -- A pair that is read in slices: what one more slice makes of it, and how it ends.
-use Rattle.std.proofs.Common.{◌≡◌, ℕ, zero, suc, ◌+◌, ◌≤◌, List, [], ◌∷◌, ◌++◌, length, take, drop, Result, Ok, Err, refl, sym, ap, subst, ◌∙◌, append_assoc, length-append, arith}
+use Rattle.std.proofs.Common.{◌≡◌, ℕ, zero, suc, ◌+◌, ◌≤◌, List, [], ◌∷◌, ◌++◌, length, take, drop, Result, Ok, Err, refl, sym, ap, subst, ◌∙◌, append_assoc, length-append, arith, lit≤}
 use Rattle.std.proofs.Math.Seq.{take-add}
-use Rattle.std.proofs.lemmas.List.{append-nil, take_all, take_at, drop_at, take-take, length-take, take-append-drop}
+use Rattle.std.proofs.lemmas.List.{append-nil, take_all, take_at, drop_at, drop-drop, take-take, length-take, take-append-drop}
 use Rattle.mvo_types.specs.declared.refusal.Refusal.{Refusal}
 use Rattle.mvo_pair.specs.declared.pair.Pair.{Pair}
 use Rattle.mvo_pair.specs.declared.reading.ReadSoFar.{ReadSoFar}
@@ -14,7 +14,8 @@ use Rattle.mvo_pair.specs.Reading.{IsBytes, pair_found}
 use Rattle.mvo_pair.proofs.Comes.{none_in_front, front_of_front}
 use Rattle.mvo_pair.proofs.Fronts.{loads_delta_front, loads_of_delta_front, loads_longer}
 use Rattle.mvo_load.specs.Read.{IsMisread}
-use Rattle.mvo_load.specs.Sliced.{IsReadUpTo}
+use Rattle.mvo_load.specs.declared.pair_slices.TheConstants.{READ_LEN}
+use Rattle.mvo_load.specs.Sliced.{IsReadUpTo, MayBeReadUpTo, IsSliceOf, IsBrokenSlice}
 use Rattle.mvo_load.proofs.Misread.{pair_misread}
 
 both_bytes : (a b : List ℕ) → IsBytes a → IsBytes b → IsBytes (a ++ b)
@@ -154,3 +155,56 @@ module _ (upto : ℕ) (p : Pair) (content : ℕ → List ℕ) where
           let found = found_given h.loaded h.delta (h.of_delta now) whole gives in
           let so : pair_found upto p (content p.data_file) h.delta ≡ Err e = ap (λ (l : List ℕ). pair_found upto p l h.delta) parted ∙ h.gives rest ∙ ap (in_front live) (is rest) in
           cc
+
+      -- of live records that the files give, those that are read come first
+      pub whole_comes : (whole : List Numbered) → Gives (Ok whole) → in_front live (still_found r s (drop s.place (content p.data_file))) ≡ Ok whole
+      whole_comes whole gives =
+          let found = found_given h.loaded h.delta (h.of_delta now) whole gives in
+          let so : pair_found upto p (content p.data_file) h.delta ≡ in_front live (still_found r s (drop s.place (content p.data_file))) = ap (λ (l : List ℕ). pair_found upto p l h.delta) parted ∙ h.gives (drop (length h.front) (content p.data_file)) ∙ ap (λ n. in_front live (still_found r s (drop n (content p.data_file)))) (sym h.place) in
+          sym so ∙ found
+
+    -- whatever the disk has answered, some bytes may have been read
+    pub may_be_read : MayBeReadUpTo upto p r live s
+    may_be_read = record {
+      front = h.front;
+      delta = h.delta;
+      pair = h.pair;
+      place = h.place;
+      bytes = h.bytes;
+      numbers = h.numbers;
+      loaded = h.loaded;
+      gives = h.gives;
+      of_data = λ never. absurd never;
+      of_delta = λ never. absurd never;
+    }
+
+-- ---- a slice, whatever was read before it
+
+module _ (honest : Type 0) (file_bytes : List ℕ) (r : PairReadingData) (from : ReadSoFar) where
+  -- some bytes may have been read so far, with its live records
+  pub may_be_read_on : (upto : ℕ) (p : Pair) (live some : List Numbered) (to : ReadSoFar) → MayBeReadUpTo upto p r live from → IsSliceOf honest file_bytes r from some to → MayBeReadUpTo upto p r (live ++ some) to
+  may_be_read_on upto p live some to h slice = reads_on upto p (λ n. []) ⊥ r live from h slice.bytes slice.fits ⊥ some to 0 slice.on (λ never. never) (λ never. absurd never)
+
+  pub slice_misread : (upto : ℕ) (p : Pair) (live : List Numbered) (e : Refusal) → MayBeReadUpTo upto p r live from → IsBrokenSlice honest file_bytes r from e → IsMisread e
+  slice_misread upto p live e h slice = on_misread upto p (λ n. []) ⊥ r live from h slice.bytes slice.fits e slice.broken
+
+  module _ (now : honest) where
+    comes_at : (n : ℕ) (bytes : List ℕ) (live : List Numbered) (to : ReadSoFar) → bytes ≡ take n (drop from.place file_bytes) → IsReadOn r from bytes live to → still_found r from (drop from.place file_bytes) ≡ in_front live (still_found r to (drop to.place file_bytes))
+    comes_at n bytes live to back on =
+        let k = on.place in
+        let after = drop from.place file_bytes in
+        let few : k ≤ n = omega (arith, on.within, ap (λ (l : List ℕ). length l) back, length-take n after) in
+        let piece : take k bytes ≡ take k after = ap (λ (l : List ℕ). take k l) back ∙ take-take k n after few in
+        let parts : after ≡ take k bytes ++ drop k after = sym (take-append-drop k after) ∙ ap (λ (l : List ℕ). l ++ drop k after) (sym piece) in
+        let later : drop k after ≡ drop to.place file_bytes = drop-drop k from.place file_bytes ∙ ap (λ i. drop i file_bytes) (sym on.place_is) in
+        ap (still_found r from) parts ∙ on.comes (drop k after) ∙ ap (λ (l : List ℕ). in_front live (still_found r to l)) later
+
+    -- it is what comes of the file
+    pub slice_comes : (live : List Numbered) (to : ReadSoFar) → IsSliceOf honest file_bytes r from live to → still_found r from (drop from.place file_bytes) ≡ in_front live (still_found r to (drop to.place file_bytes))
+    slice_comes live to slice = comes_at READ_LEN slice.bytes live to (slice.are now) slice.on
+
+    -- and so it is refused
+    pub broken_comes : (e : Refusal) → IsBrokenSlice honest file_bytes r from e → still_found r from (drop from.place file_bytes) ≡ Err e
+    broken_comes e slice =
+        let long : MOST_RECORD ≤ READ_LEN = lit≤ tt in
+        slice.broken READ_LEN (drop from.place file_bytes) long (slice.are now)

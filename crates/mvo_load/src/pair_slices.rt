@@ -7,7 +7,7 @@ ghost use Rattle.mvo_pair.specs.Data.{Numbered};
 ghost use Rattle.mvo_pair.specs.Loading.{LoadsAs};
 ghost use Rattle.mvo_pair.specs.Writing.{IsStop};
 ghost use Rattle.mvo_load.specs.Read.{HasRead, IsMisread};
-ghost use Rattle.mvo_load.specs.Sliced.{IsReadUpTo};
+ghost use Rattle.mvo_load.specs.Sliced.{IsReadUpTo, IsSliceOf, IsBrokenSlice};
 
 use crate::reach::delta_on;
 use mvo_disk::Disk;
@@ -109,6 +109,10 @@ pub fn read_on<D: Disk>(
         IsReadUpTo upto p (IsHonest (D.moment disk.old)) (D.content disk.old) reading.now live
         so_far → IsReadUpTo upto p (IsHonest (D.moment disk.new)) (D.content disk.old) reading.now
         (live ++ x.0.items) x.1) }
+    ensures slice { IfOk result (λ x. IsSliceOf (IsHonest (D.moment disk.new))
+        (D.content disk.old reading.now.pair.data_file) reading.now so_far x.0.items x.1) }
+    ensures broken { IfErr result (λ e. IsStop e ⊎ IsBrokenSlice (IsHonest (D.moment disk.new))
+        (D.content disk.old reading.now.pair.data_file) reading.now so_far e) }
     ensures further { IfOk result (λ x.
         0 < most → so_far.count < reading.now.pair.records → so_far.count < x.1.count) }
     ensures why { IfErr result (λ e. (upto : ℕ) (p : Pair) (live : List Numbered) →

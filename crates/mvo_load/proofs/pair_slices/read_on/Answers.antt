@@ -38,3 +38,26 @@ returns-clause-read g c =
     let e = c.in-Err-more.e in
     ⊎_elim (λ m. then_no_memory g.D.Disk _ c.args.disk.now c.bytes_from.new.disk e m first)
     (λ is. then_misread g.D.Disk _ c.args.disk.now c.bytes_from.new.disk e (subst IsMisread (sym is) tt) first) made.why
+
+pub returns-in-Ok-more-clause-slice : goal.returns-in-Ok-more-clause-slice
+returns-in-Ok-more-clause-slice g c =
+    let content = g.D.Disk.content c.args.disk.now in
+    let made = c.in-Ok-more.ensures in
+    record {
+      bytes = c.deref.result.now;
+      fits = made.bytes;
+      on = made.on;
+      are = λ honest. c.deref.ensures.value ∙ c.in-Ok.ensures.bytes honest ∙ ap (λ n. take READ_LEN (drop c.args.so_far.place (content n))) (ap (λ (q : Pair). q.data_file) c.pair-file.ensures);
+    }
+
+pub returns-clause-broken : goal.returns-clause-broken
+returns-clause-broken g c =
+    let content = g.D.Disk.content c.args.disk.now in
+    let made = c.in-Err-more.ensures in
+    ⊎_elim (λ m. inl (inl m))
+    (λ b. inr (record {
+      bytes = c.deref.result.now;
+      fits = made.bytes;
+      broken = b;
+      are = λ honest. c.deref.ensures.value ∙ c.in-Ok.ensures.bytes honest ∙ ap (λ n. take READ_LEN (drop c.args.so_far.place (content n))) (ap (λ (q : Pair). q.data_file) c.pair-file.ensures);
+    })) made.refused
