@@ -30,11 +30,13 @@ use Rattle.mvo_load.proofs.Sliced.{ends_loaded, ends_misread, whole_comes, may_b
 use Rattle.mvo_store.specs.declared.limits.TheConstants.{MAX_GENERATION}
 use Rattle.mvo_store.specs.declared.merge.merging.Merging.{Merging}
 use Rattle.mvo_store.specs.declared.merge.reading.MergeReading.{MergeReading}
+use Rattle.mvo_store.specs.declared.merge.merge_job.MergeJob.{MergeJob}
+use Rattle.mvo_store.specs.declared.merge.merge_job.MergeJob.TheVariants.{Reading, Running}
 use Rattle.mvo_store.specs.Causes.{are_too_many}
 use Rattle.mvo_store.specs.Merging.{neighbours_at}
 use Rattle.mvo_store.specs.MergePlanning.{HasLive, IsPlannedMerge}
 use Rattle.mvo_store.specs.PairsRead.{side_of, with_rest, IsLeftRead, IsRightRead, AreReadOn, IsSafeRead, read_with, ComesToWhole, IsReadFrom, left_to_read, IsReadFurther}
-use Rattle.mvo_store.specs.ReadSlices.{with_side, IsReadSlice, IsTurned, IsEndRefusal, IsBeginRefusal, IsFurther, IsPlannedOf}
+use Rattle.mvo_store.specs.ReadSlices.{with_side, IsReadSlice, IsTurned, IsEndRefusal, IsBeginRefusal, IsEndedTo, IsFurther, IsPlannedOf, IsSliceTo}
 use Rattle.mvo_store.proofs.Neighbours.{AreTwo, are_two, still_now, left_files, right_files, left_now_live, seen_of, apart_two, may_rise, may_few, safe_merge, merge_read_to, job_as_seen}
 
 -- ---- what is made of slices
@@ -333,6 +335,11 @@ module _ (m : ManifestData) (is : IsManifest m) (g : MergeReading) (safe : IsSaf
         safe = safe_merge m is g.place g.left g.right safe.still read.first read.live read.may may_right safe.fits safe.generation made records renumbering taken merge planned;
         stands = λ now h x. job_as_seen m is g.place g.left g.right safe.still read.first read.live read.may may_right safe.fits safe.generation made records renumbering taken merge planned content may x (saw_them second content h);
       }
+
+-- so it is of whichever comes
+pub ended_slice : (m : ManifestData) (g : MergeReading) → IsSafeRead m g → IsRightRead g → g.is_left ≡ false → (taken : List ℕ) (honest : Type 0) (content : Image) (may : ℕ → List ℕ → Type 0) (j : MergeJob) → IsEndedTo m taken g j → IsSliceTo honest content may m taken g j
+ended_slice m g safe read second taken honest content may (Reading n) h = absurd h
+ended_slice m g safe read second taken honest content may (Running merge) h = planned_of m h.is g safe read h.ended second g.made refl taken merge h.planned honest content may
 
 -- ---- the beginning
 

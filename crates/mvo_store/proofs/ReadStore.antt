@@ -24,7 +24,7 @@ use Rattle.mvo_store.specs.ReadSlices.{IsReadBeside, IsSliceTo, IsSliceBeside, A
 use Rattle.mvo_store.specs.Placing.{places_so_far}
 use Rattle.mvo_store.specs.Safe.{IsSafeWork, AreSafe, IsStoreSound}
 use Rattle.mvo_store.specs.Standing.{IsRunning, HaveJobs, ShareNone, JobsHaveRoom, JobHasRoom, IsUp}
-use Rattle.mvo_store.specs.Steps.{IsReadTo, IsReadOn, IsBegunReading}
+use Rattle.mvo_store.specs.Steps.{ComesOfReading, IsMergeReadOn, IsBegunReading}
 use Rattle.mvo_store.specs.Calls.{HasBegunReading, HasReadOn, IsStoreStep}
 use Rattle.mvo_store.specs.Calls.StoreStep.{MergeBegin, MergeReadOn}
 use Rattle.mvo_store.proofs.Keeping.{Begins, none_keeps_merge, may_read_on, stays_safe}
@@ -164,7 +164,7 @@ module _ {D : Type 0} {d : Ghosts D} {s : StoreData D} (b : Begins d s MergeRead
   now_has now rows up (Reading n) h = h.stands now (was_read rows up)
   now_has now rows up (Running g) h = tt
 
-  now_to : (j : MergeJob) → To j → IsReadTo honest (d.content s.disk) s.manifest (files_taken (checkpoint_pair (Beside running None))) from j
+  now_to : (j : MergeJob) → To j → ComesOfReading honest (d.content s.disk) s.manifest (files_taken (checkpoint_pair (Beside running None))) from j
   now_to (Reading n) h = h.further
   now_to (Running g) h = weaker_read _ honest (d.content s.disk) s.manifest taken (checkpoint_pair (Beside running None)) from g taken_here (λ now. (now, now_read now)) h.read
 
@@ -188,7 +188,7 @@ module _ {D : Type 0} {d : Ghosts D} {s : StoreData D} (b : Begins d s MergeRead
 
   read_makes : HasReadOn d s (after runs_now)
   read_makes = record {
-    merge = subst (λ (k : Jobs). IsReadOn honest (d.content s.disk) s.manifest k runs_now) (sym read_here.2) (record { merge = slice.merge; is = refl; read = now_to slice.merge slice.to });
+    merge = subst (λ (k : Jobs). IsMergeReadOn honest (d.content s.disk) s.manifest k runs_now) (sym read_here.2) (record { merge = slice.merge; is = refl; read = now_to slice.merge slice.to });
     after = refl;
   }
 

@@ -33,7 +33,7 @@ use Rattle.mvo_store.specs.Causes.{replaces_last, why_not_rotate, why_not_checkp
 use Rattle.mvo_store.specs.Causes.{why_not_due, why_not_merge_delta, why_not_install_open}
 use Rattle.mvo_store.specs.Causes.{why_not_place, why_not_merge_read, why_not_reclaim}
 use Rattle.mvo_store.specs.Jobs.{Job, no_jobs, job_due, is_step_due, is_merge_read, with_step, sliced, slices_left, with_manifest, progress_of}
-use Rattle.mvo_store.specs.Steps.{IsRotationOf, IsCheckpointOf, IsMergeOf, IsBegunReading, IsReadOn, HasInstalledNext, HasPlaced}
+use Rattle.mvo_store.specs.Steps.{IsRotationOf, IsCheckpointOf, IsMergeOf, IsBegunReading, IsMergeReadOn, HasInstalledNext, HasPlaced}
 use Rattle.mvo_store.specs.Placing.{are_places_left}
 use Rattle.mvo_store.specs.Files.{IsLeastFree}
 use Rattle.mvo_store.specs.Merging.{merged_at, pair_with}
@@ -160,7 +160,7 @@ pub record HasBegunReading {D : Type 0} (place : ℕ) (old new : StoreData D) : 
 
 -- The merge that runs has more of its pairs read, or all, and then nothing of it is written yet.
 pub record HasReadOn {D : Type 0} (d : Ghosts D) (old new : StoreData D) : Type 0 where
-  pub merge : IsReadOn (IsHonest (d.moment new.disk)) (d.content old.disk) old.manifest
+  pub merge : IsMergeReadOn (IsHonest (d.moment new.disk)) (d.content old.disk) old.manifest
       old.jobs new.jobs
   pub after : HasNewJobs old new
 

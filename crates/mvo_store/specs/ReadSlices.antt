@@ -66,8 +66,8 @@ abbrev pub IsReadBeside : Image → (ℕ → List ℕ → Type 0) → ManifestDa
 IsReadBeside content may m g = (x : Parts) (at : PlaceMap) → IsSettled content may m x →
     ArePlaces m.pairs x.lives at → IsReadFrom content m g
 
--- Nothing more comes of the right pair, whatever stands behind what is read, and the merge is planned
--- of what is made of both.
+-- Nothing more comes of the right pair, whatever stands behind what is read, and the merge is
+-- planned of what is made of both.
 pub record IsEndedAs (m : ManifestData) (taken : List ℕ) (old : MergeReading) (g : Merging) : Type 0
   where
     pub is : IsManifest m

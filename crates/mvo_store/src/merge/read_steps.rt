@@ -65,7 +65,6 @@ impl<D: Disk> Store<D> {
     /// repeated, or DiskFault. What the pairs hold was read when the store was opened, or written
     /// by it: where it comes back otherwise, so that it breaks a rule, the answer is Corrupt with a
     /// file or BadVersion, and the store is down.
-    #[tactic(none)]
     pub fn merge_read_slice(&mut self) -> Result<Progress, Refusal>
         ensures step { IsStoreStep D.Disk self.old MergeReadOn result self.new }
         ensures progress { IfOk result (AnswersReading self.new) }

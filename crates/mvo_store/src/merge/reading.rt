@@ -171,7 +171,6 @@ pub fn begin_reading<D: Disk>(
 
 /// Plans the merge of two pairs that are read, where another job has taken the files of this pair.
 /// Refused, the reading is as it was: where the delta file of the right one breaks a rule.
-#[tactic(none)]
 fn end_reading(
     manifest: &Manifest,
     other: Option<Pair>,
@@ -207,7 +206,6 @@ fn end_reading(
 /// Reads the next slice of two pairs: records of the one that is read now, or what is between the
 /// two, or the plan behind both, where another job has taken the files of this pair. Refused, the
 /// reading is as it was.
-#[tactic(none)]
 fn read_next<D: Disk>(
     alloc: Global,
     disk: &mut D,
@@ -249,7 +247,6 @@ fn read_next<D: Disk>(
 
 /// Reads the next slice of the two pairs of the merge that runs. The checkpoint beside it is as it
 /// was. Refused, so is the merge.
-#[tactic(none)]
 pub fn read_jobs<D: Disk>(
     alloc: Global,
     disk: &mut D,
