@@ -26,6 +26,7 @@ pub mod Marked
 pub mod Unwritten
 pub mod Slicing
 pub mod SlicedStore
+pub mod Forgotten
 pub mod PlacedStore
 pub mod ReadOn
 pub mod ReadStore

@@ -32,7 +32,7 @@ use Rattle.mvo_store.specs.Causes.{why_not_take, why_not_append_body, why_not_ap
 use Rattle.mvo_store.specs.Causes.{replaces_last, why_not_rotate, why_not_checkpoint, why_not_merge}
 use Rattle.mvo_store.specs.Causes.{why_not_due, why_not_merge_delta, why_not_install_open}
 use Rattle.mvo_store.specs.Causes.{why_not_place, why_not_merge_read, why_not_reclaim}
-use Rattle.mvo_store.specs.Jobs.{Job, no_jobs, job_due, is_step_due, is_merge_read, with_step, sliced, slices_left, with_manifest, progress_of}
+use Rattle.mvo_store.specs.Jobs.{Job, no_jobs, job_due, is_step_due, is_merge_read, without_reading, with_step, sliced, slices_left, with_manifest, progress_of}
 use Rattle.mvo_store.specs.Steps.{IsRotationOf, IsCheckpointOf, IsMergeOf, IsBegunReading, IsMergeReadOn, HasInstalledNext, HasPlaced}
 use Rattle.mvo_store.specs.Placing.{are_places_left}
 use Rattle.mvo_store.specs.Files.{IsLeastFree}
@@ -52,6 +52,8 @@ pub data StoreStep : Type 0 where
   MergeBegin : (place : ℕ) → StoreStep
   -- to read the next slice of them
   MergeReadOn : StoreStep
+  -- to forget what is read of them
+  MergeForget : StoreStep
 
 -- ---- when it is refused
 
@@ -71,13 +73,15 @@ why_not_store s (Slice step) = why_not_due step s
 why_not_store s Place = why_not_place s
 why_not_store s (MergeBegin place) = why_not_merge place s
 why_not_store s MergeReadOn = why_not_merge_read s
+why_not_store s MergeForget = why_not_merge_read s
 
 -- What may refuse it where no cause stands: want of memory and a fault of the disk. Opening or
--- closing a gate and emptying a file take no memory, and taking a group and putting places ask for
--- neither. What is read may break a rule.
+-- closing a gate and emptying a file take no memory, and taking a group, putting places and
+-- forgetting what is read ask for neither. What is read may break a rule.
 abbrev pub MayMeet : StoreStep → Refusal → Type 0
 MayMeet (Take g) e = ⊥
 MayMeet Place e = ⊥
+MayMeet MergeForget e = ⊥
 MayMeet (Call AppendOpen) e = e ≡ DiskFault
 MayMeet (Call (Step (Install Close))) e = e ≡ DiskFault
 MayMeet (Call (Step (Install Open))) e = e ≡ DiskFault
@@ -205,6 +209,7 @@ Makes d (Slice step) old new = HasSliced step old new
 Makes d Place old new = HasPlaced (IsHonest (d.moment new.disk)) old new
 Makes d (MergeBegin place) old new = HasBegunReading place old new
 Makes d MergeReadOn old new = HasReadOn d old new
+Makes d MergeForget old new = new ≡ record old { jobs = without_reading old.jobs }
 
 -- so it does, and no call of the device failed
 pub record IsMade {D : Type 0} (d : Ghosts D) (call : StoreStep) (old new : StoreData D) : Type 0

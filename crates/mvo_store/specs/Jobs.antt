@@ -206,6 +206,11 @@ abbrev pub with_reading : MergeReading → Jobs → Jobs
 with_reading g (Beside c None) = Beside c (Some (Reading g))
 with_reading g jobs = jobs
 
+-- those that run, but a merge whose pairs are read
+abbrev pub without_reading : Jobs → Jobs
+without_reading (Beside c (Some (Reading g))) = Beside c None
+without_reading jobs = jobs
+
 -- ---- what a step makes of them
 
 -- Opening the gate is the last.

@@ -4,7 +4,7 @@ use crate::disks::hold;
 use crate::reply::Reply::{self, Done, Installed, Marked, Refused, Written};
 use crate::step::Step::{
     self, Append, Checkpoint, InstallBody, InstallClose, InstallOpen, MergeBegin, MergeData,
-    MergeDelta, MergeRead, MergeReadSlice, Rotate,
+    MergeDelta, MergeForget, MergeRead, MergeReadSlice, Rotate,
 };
 use crate::stores::{follow, following, has_row, rows_on, spans};
 use crate::vectors::MERGED_DATA;
@@ -14,7 +14,7 @@ use std::test::Fail;
 
 // The first pair's only record is ended by the second's. A slice each: the first pair's record, the
 // beginning of the second, its record, and the plan.
-const READ_IN_FOUR: [(Step, Reply); 15] = [
+const READ_IN_FOUR: [(Step, Reply); 20] = [
     (MergeBegin(0), Refused(Refusal::NothingToDo)),
     (MergeReadSlice, Refused(Refusal::NothingToDo)),
     (Append(OnePut), Marked(Stamp(2))),
@@ -23,6 +23,11 @@ const READ_IN_FOUR: [(Step, Reply); 15] = [
     (Append(Updated), Marked(Stamp(4))),
     (Rotate, Installed(Generation(3))),
     (Checkpoint, Installed(Generation(4))),
+    (MergeForget, Refused(Refusal::NothingToDo)),
+    (MergeBegin(0), Done),
+    (MergeReadSlice, Written(Progress::More)),
+    (MergeForget, Done),
+    (MergeReadSlice, Refused(Refusal::NothingToDo)),
     (MergeBegin(0), Done),
     (MergeRead(0), Refused(Refusal::Busy)),
     (MergeData, Refused(Refusal::NothingToDo)),

@@ -33,6 +33,8 @@ pub(crate) enum Step {
     MergeBegin(usize),
     /// The next slice of them.
     MergeReadSlice,
+    /// Forgets what is read of them.
+    MergeForget,
     MergeData,
     /// The next slice of its data file.
     MergeSlice,
@@ -164,6 +166,7 @@ impl Step {
             Step::CheckpointSlice => written(store.checkpoint_slice()),
             Step::CheckpointDelta => written(store.checkpoint_delta()),
             Step::MergeReadSlice => written(store.merge_read_slice()),
+            Step::MergeForget => done(store.merge_forget()),
             Step::MergeData => done(store.merge_data()),
             Step::MergeSlice => written(store.merge_slice()),
             Step::MergeDelta => done(store.merge_delta()),

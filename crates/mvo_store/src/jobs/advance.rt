@@ -3,7 +3,8 @@ ghost use Rattle.std.specs.Prelude.{◌≡◌, length, None};
 ghost use Rattle.mvo_store.specs.declared.jobs.jobs.Jobs.TheVariants.{Beside};
 ghost use Rattle.mvo_store.specs.Jobs.{next_step, stepped, stage_behind, checkpoint_behind};
 ghost use Rattle.mvo_store.specs.Jobs.{checkpoint_by, merge_by, is_of_merge, with_step};
-ghost use Rattle.mvo_store.specs.Jobs.{merge_job_by, with_checkpoint, with_merge, with_reading, with_manifest};
+ghost use Rattle.mvo_store.specs.Jobs.{merge_job_by, with_checkpoint, with_merge, with_reading};
+ghost use Rattle.mvo_store.specs.Jobs.{without_reading, with_manifest};
 
 use crate::checkpoint::checkpointing::Checkpointing;
 use crate::checkpoint::stage::CheckpointStage;
@@ -169,6 +170,16 @@ pub fn with_reading(reading: MergeReading, jobs: Jobs) -> Jobs
         Jobs::Beside(checkpoint, running) => {
             Jobs::Beside(checkpoint, running.or(Some(MergeJob::Reading(reading))))
         }
+        jobs => jobs,
+    }
+}
+
+/// The jobs that run, but a merge whose pairs are read.
+pub fn without_reading(jobs: Jobs) -> Jobs
+    ensures { result ≡ without_reading jobs }
+{
+    match jobs {
+        Jobs::Beside(checkpoint, Some(MergeJob::Reading(_))) => Jobs::Beside(checkpoint, None),
         jobs => jobs,
     }
 }

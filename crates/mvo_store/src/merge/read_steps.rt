@@ -1,11 +1,11 @@
 //! A merge whose two pairs are read in slices.
 ghost use Rattle.std.specs.Prelude.{◌≡◌, IfOk};
-ghost use Rattle.mvo_store.specs.Calls.StoreStep.{MergeBegin, MergeReadOn};
+ghost use Rattle.mvo_store.specs.Calls.StoreStep.{MergeBegin, MergeReadOn, MergeForget};
 ghost use Rattle.mvo_store.specs.Calls.{IsStoreStep, AnswersReading};
 ghost use Rattle.mvo_store.specs.Causes.{why_not_merge_read};
 
 use crate::fault::brings_down;
-use crate::jobs::advance::with_reading;
+use crate::jobs::advance::{with_reading, without_reading};
 use crate::jobs::jobs::Jobs;
 use crate::jobs::progress::Progress;
 use crate::jobs::run_due::slices_left;
@@ -83,5 +83,21 @@ impl<D: Disk> Store<D> {
                 Err(refusal)
             }
         }
+    }
+
+    /// Forgets what is read of the two pairs of a merge that `merge_begin` has begun: no merge runs
+    /// then. So others needn't wait for it where no slice is read any more, as for want of memory.
+    /// It asks the disk for nothing and takes no memory.
+    ///
+    /// Refused: Down, then NothingToDo where no merge is read.
+    pub fn merge_forget(&mut self) -> Result<(), Refusal>
+        ensures { IsStoreStep D.Disk self.old MergeForget result self.new }
+    {
+        if let Some(refusal) = self.why_not_merge_read() {
+            return Err(refusal);
+        }
+        let jobs = replace(&mut self.jobs, Jobs::none());
+        self.jobs = without_reading(jobs);
+        Ok(())
     }
 }
