@@ -1,6 +1,5 @@
 -- Two pairs that are read in slices: what begins, what a slice makes of it, and the merge that is planned of it.
 use Rattle.std.proofs.Common.{◌≡◌, ◌⊎◌, inl, inr, ℕ, ◌+◌, ◌<◌, ◌≤◌, Bool, true, false, List, [], ◌∷◌, ◌++◌, length, take, drop, Result, Ok, Err, Some, refl, sym, ap, subst, ◌∙◌, arith, append_assoc}
-use Rattle.std.specs.Prelude.{map}
 use Rattle.std.specs.List.Sorted.{IsStrictlyIncreasing}
 use Rattle.std.proofs.lemmas.List.{append-nil, map-append, length-map, take_at, drop_at}
 use Rattle.mvo_types.specs.declared.limits.TheConstants.{MAX_PAIR_RECORDS}
@@ -35,9 +34,9 @@ use Rattle.mvo_store.specs.declared.merge.merge_job.MergeJob.TheVariants.{Readin
 use Rattle.mvo_store.specs.Causes.{are_too_many}
 use Rattle.mvo_store.specs.Merging.{neighbours_at}
 use Rattle.mvo_store.specs.MergePlanning.{HasLive, IsPlannedMerge}
-use Rattle.mvo_store.specs.PairsRead.{side_of, with_rest, IsLeftRead, IsRightRead, AreReadOn, IsSafeRead, read_with, ComesToWhole, IsReadFrom, left_to_read, IsReadFurther}
+use Rattle.mvo_store.specs.PairsRead.{side_of, with_rest, IsLeftRead, IsRightRead, AreReadOn, IsSafeRead, read_with, IsReadFrom, left_to_read}
 use Rattle.mvo_store.specs.ReadSlices.{with_side, IsReadSlice, IsTurned, IsEndRefusal, IsBeginRefusal, IsEndedTo, IsFurther, IsPlannedOf, IsSliceTo}
-use Rattle.mvo_store.proofs.Neighbours.{AreTwo, are_two, still_now, left_files, right_files, left_now_live, seen_of, apart_two, may_rise, may_few, safe_merge, merge_read_to, job_as_seen}
+use Rattle.mvo_store.proofs.Neighbours.{are_two, still_now, left_files, right_files, left_now_live, seen_of, apart_two, may_rise, may_few, safe_merge, merge_read_to, job_as_seen}
 
 -- ---- what is made of slices
 

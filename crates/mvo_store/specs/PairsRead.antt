@@ -1,15 +1,13 @@
 -- A merge whose two pairs are read in slices.
-use Rattle.std.specs.Prelude.{◌≡◌, ℕ, ◌+◌, ◌-◌, ◌<◌, ◌≤◌, Bool, true, false, List, [], length, drop, Option, Some, None, Ok}
-use Rattle.mvo_types.specs.declared.refusal.Refusal.{Refusal}
+use Rattle.std.specs.Prelude.{◌≡◌, ℕ, ◌+◌, ◌-◌, ◌<◌, ◌≤◌, Bool, true, false, List, [], drop, Option, Some, None, Ok}
 use Rattle.mvo_format.specs.declared.format.TheConstants.{LAST_FORMAT}
 use Rattle.mvo_pair.specs.declared.pair.Pair.{Pair}
 use Rattle.mvo_pair.specs.Data.{Numbered}
 use Rattle.mvo_pair.specs.Coming.{still_found, at_start}
-use Rattle.mvo_pair.specs.Writing.{IsStop}
 use Rattle.mvo_manifest.specs.Data.{ManifestData}
 use Rattle.mvo_recovery.specs.image.Opens.{Image}
 use Rattle.mvo_recovery.specs.beside.Seen.{SeenData, WasSeen}
-use Rattle.mvo_load.specs.Read.{IsMisread, MayBeLive}
+use Rattle.mvo_load.specs.Read.{MayBeLive}
 use Rattle.mvo_load.specs.Sliced.{MayBeReadUpTo}
 use Rattle.mvo_merge.specs.Merged.{MergedData}
 use Rattle.mvo_merge.specs.SoFar.{merged_whole, with_left, with_right}

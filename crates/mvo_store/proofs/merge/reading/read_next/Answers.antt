@@ -1,4 +1,4 @@
-use Rattle.std.proofs.Common.{◌≡◌, ◌<◌, ◌≤◌, false, true, inr, ap, subst, arith, Result, Bool}
+use Rattle.std.proofs.Common.{◌≡◌, ◌<◌, inr, ap, subst, arith, Result, Bool}
 use Rattle.std.specs.Prelude.{IfErr, OnOk, OnErr}
 use Rattle.mvo_disk.specs.Disk.{IsHonest}
 use Rattle.mvo_types.specs.declared.refusal.Refusal.{Refusal}
