@@ -23,7 +23,6 @@ mod Asking
 mod ReadingMany
 mod OneCall
 mod Opened
-mod PairsRead
 mod RollingBack
 pub mod Upkeep
 pub mod Passing
