@@ -188,6 +188,11 @@ impl WorkContent {
         clear_items(&mut self.operations);
     }
 
+    /// Whether it keeps memory for its entries, as one does that was told something.
+    pub(crate) fn has_memory(&self) -> bool {
+        self.looks.has_memory()
+    }
+
     /// What its type keeps. The call does nothing.
     pub fn laws(&self)
         ensures work { IsWork (work_in self.now) }

@@ -117,6 +117,11 @@ impl Looks {
         self.behind.len() < self.behind.capacity()
     }
 
+    /// Whether some memory is kept.
+    pub(crate) fn has_memory(&self) -> bool {
+        self.few.capacity() > 0
+    }
+
     /// Sees to it that one more can be kept. It takes memory where there is no room, and alone
     /// does.
     pub fn make_room(&mut self) -> Result<(), AllocError>

@@ -40,7 +40,6 @@ pub record IsActiveHere (s : State) (c : CoreData) (t : ℕ) : Type 0 where
   pub state : state_of c.table t ≡ Some Active
   pub own : KeptTransaction
   pub kept : own_of c.table t ≡ Some own
-  pub history : own.work.history ≡ tx.history
 
 pub active_here : (rs : Readers) (opening : Map) (steps : List Step) (s : State) (c : CoreData) → StandsAmong rs opening steps s c → (t : ℕ) → why_not_active c.table t ≡ None → IsActiveHere s c t
 active_here rs opening steps s c h t none =
@@ -53,7 +52,6 @@ active_here rs opening steps s c h t none =
       state = was;
       own = w.0.own;
       kept = ap (own_of c.table) (sym w.1) ∙ w.0.kept;
-      history = w.0.history;
     }
 
 -- ---- what it is shown

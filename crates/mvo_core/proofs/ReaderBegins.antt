@@ -41,7 +41,7 @@ use Rattle.mvo_core.specs.Data.{CoreData, own_of}
 use Rattle.mvo_core.specs.Keeping.{IsWritten, with_own_at}
 use Rattle.mvo_core.specs.Readers.{Readers, KeptReader, reader_by, reader_in, HasStage, HaveStages, HasTalePlaces}
 use Rattle.mvo_core.specs.Standing.{StandsAmong}
-use Rattle.mvo_core.specs.WholeStanding.{readers_of, StandsWhole, LeadsWhole, HasSameWork, ReaderBegins}
+use Rattle.mvo_core.specs.WholeStanding.{readers_of, StandsWhole, LeadsWhole, HasSameWords, ReaderBegins}
 use Rattle.mvo_core.proofs.Alone.{inserted_twice}
 use Rattle.mvo_core.proofs.Begun.{fresh_own, own_begun, stands_begun}
 use Rattle.mvo_core.proofs.ReadersMoved.{readers_moved}
@@ -70,7 +70,7 @@ none_among tale t None h = refl
 none_among tale t (Some p) h = absurd h
 
 module _ (opening : Map) (own : List Step) (w : WholeState) (c : CoreData) (node : Node KeptTransaction) (h : StandsAmong (readers_of w) opening own w.core c) (none : node.dependencies ≡ no_dependencies)
-    (told : node.own.work.history ≡ []) (wordless : node.own.writes.words ≡ []) (kind : node.own.kind ≡ Reading) (place : node.own.place ≡ length c.tale) (may : MayCome w.core Begin Accepted) where
+    (wordless : node.own.writes.words ≡ []) (kind : node.own.kind ≡ Reading) (place : node.own.place ≡ length c.tale) (may : MayCome w.core Begin Accepted) where
   abbrev s : State
   s = w.core
 
@@ -97,7 +97,7 @@ module _ (opening : Map) (own : List Step) (w : WholeState) (c : CoreData) (node
   old = record c { table = before }
 
   began : StandsAmong (readers_of w) opening (own ++ steps_of s Begin Accepted) (changes.after_begin s (s.clock + 1)) old
-  began = stands_begun (readers_of w) opening own s c h first none told wordless refl may
+  began = stands_begun (readers_of w) opening own s c h first none wordless refl may
 
   seat : get before.seats t ≡ Some (record { state = Active; kept = first })
   seat = get_inserted c.table.seats t (record { state = Active; kept = first })
@@ -107,13 +107,13 @@ module _ (opening : Map) (own : List Step) (w : WholeState) (c : CoreData) (node
       ap (λ (seats : SeatMap (Node KeptTransaction)). record { clock = c.table.clock + 1; seats = seats })
       (sym (ap (λ (o : Option (TableSeat (Node KeptTransaction))). with_kept_at o before.seats t node) seat ∙ inserted_twice c.table.seats t (record { state = Active; kept = first }) (record { state = Active; kept = node })))
 
-  written : IsWritten before after t HasSameWork
+  written : IsWritten before after t HasSameWords
   written = record {
     before = first.own;
     after = node.own;
-    was = own_begun (readers_of w) opening own s c h first none told wordless refl;
+    was = own_begun (readers_of w) opening own s c h first none wordless refl;
     is = rewritten ∙ sym (ap (λ (o : Option (TableSeat (Node KeptTransaction))). with_own_at (option_map (λ x. x.kept) o) before t node.own) seat);
-    changed = record { history = refl; words = refl };
+    changed = record { words = refl };
   }
 
   apart : AllByRecursion (λ x. x.settled ≡ false → x.id ≢ t) s.stamped
@@ -175,10 +175,10 @@ module _ (opening : Map) (own : List Step) (w : WholeState) (c : CoreData) (node
       began apart written (λ q d e. open_behind c.tale (PlaceReading b) q d e) whole.others (record { drawn = drawn; readers = whole.readers }) stages (grouped_begun c.tale c.grouped c.closed b h.grouped)
 
 pub reader_begins : ReaderBegins
-reader_begins opening steps own w c node h none told wordless kind place may = record {
+reader_begins opening steps own w c node h none wordless kind place may = record {
   may = may;
   stands = record {
-    core = begins opening own w c node h.core none told wordless kind place may;
+    core = begins opening own w c node h.core none wordless kind place may;
     kept = whole_after_call opening steps own w BeginReadOnly Accepted may h.kept;
   };
 }

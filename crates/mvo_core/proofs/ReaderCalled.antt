@@ -44,7 +44,7 @@ use Rattle.mvo_core.specs.Keeping.{IsWritten, HasStartedChecks}
 use Rattle.mvo_core.specs.Own.{own_place}
 use Rattle.mvo_core.specs.Readers.{kind_at, HaveStages}
 use Rattle.mvo_core.specs.Standing.{StandsAmong}
-use Rattle.mvo_core.specs.WholeStanding.{readers_of, StandsWhole, LeadsWhole, HasSameWork}
+use Rattle.mvo_core.specs.WholeStanding.{readers_of, StandsWhole, LeadsWhole, HasSameWords}
 use Rattle.mvo_core.proofs.Carried.{some_own}
 use Rattle.mvo_core.proofs.CausesTold.{flag_same, first_append, stands_active}
 use Rattle.mvo_core.proofs.Laws.{flag_of_active_told}
@@ -184,13 +184,13 @@ module _ (opening : Map) (steps own : List Step) (w : WholeState) (c : CoreData)
     change : IsOwnChanged c.table table t HasStartedChecks
     change = own_changed c.table table t HasStartedChecks written
 
-    same_work : IsWritten c.table table t HasSameWork
+    same_work : IsWritten c.table table t HasSameWords
     same_work = record {
       before = written.before;
       after = written.after;
       was = written.was;
       is = written.is;
-      changed = record { history = ap (λ x. x.history) written.changed.work; words = ap (λ x. x.words) written.changed.writes };
+      changed = record { words = ap (λ x. x.words) written.changed.writes };
     }
 
     free : why_not_reader w.core p (Precommit t) ≡ None

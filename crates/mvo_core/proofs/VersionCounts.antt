@@ -117,8 +117,8 @@ module _ (old new : VersionsData) (table after : Txns (Node KeptTransaction)) (t
   pub inserted_counts : (row : RowData) → IsInserted old new table after t ids row → length (all_versions new.slots) ≡ length (all_versions old.slots) + 1
   inserted_counts row w = put_counts old new row t.0 w.number w.put
 
-  pub removed_counts : (n : VersionNo) (key : RowKey) → IsRemoved old new table after t ids n key → length (all_versions new.slots) ≡ length (all_versions old.slots)
-  removed_counts n key w = reworded_counts old new n _ w.ended
+  pub removed_counts : (n : VersionNo) → IsRemoved old new table after t ids n → length (all_versions new.slots) ≡ length (all_versions old.slots)
+  removed_counts n w = reworded_counts old new n _ w.ended
 
   pub replaced_counts : (n : VersionNo) (row : RowData) → IsReplaced old new table after t ids n row → length (all_versions new.slots) ≡ length (all_versions old.slots) + 1
   replaced_counts n row w = reworded_counts w.between new n _ w.ended ∙ put_counts old w.between row t.0 w.place w.put
