@@ -48,7 +48,7 @@ use Rattle.mvo_core.specs.declared.answers.Settlement.TheVariants as settlement
 use Rattle.mvo_core.specs.Data.{CoreData, own_of}
 use Rattle.mvo_core.specs.Own.{is_own_valid, own_place, own_history}
 use Rattle.mvo_core.specs.Standing.{IsKeptActive, IsKeptPreparing, HasWorks, words_in, StandsAmong}
-use Rattle.mvo_core.specs.Causes.{why_not_preparing, flag_of}
+use Rattle.mvo_core.specs.Causes.{why_not_preparing}
 use Rattle.mvo_core.specs.Aborting.{IsGivenUp}
 use Rattle.mvo_core.specs.Keeping.{IsWrittenThen, HasHandedOver}
 use Rattle.mvo_core.specs.Steps.{settled_as, LeadsAmong}

@@ -7,7 +7,6 @@ use Rattle.mvo_types.specs.declared.ids.TxId.{TxId}
 use Rattle.mvo_types.specs.declared.op.Op.TheVariants.{Insert}
 use Rattle.mvo_types.specs.declared.refusal.Refusal.{Refusal}
 use Rattle.mvo_types.specs.declared.refusal.Refusal.TheVariants.{OutOfMemory}
-use Rattle.mvo_types.specs.AnswerData.{AnswerData}
 use Rattle.mvo_types.specs.AnswerData.AnswerData.{Inserted, Exists}
 use Rattle.mvo_types.specs.RowData.{RowData}
 use Rattle.mvo_types.specs.Keys.{Map}

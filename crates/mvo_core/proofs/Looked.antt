@@ -27,7 +27,7 @@ use Rattle.mvo_representation.proofs.Proved.{shows_snapshot, shown_is_there}
 use Rattle.mvo_representation.proofs.Tabled.{active_is}
 use Rattle.mvo_core.specs.Readers.{Readers}
 use Rattle.mvo_core.specs.declared.kept_transaction.KeptTransaction.{KeptTransaction}
-use Rattle.mvo_core.specs.Causes.{why_not_active, flag_of}
+use Rattle.mvo_core.specs.Causes.{why_not_active}
 use Rattle.mvo_core.specs.Data.{CoreData, own_of}
 use Rattle.mvo_core.specs.Looking.{row_shown}
 use Rattle.mvo_core.specs.Standing.{IsKeptActive, StandsAmong}

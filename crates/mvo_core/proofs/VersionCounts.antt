@@ -10,7 +10,6 @@ use Rattle.mvo_types.specs.declared.refusal.Refusal.TheVariants.{OutOfMemory}
 use Rattle.mvo_types.specs.RowData.{RowData}
 use Rattle.mvo_types.specs.Keys.{Map}
 use Rattle.mvo_types.specs.declared.ids.TxId.{TxId}
-use Rattle.mvo_types.specs.declared.row.RowKey.{RowKey}
 use Rattle.mvo_theory.specs.Ranges.{Row}
 use Rattle.mvo_word.specs.declared.held.Held.{Held}
 use Rattle.mvo_chain.specs.declared.version.Version.{Version}

@@ -75,7 +75,7 @@ IsReadOnlyBegin old result new = (opening : Map) (steps own : List Step) (w : Wh
 
 -- ---- laws
 -- its words stay, whatever else is kept of it
-pub record HasSameWords (old new : KeptTransaction) : Type 0 where
+pub record HasSameWordList (old new : KeptTransaction) : Type 0 where
   pub words : new.writes.words ≡ old.writes.words
 
 -- Where what is kept of one that isn't Preparing for the core, its place in the tale, and the
@@ -86,7 +86,7 @@ ReadersMove = (before after : Readers) (opening : Map) (steps : List Step) (s : 
     (c : CoreData) (t : ℕ) (table : Txns (Node KeptTransaction)) (tale : List TalePlace)
     → StandsAmong before opening steps s c
     → AllByRecursion (λ x. x.settled ≡ false → x.id ≢ t) s.stamped
-    → IsWritten c.table table t HasSameWords
+    → IsWritten c.table table t HasSameWordList
     → ((q d : ℕ) → open_end_at c.tale q ≡ Some d → open_end_at tale q ≡ Some d)
     → HasTale s (others_places tale) → HasTalePlaces after s.start s.clock tale
     → HaveStages after.unfinished table tale → AreGroupedTo tale c.grouped c.closed
@@ -111,7 +111,8 @@ OthersLeadWhole = (opening : Map) (steps own : List Step) (w : WholeState) (call
 abbrev pub ReaderBegins : Type 0
 ReaderBegins = (opening : Map) (steps own : List Step) (w : WholeState) (c : CoreData)
     (node : Node KeptTransaction) → StandsWhole opening steps own w c
-    → node.dependencies ≡ no_dependencies → node.own.writes.words ≡ [] → node.own.kind ≡ Reading → node.own.place ≡ length c.tale
+    → node.dependencies ≡ no_dependencies → node.own.writes.words ≡ [] → node.own.kind ≡ Reading
+    → node.own.place ≡ length c.tale
     → MayComeWhole w BeginReadOnly Accepted
     → LeadsWhole opening steps own w BeginReadOnly Accepted (record c {
       table = table_after_begin c.table node;
@@ -126,7 +127,7 @@ ReaderGoesOn = (opening : Map) (steps own : List Step) (w : WholeState) (c : Cor
     → StandsWhole opening steps own w c → core_calls w (CoreCall call) r ≡ []
     → MayComeWhole w (CoreCall call) r
     → AllByRecursion (λ x. x.settled ≡ false → x.id ≢ t) w.core.stamped
-    → IsWritten c.table table t HasSameWords
+    → IsWritten c.table table t HasSameWordList
     → HasReaders w.core.start (readers_after w (CoreCall call) r)
     (committed_after w (CoreCall call) r) c.tale
     → HaveStages (readers_after w (CoreCall call) r) table c.tale

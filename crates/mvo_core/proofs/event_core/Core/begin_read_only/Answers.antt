@@ -1,4 +1,4 @@
-use Rattle.std.proofs.Common.{◌≡◌, ◌∙◌, ◌+◌, ◌<◌, List, [], ◌∷◌, ◌++◌, length, refl, sym, ap, subst}
+use Rattle.std.proofs.Common.{◌∙◌, ◌+◌, ◌<◌, List, [], ◌∷◌, ◌++◌, length, refl, sym, ap, subst}
 use Rattle.std.specs.List.{AllByRecursion}
 use Rattle.std.specs.Option.{is_some}
 use Rattle.mvo_types.specs.declared.ids.Stamp.{Stamp}
@@ -9,7 +9,7 @@ use Rattle.mvo_core.proofs.ReaderOwn.{reading_pending}
 use Rattle.mvo_types.specs.declared.refusal.Refusal.TheVariants.{OutOfMemory}
 use Rattle.mvo_tale.specs.declared.tale_place.TalePlace.{TalePlace}
 use Rattle.mvo_txn.specs.Txns.{why_not_begun, IsTableRefusal}
-use Rattle.mvo_theory.specs.Calls.Result.{Accepted, Refused}
+use Rattle.mvo_theory.specs.Calls.Result.{Accepted}
 use Rattle.mvo_readonly.specs.WholeCauses.WholeCall.{BeginReadOnly}
 use Rattle.mvo_core.specs.Data.{CoreData}
 use Rattle.mvo_core.specs.View.{core_data}

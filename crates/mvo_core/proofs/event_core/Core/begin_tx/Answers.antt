@@ -8,11 +8,11 @@ use Rattle.mvo_core.specs.View.{core_data}
 use Rattle.mvo_core.specs.Standing.{StandsFor}
 use Rattle.mvo_content.specs.Works.{WorksData}
 use Rattle.mvo_core.specs.WholeStanding.{StandsInWhole}
-use Rattle.mvo_core.specs.Steps.{came, LeadsOn}
+use Rattle.mvo_core.specs.Steps.{came}
 use Rattle.mvo_core.proofs.Begun.{begin_leads, begin_refused}
 use Rattle.mvo_core.proofs.WholeStands.{whole_stands_on}
 use Rattle.mvo_core.proofs.Waits.{begun_waits}
-use Rattle.mvo_core.specs.WholeStanding.{readers_of, StandsWhole, LeadsWhole}
+use Rattle.mvo_core.specs.WholeStanding.{readers_of, StandsWhole}
 use Rattle.mvo_readonly.specs.WholeCauses.WholeCall.{CoreCall}
 use Rattle.mvo_theory.specs.Calls.Result.{Refused}
 use Rattle.mvo_core.proofs.OthersLead.{others_lead}

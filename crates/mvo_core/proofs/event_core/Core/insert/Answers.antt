@@ -16,7 +16,6 @@ use Rattle.mvo_core.specs.Standing.{StandsFor}
 use Rattle.mvo_core.specs.Steps.{LeadsOn}
 use Rattle.mvo_core.proofs.WholeStands.{whole_stands_on}
 use Rattle.mvo_core.proofs.Inserting.{insert_starved, insert_refused, insert_spent, insert_spent_same, exists_answers, exists_leads, insert_leads, inserted_answers, insert_may_be_told, insert_fits}
-use Rattle.mvo_types.specs.AnswerData.AnswerData.{Inserted, Exists}
 use Rattle.mvo_core.proofs.Asked.{own_if_active, unfinished_if_own, active_if_put, may_put_failing}
 use Rattle.mvo_core.proofs.Looked.{shown_in}
 use Rattle.mvo_core.proofs.Refused.{came_spent}

@@ -15,7 +15,6 @@ use Rattle.mvo_core.specs.View.{core_data}
 use Rattle.mvo_core.specs.Standing.{StandsFor}
 use Rattle.mvo_core.specs.Steps.{LeadsOn}
 use Rattle.mvo_core.proofs.WholeStands.{whole_stands_on}
-use Rattle.mvo_types.specs.AnswerData.AnswerData.{Found}
 use Rattle.mvo_core.proofs.Asked.{own_if_active, unfinished_if_own, active_if_looked, may_look_failing}
 use Rattle.mvo_core.proofs.Refused.{came_spent}
 use Rattle.mvo_core.proofs.WorksHeld.{stands_same_works, whole_same_works}
@@ -25,7 +24,6 @@ use Rattle.mvo_core.specs.WholeStanding.{readers_of, StandsWhole, LeadsWhole}
 use Rattle.mvo_readonly.specs.WholeCauses.WholeCall.{CoreCall}
 use Rattle.mvo_core.proofs.WholeReads.{look_refused, may_look_whole, look_leads, look_spent}
 use Rattle.mvo_core.proofs.CausesTold.{MayLook}
-use Rattle.mvo_core.specs.Steps.{came}
 use Rattle.mvo_core.proofs.event_core.Core.read.Goals as goal
 
 pub give_up-requires : goal.give_up-requires

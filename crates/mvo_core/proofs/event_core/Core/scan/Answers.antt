@@ -16,7 +16,6 @@ use Rattle.mvo_core.specs.View.{core_data}
 use Rattle.mvo_core.specs.Standing.{StandsFor}
 use Rattle.mvo_core.specs.Steps.{LeadsOn}
 use Rattle.mvo_core.proofs.WholeStands.{whole_stands_on}
-use Rattle.mvo_types.specs.AnswerData.AnswerData.{Rows}
 use Rattle.mvo_core.proofs.Asked.{own_if_active, unfinished_if_own, active_if_looked, may_look_failing}
 use Rattle.mvo_core.proofs.Refused.{came_spent}
 use Rattle.mvo_core.proofs.WorksHeld.{stands_same_works, whole_same_works}
