@@ -29,6 +29,10 @@ pub(crate) enum Step {
     CheckpointSlice,
     CheckpointDelta,
     MergeRead(usize),
+    /// Begins to read the pair at this place and the one behind it.
+    MergeBegin(usize),
+    /// The next slice of them.
+    MergeReadSlice,
     MergeData,
     /// The next slice of its data file.
     MergeSlice,
@@ -44,6 +48,8 @@ pub(crate) enum Step {
     Checkpoint,
     /// All steps of a merge of the pair at this place and the one behind it.
     Merge(usize),
+    /// The same where the two are read in slices.
+    MergeInSlices(usize),
     /// The step of a job that comes next, that of a merge first.
     Due,
     Reclaim,
@@ -111,11 +117,25 @@ fn checkpoint(store: &mut Store<MemDisk>) -> Result<Generation, Refusal> {
     install(store)
 }
 
-fn merge(store: &mut Store<MemDisk>, place: usize) -> Result<Generation, Refusal> {
-    store.merge_read(place)?;
+fn write_merge(store: &mut Store<MemDisk>) -> Result<Generation, Refusal> {
     store.merge_data()?;
     store.merge_delta()?;
     install(store)
+}
+
+fn merge(store: &mut Store<MemDisk>, place: usize) -> Result<Generation, Refusal> {
+    store.merge_read(place)?;
+    write_merge(store)
+}
+
+fn merge_in_slices(store: &mut Store<MemDisk>, place: usize) -> Result<Generation, Refusal> {
+    store.merge_begin(place)?;
+    for _ in 0..65 {
+        if store.merge_read_slice()? == Progress::Ready {
+            break;
+        }
+    }
+    write_merge(store)
 }
 
 /// Makes the first step that is due. None runs on where none is.
@@ -143,9 +163,11 @@ impl Step {
             Step::RotateWrite => done(store.rotate_write()),
             Step::CheckpointRead => done(store.checkpoint_read()),
             Step::MergeRead(place) => done(store.merge_read(place)),
+            Step::MergeBegin(place) => done(store.merge_begin(place)),
             Step::Rotate => installed(rotate(store)),
             Step::Checkpoint => installed(checkpoint(store)),
             Step::Merge(place) => installed(merge(store, place)),
+            Step::MergeInSlices(place) => installed(merge_in_slices(store, place)),
             Step::Due => due(store),
             Step::Reclaim => emptied(store.reclaim()),
             step => step.of_job(store),
@@ -158,6 +180,7 @@ impl Step {
             Step::CheckpointData => done(store.checkpoint_data()),
             Step::CheckpointSlice => written(store.checkpoint_slice()),
             Step::CheckpointDelta => written(store.checkpoint_delta()),
+            Step::MergeReadSlice => written(store.merge_read_slice()),
             Step::MergeData => done(store.merge_data()),
             Step::MergeSlice => written(store.merge_slice()),
             Step::MergeDelta => done(store.merge_delta()),
