@@ -1,0 +1,4 @@
+pub mod Causes
+pub mod Goes
+pub mod Together
+pub mod Back

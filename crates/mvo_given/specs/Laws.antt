@@ -1,0 +1,62 @@
+-- The laws of read-only transactions on a core that is given works.
+use Rattle.std.specs.Prelude.{◌≡◌, List, ◌++◌}
+use Rattle.std.specs.Option.{option_map}
+use Rattle.mvo_types.specs.Keys.{Map}
+use Rattle.mvo_model.specs.Trace.{Step}
+use Rattle.mvo_theory.specs.Calls.{Result, trace_of}
+use Rattle.mvo_shared.specs.Shared.{WorksById}
+use Rattle.mvo_shared.specs.Given.{GivenResult}
+use Rattle.mvo_shared.specs.Given.GivenRefusal.{Because}
+use Rattle.mvo_shadow.specs.Shadowed.{shadow_result}
+use Rattle.mvo_readonly.specs.Whole.{WholeState}
+use Rattle.mvo_readonly.specs.WholeCauses.{WholeCall, MayComeWhole}
+use Rattle.mvo_readonly.specs.WholeCalls.{core_calls, steps_of_whole_call, after_whole_call}
+use Rattle.mvo_given.specs.GivenWhole.{GivenWhole, why_not_given_whole, MayComeGivenWhole}
+use Rattle.mvo_given.specs.GivenCalls.{after_given_whole, work_for_whole, works_after_whole}
+use Rattle.mvo_given.specs.WholeShadowed.{GoWholeTogether, why_not_whole, whole_shadow_call, IsWholeByWrites, IsToldWhole, IsWholeCallBehind}
+
+-- Each call is refused there with the first cause for which the whole state refuses it, and with
+-- none where the whole state has none: so never with a mismatch.
+abbrev pub WholeCausesAreAlike : Type 0
+WholeCausesAreAlike = (opening : Map) (steps own : List Step) (w : WholeState) (g : GivenWhole)
+    (works : WorksById) (c : WholeCall) → GoWholeTogether opening steps own w g works
+    → let call = whole_shadow_call c in
+    why_not_given_whole g (work_for_whole works call) call ≡ option_map Because (why_not_whole w c)
+
+-- they stand together after the call too
+abbrev pub GoWholeOn : Map → List Step → List Step → WholeState → GivenWhole → WorksById
+    → WholeCall → Result → WholeCall → GivenResult → Type 0
+GoWholeOn opening steps own w g works c r call given =
+    GoWholeTogether opening (steps ++ steps_of_whole_call w c r)
+    (own ++ trace_of w.core (core_calls w c r)) (after_whole_call w c r)
+    (after_given_whole g (work_for_whole works call) call given)
+    (works_after_whole g works call given)
+
+-- What a call may come to on the whole state it may come to there; an operation is told the same;
+-- and they stand together after it.
+abbrev pub EachWholeCallGoesAlike : Type 0
+EachWholeCallGoesAlike = (opening : Map) (steps own : List Step) (w : WholeState)
+    (g : GivenWhole) (works : WorksById) (c : WholeCall) (r : Result) → IsWholeByWrites c
+    → MayComeWhole w c r → GoWholeTogether opening steps own w g works
+    → let call = whole_shadow_call c in let given = shadow_result r in
+    MayComeGivenWhole g (work_for_whole works call) call given × IsToldWhole w g works c r
+    × GoWholeOn opening steps own w g works c r call given
+
+-- the whole state may come to the same, and they stand together after it
+pub record IsWholeCallOf (opening : Map) (steps own : List Step) (w : WholeState) (g : GivenWhole)
+    (works : WorksById) (call : WholeCall) (given : GivenResult) (c : WholeCall) (r : Result) :
+    Type 0 where
+  pub may : MayComeWhole w c r
+  pub same : IsWholeCallBehind c r call
+  pub outcome : shadow_result r ≡ given
+  pub told : IsToldWhole w g works c r
+  pub together : GoWholeOn opening steps own w g works c r call given
+
+-- And the other way round: whatever call such a core may come to, the whole state may come to one
+-- as well, with the same outcome.
+abbrev pub EachGivenCallIsWhole : Type 0
+EachGivenCallIsWhole = (opening : Map) (steps own : List Step) (w : WholeState)
+    (g : GivenWhole) (works : WorksById) (call : WholeCall) (given : GivenResult)
+    → IsWholeByWrites call → MayComeGivenWhole g (work_for_whole works call) call given
+    → GoWholeTogether opening steps own w g works
+    → (c : WholeCall) × (r : Result) × IsWholeCallOf opening steps own w g works call given c r

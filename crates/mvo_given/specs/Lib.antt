@@ -1,0 +1,4 @@
+pub mod GivenWhole
+pub mod GivenCalls
+pub mod WholeShadowed
+pub mod Laws
