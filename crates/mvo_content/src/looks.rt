@@ -179,6 +179,7 @@ fn few_at(few: &[(Entry, RowsShown)], place: usize) -> Option<(&Entry, &RowsShow
 }
 
 /// The rows that are kept for the entry among these, if it is kept.
+#[inline(always)]
 fn look_at(few: &[(Entry, RowsShown)], entry: Entry) -> Option<&RowsShown>
     ensures { option_copied result ≡ look_at few.now entry }
 {
