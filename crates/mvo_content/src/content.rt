@@ -128,6 +128,7 @@ impl WorkContent {
     }
 
     /// Whether as many entries are kept as may be, and this isn't one of them.
+    #[inline(always)]
     pub fn is_entry_too_many(&self, entry: Entry) -> bool
         ensures { result ≡ is_entry_too_many self.now.history entry }
     {
@@ -135,12 +136,16 @@ impl WorkContent {
     }
 
     /// Whether as many keys are written as may be, and this isn't one of them.
+    #[inline(always)]
     pub fn is_write_too_many(&self, key: RowKey) -> bool
         ensures { result ≡ is_write_too_many self.now.history key }
     {
+        if self.left.len() < MAX_WRITES {
+            return false;
+        }
         match left_at(&self.left, key) {
             Some(_) => false,
-            None => self.left.len() >= MAX_WRITES,
+            None => true,
         }
     }
 

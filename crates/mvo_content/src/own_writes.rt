@@ -22,6 +22,9 @@ pub type Left = IndexMap<RowKey, Option<Row>>;
 pub fn left_at(left: &Left, key: RowKey) -> Option<&Option<Row>>
     ensures { option_copied result ≡ left_at left.now.entries key }
 {
+    if left.len() == 0 {
+        return None;
+    }
     left.get(&key)
 }
 

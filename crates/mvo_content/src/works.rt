@@ -55,6 +55,7 @@ impl Works {
     }
 
     /// The work of the transaction, if one lies there: else it has done nothing.
+    #[inline(always)]
     pub fn work(&self, id: TxId) -> Option<&WorkContent>
         ensures { work_if_there (option_copied result) ≡ works_in self.now id.0 }
     {
