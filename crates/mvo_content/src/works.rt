@@ -55,6 +55,7 @@ impl Works {
     }
 
     /// The work of the transaction, if one lies there: else it has done nothing.
+    #[inline(always)]
     pub fn work(&self, id: TxId) -> Option<&WorkContent>
         ensures { work_if_there (option_copied result) ≡ works_in self.now id.0 }
     {
@@ -63,6 +64,7 @@ impl Works {
 
     /// The operation of the transaction with its answer where others show these rows in its entry,
     /// and room for it, so that telling it takes no memory. Until it is told, nothing is done.
+    #[inline(always)]
     pub fn prepare(
         &mut self,
         id: TxId,
@@ -73,6 +75,9 @@ impl Works {
         ensures same { HaveSameWorks self.old self.new }
         ensures next { IfOk result (IsPreparedAt self.new id.0 op (rows_in others)) }
     {
+        if let Some(content) = self.held.get_mut(&id.0) {
+            return content.prepare(op, others);
+        }
         self.make_work(id)?;
         match self.held.get_mut(&id.0) {
             Some(content) => content.prepare(op, others),
@@ -130,6 +135,7 @@ impl Works {
 
     /// Does the operation that was prepared for the transaction, and answers what it is answered.
     /// It takes no memory.
+    #[inline(always)]
     pub fn tell(&mut self, id: TxId, next: NextOperation) -> Answer
         requires { MayBeTold self.old id.0 next }
         ensures told { HasWorkFor self.old self.new id.0

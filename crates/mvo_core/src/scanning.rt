@@ -73,7 +73,7 @@ impl Core {
             table,
             lo,
             hi,
-            &rows,
+            rows,
         )?;
         let op = Op::Scan(table, lo, hi);
         let next = self.works.prepare(tx.id, op, RowsShown::Many(others))?;
@@ -242,16 +242,4 @@ fn is_up_to(seen: Seen, stamp: Stamp) -> bool
         Seen::Settled(at) => at <= stamp,
         Seen::Speculative(at, _) => at <= stamp,
     }
-}
-
-/// Copies of the rows.
-pub fn copies_of(alloc: Global, rows: &[Row]) -> Result<Vec<Row>, AllocError>
-    ensures { IfOk result (λ copies. copies.items ≡ rows.now) }
-{
-    let mut copies = Vec::new(alloc);
-    copies.reserve(rows.len())?;
-    for row in rows {
-        copies.push(row.copy()?)?;
-    }
-    Ok(copies)
 }

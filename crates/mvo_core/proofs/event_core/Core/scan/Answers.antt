@@ -1,12 +1,10 @@
-use Rattle.std.proofs.Common.{List, sym, ap, ◌∙◌, subst, refl}
+use Rattle.std.proofs.Common.{sym, ap, ◌∙◌, subst, refl}
 use Rattle.mvo_types.specs.declared.op.Op.TheVariants.{Scan}
 use Rattle.mvo_types.specs.declared.refusal.Refusal.TheVariants.{OutOfMemory}
 use Rattle.mvo_types.specs.AnswerData.{answer_data}
 use Rattle.mvo_theory.specs.Calls.Call.{Do}
 use Rattle.mvo_theory.specs.Calls.Result.{Accepted, Refused}
 use Rattle.mvo_types.specs.declared.entry.Entry.TheVariants.{Range}
-use Rattle.mvo_types.specs.RowData.{RowData}
-use Rattle.mvo_core.specs.Others.{AreOthersShown}
 use Rattle.mvo_core.specs.Readers.{no_readers}
 use Rattle.mvo_core.specs.Causes.{why_not_look}
 use Rattle.mvo_shared.specs.Kept.{WorkContent}
@@ -74,7 +72,7 @@ prepare-requires c =
     let i = c.self.invariant.stands in
     let old : CoreData = core_data f in
     let looks = may_look_whole i.opening i.steps i.own i.whole old i.stands c.args.tx.0 (Scan c.args.table c.args.lo c.args.hi) c.args.table (Range c.args.table c.args.lo c.args.hi) refl (sym c.not_looked.ensures ∙ c.in_default.is) in
-    scan_fits (readers_of i.whole) i.opening i.own i.whole.core old i.stands.core c.args.tx c.args.table c.args.lo c.args.hi (sym c.not_looked.ensures ∙ c.in_default.is) looks c.in_ok-scanned.scanned.rows.items c.in_ok-scanned.scanned.on.items c.in_ok-scanned.ensures (done_in c.self.inside.works c.args.tx.0) refl c.in_ok-others.others.items (subst (λ (xs : List RowData). AreOthersShown (done_in c.self.inside.works c.args.tx.0) c.self.inside.table c.self.inside.versions c.args.tx.0 c.args.table c.args.lo c.args.hi xs c.in_ok-others.others.items) c.deref.ensures.value c.in_ok-others.ensures)
+    scan_fits (readers_of i.whole) i.opening i.own i.whole.core old i.stands.core c.args.tx c.args.table c.args.lo c.args.hi (sym c.not_looked.ensures ∙ c.in_default.is) looks c.in_ok-scanned.scanned.rows.items c.in_ok-scanned.scanned.on.items c.in_ok-scanned.ensures (done_in c.self.inside.works c.args.tx.0) refl c.in_ok-others.others.items c.in_ok-others.ensures
 
 pub invariant_of-self : goal.invariant_of-self
 invariant_of-self c =
@@ -157,10 +155,10 @@ invariant_of-self-2 c =
           whole_stands_on i (CoreCall (Do c.args.tx.0 (Scan c.args.table c.args.lo c.args.hi))) Accepted (record now { table = c.register_all.new.table; works = c.tell.new.self })
           (let looks = may_look_whole i.opening i.steps i.own i.whole now g c.args.tx.0 (Scan c.args.table c.args.lo c.args.hi) c.args.table (Range c.args.table c.args.lo c.args.hi) refl (ap (λ (z : WorkContent). why_not_look c.self.inside.table z.history c.args.tx.0 c.args.table (Range c.args.table c.args.lo c.args.hi)) (c.prepare.ensures.same c.args.tx.0) ∙ sym c.not_looked.ensures ∙ c.in_default.is) in
           look_leads i.opening i.steps i.own i.whole now g c.args.tx.0 (Scan c.args.table c.args.lo c.args.hi) c.args.table (Range c.args.table c.args.lo c.args.hi) refl (ap (λ (z : WorkContent). why_not_look c.self.inside.table z.history c.args.tx.0 c.args.table (Range c.args.table c.args.lo c.args.hi)) (c.prepare.ensures.same c.args.tx.0) ∙ sym c.not_looked.ensures ∙ c.in_default.is) _
-          (scan_leads (readers_of i.whole) i.opening i.own i.whole.core now g.core c.args.tx c.args.table c.args.lo c.args.hi (ap (λ (z : WorkContent). why_not_look c.self.inside.table z.history c.args.tx.0 c.args.table (Range c.args.table c.args.lo c.args.hi)) (c.prepare.ensures.same c.args.tx.0) ∙ sym c.not_looked.ensures ∙ c.in_default.is) looks c.in_ok-scanned.scanned.rows.items c.in_ok-scanned.scanned.on.items c.in_ok-scanned.ensures c.deref-2.result.now c.deref-2.ensures.value c.register_all.new.table c.in_ok-register_all.ensures.ok
-          (done_in c.self.inside.works c.args.tx.0) (sym (ap (λ (z : WorkContent). z.history) (c.prepare.ensures.same c.args.tx.0))) c.in_ok-others.others.items (subst (λ (xs : List RowData). AreOthersShown (done_in c.self.inside.works c.args.tx.0) c.self.inside.table c.self.inside.versions c.args.tx.0 c.args.table c.args.lo c.args.hi xs c.in_ok-others.others.items) c.deref.ensures.value c.in_ok-others.ensures) c.tell.new.self
+          (scan_leads (readers_of i.whole) i.opening i.own i.whole.core now g.core c.args.tx c.args.table c.args.lo c.args.hi (ap (λ (z : WorkContent). why_not_look c.self.inside.table z.history c.args.tx.0 c.args.table (Range c.args.table c.args.lo c.args.hi)) (c.prepare.ensures.same c.args.tx.0) ∙ sym c.not_looked.ensures ∙ c.in_default.is) looks c.in_ok-scanned.scanned.rows.items c.in_ok-scanned.scanned.on.items c.in_ok-scanned.ensures c.deref.result.now c.deref.ensures.value c.register_all.new.table c.in_ok-register_all.ensures.ok
+          (done_in c.self.inside.works c.args.tx.0) (sym (ap (λ (z : WorkContent). z.history) (c.prepare.ensures.same c.args.tx.0))) c.in_ok-others.others.items c.in_ok-others.ensures c.tell.new.self
           (record { next = c.in_ok-next.next; prepared = c.in_ok-next.ensures.next; told = c.tell.ensures.told })));
-      waiting = waits_alike f.table c.register_all.new.table f.versions.slots f.waiting (alike_depending f.table c.register_all.new.table c.args.tx c.deref-2.result.now c.in_ok-register_all.ensures.ok) c.self.invariant.waiting;
+      waiting = waits_alike f.table c.register_all.new.table f.versions.slots f.waiting (alike_depending f.table c.register_all.new.table c.args.tx c.deref.result.now c.in_ok-register_all.ensures.ok) c.self.invariant.waiting;
     }
 
 pub returns-clause-step : goal.returns-clause-step
@@ -168,8 +166,8 @@ returns-clause-step c = λ opening steps s h.
     let f = c.self.inside in
     let old : CoreData = core_data f in
     let now : CoreData = record old { works = c.prepare.new.self } in
-    scan_leads no_readers opening steps s now (stands_same_works no_readers opening steps s old (subst (StandsFor opening steps s) (sym c.self.view_is) h) c.prepare.new.self c.prepare.ensures.same) c.args.tx c.args.table c.args.lo c.args.hi (ap (λ (z : WorkContent). why_not_look c.self.inside.table z.history c.args.tx.0 c.args.table (Range c.args.table c.args.lo c.args.hi)) (c.prepare.ensures.same c.args.tx.0) ∙ sym c.not_looked.ensures ∙ c.in_default.is) tt c.in_ok-scanned.scanned.rows.items c.in_ok-scanned.scanned.on.items c.in_ok-scanned.ensures c.deref-2.result.now c.deref-2.ensures.value c.register_all.new.table c.in_ok-register_all.ensures.ok
-    (done_in c.self.inside.works c.args.tx.0) (sym (ap (λ (z : WorkContent). z.history) (c.prepare.ensures.same c.args.tx.0))) c.in_ok-others.others.items (subst (λ (xs : List RowData). AreOthersShown (done_in c.self.inside.works c.args.tx.0) c.self.inside.table c.self.inside.versions c.args.tx.0 c.args.table c.args.lo c.args.hi xs c.in_ok-others.others.items) c.deref.ensures.value c.in_ok-others.ensures) c.tell.new.self
+    scan_leads no_readers opening steps s now (stands_same_works no_readers opening steps s old (subst (StandsFor opening steps s) (sym c.self.view_is) h) c.prepare.new.self c.prepare.ensures.same) c.args.tx c.args.table c.args.lo c.args.hi (ap (λ (z : WorkContent). why_not_look c.self.inside.table z.history c.args.tx.0 c.args.table (Range c.args.table c.args.lo c.args.hi)) (c.prepare.ensures.same c.args.tx.0) ∙ sym c.not_looked.ensures ∙ c.in_default.is) tt c.in_ok-scanned.scanned.rows.items c.in_ok-scanned.scanned.on.items c.in_ok-scanned.ensures c.deref.result.now c.deref.ensures.value c.register_all.new.table c.in_ok-register_all.ensures.ok
+    (done_in c.self.inside.works c.args.tx.0) (sym (ap (λ (z : WorkContent). z.history) (c.prepare.ensures.same c.args.tx.0))) c.in_ok-others.others.items c.in_ok-others.ensures c.tell.new.self
     (record { next = c.in_ok-next.next; prepared = c.in_ok-next.ensures.next; told = c.tell.ensures.told })
 
 pub returns-clause-answer : goal.returns-clause-answer
@@ -178,7 +176,7 @@ returns-clause-answer c = λ opening steps s h.
     let old : CoreData = core_data f in
     let now : CoreData = record old { works = c.prepare.new.self } in
     scan_answers no_readers opening steps s now (stands_same_works no_readers opening steps s old (subst (StandsFor opening steps s) (sym c.self.view_is) h) c.prepare.new.self c.prepare.ensures.same) c.args.tx c.args.table c.args.lo c.args.hi (ap (λ (z : WorkContent). why_not_look c.self.inside.table z.history c.args.tx.0 c.args.table (Range c.args.table c.args.lo c.args.hi)) (c.prepare.ensures.same c.args.tx.0) ∙ sym c.not_looked.ensures ∙ c.in_default.is) tt c.in_ok-scanned.scanned.rows.items c.in_ok-scanned.scanned.on.items c.in_ok-scanned.ensures
-    (done_in c.self.inside.works c.args.tx.0) (sym (ap (λ (z : WorkContent). z.history) (c.prepare.ensures.same c.args.tx.0))) c.in_ok-others.others.items (subst (λ (xs : List RowData). AreOthersShown (done_in c.self.inside.works c.args.tx.0) c.self.inside.table c.self.inside.versions c.args.tx.0 c.args.table c.args.lo c.args.hi xs c.in_ok-others.others.items) c.deref.ensures.value c.in_ok-others.ensures) c.in_ok-next.next c.in_ok-next.ensures.next (answer_data c.tell.result) c.tell.ensures.answer
+    (done_in c.self.inside.works c.args.tx.0) (sym (ap (λ (z : WorkContent). z.history) (c.prepare.ensures.same c.args.tx.0))) c.in_ok-others.others.items c.in_ok-others.ensures c.in_ok-next.next c.in_ok-next.ensures.next (answer_data c.tell.result) c.tell.ensures.answer
 
 -- ---- beside read-only ones
 pub returns-in-Some-clause-whole : goal.returns-in-Some-clause-whole
@@ -221,8 +219,8 @@ returns-clause-whole c = λ opening steps own w h.
     let g : StandsWhole opening steps own w now = whole_same_works opening steps own w old (subst (StandsWhole opening steps own w) (sym c.self.view_is) h) c.prepare.new.self c.prepare.ensures.same in
     let looks = may_look_whole opening steps own w now g c.args.tx.0 (Scan c.args.table c.args.lo c.args.hi) c.args.table (Range c.args.table c.args.lo c.args.hi) refl (ap (λ (z : WorkContent). why_not_look c.self.inside.table z.history c.args.tx.0 c.args.table (Range c.args.table c.args.lo c.args.hi)) (c.prepare.ensures.same c.args.tx.0) ∙ sym c.not_looked.ensures ∙ c.in_default.is) in
     look_leads opening steps own w now g c.args.tx.0 (Scan c.args.table c.args.lo c.args.hi) c.args.table (Range c.args.table c.args.lo c.args.hi) refl (ap (λ (z : WorkContent). why_not_look c.self.inside.table z.history c.args.tx.0 c.args.table (Range c.args.table c.args.lo c.args.hi)) (c.prepare.ensures.same c.args.tx.0) ∙ sym c.not_looked.ensures ∙ c.in_default.is) _
-    (scan_leads (readers_of w) opening own w.core now g.core c.args.tx c.args.table c.args.lo c.args.hi (ap (λ (z : WorkContent). why_not_look c.self.inside.table z.history c.args.tx.0 c.args.table (Range c.args.table c.args.lo c.args.hi)) (c.prepare.ensures.same c.args.tx.0) ∙ sym c.not_looked.ensures ∙ c.in_default.is) looks c.in_ok-scanned.scanned.rows.items c.in_ok-scanned.scanned.on.items c.in_ok-scanned.ensures c.deref-2.result.now c.deref-2.ensures.value c.register_all.new.table c.in_ok-register_all.ensures.ok
-    (done_in c.self.inside.works c.args.tx.0) (sym (ap (λ (z : WorkContent). z.history) (c.prepare.ensures.same c.args.tx.0))) c.in_ok-others.others.items (subst (λ (xs : List RowData). AreOthersShown (done_in c.self.inside.works c.args.tx.0) c.self.inside.table c.self.inside.versions c.args.tx.0 c.args.table c.args.lo c.args.hi xs c.in_ok-others.others.items) c.deref.ensures.value c.in_ok-others.ensures) c.tell.new.self
+    (scan_leads (readers_of w) opening own w.core now g.core c.args.tx c.args.table c.args.lo c.args.hi (ap (λ (z : WorkContent). why_not_look c.self.inside.table z.history c.args.tx.0 c.args.table (Range c.args.table c.args.lo c.args.hi)) (c.prepare.ensures.same c.args.tx.0) ∙ sym c.not_looked.ensures ∙ c.in_default.is) looks c.in_ok-scanned.scanned.rows.items c.in_ok-scanned.scanned.on.items c.in_ok-scanned.ensures c.deref.result.now c.deref.ensures.value c.register_all.new.table c.in_ok-register_all.ensures.ok
+    (done_in c.self.inside.works c.args.tx.0) (sym (ap (λ (z : WorkContent). z.history) (c.prepare.ensures.same c.args.tx.0))) c.in_ok-others.others.items c.in_ok-others.ensures c.tell.new.self
     (record { next = c.in_ok-next.next; prepared = c.in_ok-next.ensures.next; told = c.tell.ensures.told }))
 
 pub returns-clause-whole_answer : goal.returns-clause-whole_answer
@@ -233,4 +231,4 @@ returns-clause-whole_answer c = λ opening steps own w h.
     let g : StandsWhole opening steps own w now = whole_same_works opening steps own w old (subst (StandsWhole opening steps own w) (sym c.self.view_is) h) c.prepare.new.self c.prepare.ensures.same in
     let looks = may_look_whole opening steps own w now g c.args.tx.0 (Scan c.args.table c.args.lo c.args.hi) c.args.table (Range c.args.table c.args.lo c.args.hi) refl (ap (λ (z : WorkContent). why_not_look c.self.inside.table z.history c.args.tx.0 c.args.table (Range c.args.table c.args.lo c.args.hi)) (c.prepare.ensures.same c.args.tx.0) ∙ sym c.not_looked.ensures ∙ c.in_default.is) in
     scan_answers (readers_of w) opening own w.core now g.core c.args.tx c.args.table c.args.lo c.args.hi (ap (λ (z : WorkContent). why_not_look c.self.inside.table z.history c.args.tx.0 c.args.table (Range c.args.table c.args.lo c.args.hi)) (c.prepare.ensures.same c.args.tx.0) ∙ sym c.not_looked.ensures ∙ c.in_default.is) looks c.in_ok-scanned.scanned.rows.items c.in_ok-scanned.scanned.on.items c.in_ok-scanned.ensures
-    (done_in c.self.inside.works c.args.tx.0) (sym (ap (λ (z : WorkContent). z.history) (c.prepare.ensures.same c.args.tx.0))) c.in_ok-others.others.items (subst (λ (xs : List RowData). AreOthersShown (done_in c.self.inside.works c.args.tx.0) c.self.inside.table c.self.inside.versions c.args.tx.0 c.args.table c.args.lo c.args.hi xs c.in_ok-others.others.items) c.deref.ensures.value c.in_ok-others.ensures) c.in_ok-next.next c.in_ok-next.ensures.next (answer_data c.tell.result) c.tell.ensures.answer
+    (done_in c.self.inside.works c.args.tx.0) (sym (ap (λ (z : WorkContent). z.history) (c.prepare.ensures.same c.args.tx.0))) c.in_ok-others.others.items c.in_ok-others.ensures c.in_ok-next.next c.in_ok-next.ensures.next (answer_data c.tell.result) c.tell.ensures.answer
