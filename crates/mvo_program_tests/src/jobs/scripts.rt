@@ -81,7 +81,7 @@ fn printed<G: Gate + Sync, R: Threads + Wait + Sync>(
 fn a_refused_flush_is_printed(rt: HostRuntime) -> Result<(), Fail> {
     let alloc = rt.alloc();
     let fresh = opened_to_fail(&rt, alloc)?;
-    let told = printed(&rt, alloc, fresh, &SCRIPTS[..1], &OpenGate)?;
+    let told = printed(&rt, alloc, fresh, &[SCRIPTS[0]], &OpenGate)?;
     let text = b"job 1\nbegan 1\ninserted\ncommitted 2\nrefused 50\n";
     same(&rt, &told.as_slice(), &text.as_slice());
     Ok(())

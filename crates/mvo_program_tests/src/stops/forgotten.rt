@@ -1,7 +1,7 @@
 //! What is found where a store forgets a sync: of some steps each of their syncs, in all places
 //! where a script makes that step, and those of its openings.
 use crate::equal::same;
-use crate::stops::looked_at::{FLUSHED, recorded};
+use crate::stops::looked_at::recorded;
 use mvo_disk::DeviceWork;
 use mvo_stops::{Quiet, Recorded, Report, check_stops, line_of};
 use std::alloc::{AllocError, Global};

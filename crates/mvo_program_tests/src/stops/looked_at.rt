@@ -8,7 +8,7 @@ use std::test::Fail;
 use std::thread::Threads;
 
 /// A row is put and made durable.
-pub const FLUSHED: &[u8] = b"begin t1\ninsert t1 0 5 50 61\ncommit t1\nflush\n";
+const FLUSHED: &[u8] = b"begin t1\ninsert t1 0 5 50 61\ncommit t1\nflush\n";
 
 /// The calls of a script over a new store.
 pub fn recorded(
