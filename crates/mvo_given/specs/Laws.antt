@@ -1,19 +1,24 @@
 -- The laws of read-only transactions on a core that is given works.
-use Rattle.std.specs.Prelude.{◌≡◌, List, ◌++◌}
+use Rattle.std.specs.Prelude.{ℕ, ◌≡◌, List, [], ◌++◌, map}
 use Rattle.std.specs.Option.{option_map}
 use Rattle.mvo_types.specs.Keys.{Map}
+use Rattle.mvo_model.specs.History.{Legal}
 use Rattle.mvo_model.specs.Trace.{Step}
 use Rattle.mvo_theory.specs.Calls.{Result, trace_of}
-use Rattle.mvo_shared.specs.Shared.{WorksById}
+use Rattle.mvo_shared.specs.Kept.{WorkContent, IsWork}
+use Rattle.mvo_shared.specs.Shared.{AllTaken, WorksById}
 use Rattle.mvo_shared.specs.Given.{GivenResult}
 use Rattle.mvo_shared.specs.Given.GivenRefusal.{Because}
+use Rattle.mvo_shared.specs.Held.{empty_work}
 use Rattle.mvo_shadow.specs.Shadowed.{shadow_result}
-use Rattle.mvo_readonly.specs.Whole.{WholeState}
+use Rattle.mvo_readonly.specs.Whole.{WholeState, opened_whole}
 use Rattle.mvo_readonly.specs.WholeCauses.{WholeCall, MayComeWhole}
 use Rattle.mvo_readonly.specs.WholeCalls.{core_calls, steps_of_whole_call, after_whole_call}
+use Rattle.mvo_readonly.specs.WholeTale.{whole_tale}
 use Rattle.mvo_given.specs.GivenWhole.{GivenWhole, why_not_given_whole, MayComeGivenWhole}
 use Rattle.mvo_given.specs.GivenCalls.{after_given_whole, work_for_whole, works_after_whole}
 use Rattle.mvo_given.specs.WholeShadowed.{GoWholeTogether, why_not_whole, whole_shadow_call, IsWholeByWrites, IsToldWhole, IsWholeCallBehind}
+use Rattle.mvo_given.specs.WholeHeld.{IsWholeHeld, told_given, GivenWholeCall, MayRunGivenWhole, after_given_whole_run, opened_given_whole}
 
 -- Each call is refused there with the first cause for which the whole state refuses it, and with
 -- none where the whole state has none: so never with a mismatch.
@@ -60,3 +65,34 @@ EachGivenCallIsWhole = (opening : Map) (steps own : List Step) (w : WholeState)
     → IsWholeByWrites call → MayComeGivenWhole g (work_for_whole works call) call given
     → GoWholeTogether opening steps own w g works
     → (c : WholeCall) × (r : Result) × IsWholeCallOf opening steps own w g works call given c r
+
+-- A core that was just opened stands together with the state that was, with no works.
+abbrev pub OpensWholeTogether : Type 0
+OpensWholeTogether = (rows : Map) (mark : ℕ) (all : AllTaken) (reads : WorksById)
+    → GoWholeTogether rows [] [] (opened_whole rows mark)
+    (opened_given_whole rows mark all reads) (λ t. empty_work)
+
+-- ---- whatever works it is given
+-- A core that was just opened holds nothing, and each call keeps what the core keeps, whatever work
+-- it is given and whatever it comes to.
+abbrev pub OpensWholeHeld : Type 0
+OpensWholeHeld = (rows : Map) (mark : ℕ) (all : AllTaken) (reads : WorksById)
+    → IsWholeHeld rows (opened_given_whole rows mark all reads)
+
+abbrev pub EachGivenWholeCallHolds : Type 0
+EachGivenWholeCallHolds = (opening : Map) (g : GivenWhole) (w : WorkContent) (c : WholeCall)
+    (r : GivenResult) → IsWork w → MayComeGivenWhole g w c r → IsWholeHeld opening g
+    → IsWholeHeld opening (after_given_whole g w c r)
+
+-- Where it keeps that, what the stored commits were told is legal from the start of the tale, a
+-- read-only one standing at its begin.
+abbrev pub GivenWholeTaleIsLegal : Type 0
+GivenWholeTaleIsLegal = (opening : Map) (g : GivenWhole) → IsWholeHeld opening g
+    → Legal g.whole.core.base (map (told_given g) (whole_tale g.whole))
+
+-- So it is over each list of calls.
+abbrev pub GivenWholeRunsAreLegal : Type 0
+GivenWholeRunsAreLegal = (rows : Map) (mark : ℕ) (all : AllTaken) (reads : WorksById)
+    (cs : List GivenWholeCall) → MayRunGivenWhole (opened_given_whole rows mark all reads) cs
+    → let g = after_given_whole_run (opened_given_whole rows mark all reads) cs in
+    Legal g.whole.core.base (map (told_given g) (whole_tale g.whole))
