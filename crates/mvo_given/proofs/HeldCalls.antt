@@ -3,7 +3,7 @@ use Rattle.std.proofs.Common.{◌≡◌, ◌≢◌, ℕ, ◌+◌, ◌<◌, ◌�
 use Rattle.std.specs.Prelude.{◌==◌, is_some, nat_le}
 use Rattle.std.specs.List.{AllByRecursion}
 use Rattle.std.specs.Option.{option_map}
-use Rattle.std.proofs.lemmas.Bool.{true≢false, false≢true, eq-eqb, eqb-true, leb-false}
+use Rattle.std.proofs.lemmas.Bool.{false≢true, eq-eqb, leb-false}
 use Rattle.mvo_types.specs.declared.op.Op.{Op}
 use Rattle.mvo_types.specs.declared.refusal.Refusal.{Refusal}
 use Rattle.mvo_types.specs.declared.refusal.Refusal.TheVariants.{Ended}
@@ -12,11 +12,11 @@ use Rattle.mvo_model.specs.History.{write_of}
 use Rattle.mvo_theory.specs.State.{State, ActiveTx, StampedTx, Claim, active_of, preparing_of, snapshot}
 use Rattle.mvo_theory.specs.Claims.{new_claim}
 use Rattle.mvo_theory.specs.Words.{is_done}
-use Rattle.mvo_theory.specs.Changes.{new_active, after_operation, taken_over, after_answer, without_id}
+use Rattle.mvo_theory.specs.Changes.{new_active, after_operation, taken_over, after_answer}
 use Rattle.mvo_theory.specs.Causes.{is_failure}
 use Rattle.mvo_theory.specs.Steps.{after_abort_of, after_abort}
 use Rattle.mvo_theory.specs.Sound.{IsActive}
-use Rattle.mvo_theory.specs.Calls.{Call, Run, why_not, takes_memory, IsCallInOrder, answer_in, after_refused}
+use Rattle.mvo_theory.specs.Calls.{Call, why_not, takes_memory, IsCallInOrder, answer_in}
 use Rattle.mvo_theory.specs.Calls.Call.{Begin, Do, Precommit, Validate, Settle, Rollback, Finish, Trim, Close}
 use Rattle.mvo_theory.specs.Calls.Result.{Accepted, Refused}
 use Rattle.mvo_theory.proofs.Each.{each_weaker, each_both, each_append, each_filter}
@@ -29,9 +29,9 @@ use Rattle.mvo_shared.specs.Given.GivenRefusal.{Because, WorkMismatch}
 use Rattle.mvo_shared.specs.Given.GivenResult.{Took, Denied}
 use Rattle.mvo_shared.specs.Held.{IsHeldGiven}
 use Rattle.mvo_shared.proofs.GivenSteps.{held_after, held_opened}
-use Rattle.mvo_readonly.specs.Whole.{ReaderStage, UnfinishedReader, CommittedReader, WholeState, stage_of, id_named, stage_named}
+use Rattle.mvo_readonly.specs.Whole.{ReaderStage, UnfinishedReader, CommittedReader, stage_of, id_named, stage_named}
 use Rattle.mvo_readonly.specs.Whole.ReaderStage.{Reading, Preparing, Committed, Aborted}
-use Rattle.mvo_readonly.specs.WholeCauses.{WholeCall, flag_of_reader, has_reader_to, takes_memory_at_stage, awaited_by_reader}
+use Rattle.mvo_readonly.specs.WholeCauses.{WholeCall, flag_of_reader, takes_memory_at_stage, awaited_by_reader}
 use Rattle.mvo_readonly.specs.WholeCauses.WholeCall.{CoreCall, BeginReadOnly}
 use Rattle.mvo_readonly.specs.WholeCalls.{rolled_back, unless_awaited, core_failed, core_at_stage, with_stage, without_reader, settled_unless, readers_failed, readers_at_stage}
 use Rattle.mvo_readonly.specs.WholeKept.{HaveDistinctIds}
@@ -40,8 +40,8 @@ use Rattle.mvo_readonly.proofs.Others.{not_named, may_trim}
 use Rattle.mvo_readonly.proofs.Stages.{staged, each_staged, may_roll_back}
 use Rattle.mvo_given.specs.GivenWhole.{GivenWhole, others_given, why_not_read_given, why_not_take_reads, why_not_check_reads, read_mismatches, next_read, why_not_reader_given, why_not_other_given, why_not_given_at_stage, MayComeGivenWhole}
 use Rattle.mvo_given.specs.GivenCalls.{after_given_calls, looked_more, readers_took, told_unless, committed_took, reads_took, after_given_whole}
-use Rattle.mvo_given.specs.WholeHeld.{IsActiveReader, AreFoundFor, IsTakenRead, IsHeldAtStage, IsHeldReader, IsHeldCommitted, IsWholeHeld, GivenWholeCall, MayRunGivenWhole, after_given_whole_run, opened_given_whole}
-use Rattle.mvo_given.proofs.Passing.{Passes, Spares, Leaves, leaves_registered, leaves_finished, leaves_took, leaves_denied}
+use Rattle.mvo_given.specs.WholeHeld.{IsActiveReader, IsTakenRead, IsHeldAtStage, IsHeldReader, IsHeldCommitted, IsWholeHeld, GivenWholeCall, MayRunGivenWhole, after_given_whole_run, opened_given_whole}
+use Rattle.mvo_given.proofs.Passing.{Passes, Leaves, leaves_registered, leaves_finished, leaves_took, leaves_denied}
 use Rattle.mvo_given.proofs.HeldReads.{no_cause, behind_flagged, behind_mismatch, found_here, active_here, reads_now, takes_reads, was_reading, taken_now, found_next, found_all, settles_now, not_preparing, read_now}
 
 -- ---- what stays

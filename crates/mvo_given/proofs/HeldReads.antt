@@ -1,5 +1,5 @@
 -- What a core that is given works keeps of its read-only transactions, at their own steps.
-use Rattle.std.proofs.Common.{take, length, add-one, ◌≡◌, ◌≢◌, ℕ, ◌+◌, ◌<◌, ◌≤◌, Bool, true, false, cond, not, ◌||◌, List, [], ◌∷◌, ◌++◌, Option, None, Some, refl, sym, ap, ◌∙◌, subst, arith}
+use Rattle.std.proofs.Common.{take, length, add-one, ◌≡◌, ◌≢◌, ℕ, ◌+◌, ◌<◌, Bool, true, false, cond, not, List, [], ◌∷◌, ◌++◌, Option, None, Some, refl, sym, ap, ◌∙◌, subst, arith}
 use Rattle.std.specs.Prelude.{◌==◌, ◌&&◌, is_some, nat_le, slice_get}
 use Rattle.std.specs.List.{AllByRecursion}
 use Rattle.std.specs.Option.{option_map}
@@ -18,7 +18,7 @@ use Rattle.mvo_model.specs.Trace.{Phase}
 use Rattle.mvo_model.specs.Trace.Phase.{Active as IsActiveNow}
 use Rattle.mvo_model.proofs.Serials.{after_history-append}
 use Rattle.mvo_theory.specs.Ranges.{footprint_of}
-use Rattle.mvo_theory.specs.State.{State, ActiveTx, StampedTx, EndedTx, active_of, preparing_of, ended_of, seen_by, timeline}
+use Rattle.mvo_theory.specs.State.{State, ActiveTx, StampedTx, active_of, preparing_of, ended_of, seen_by, timeline}
 use Rattle.mvo_theory.specs.Phases.{phase_by, phase_in, is_absent, is_ended, is_preparing}
 use Rattle.mvo_theory.specs.Dependencies.{keys_for}
 use Rattle.mvo_theory.specs.Changes.{to_stamped}
@@ -49,7 +49,7 @@ use Rattle.mvo_readonly.proofs.ReadAt.{right_at_begin, apart_at_begin}
 use Rattle.mvo_readonly.proofs.Timeline.{before-append}
 use Rattle.mvo_readonly.proofs.ReaderCalls.{below_past}
 use Rattle.mvo_readonly.proofs.Stages.{not_flagged}
-use Rattle.mvo_given.specs.GivenWhole.{read_causes, why_not_read_given, why_not_take_reads, next_read, read_mismatches}
+use Rattle.mvo_given.specs.GivenWhole.{why_not_read_given, why_not_take_reads, read_mismatches}
 use Rattle.mvo_given.specs.WholeHeld.{IsActiveReader, AreFoundFor, IsTakenRead}
 
 -- ---- lists of causes

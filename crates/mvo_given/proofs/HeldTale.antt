@@ -1,8 +1,8 @@
 -- The stored commits, with the read-only ones at their begins, are legal whatever works a core was given.
-use Rattle.std.proofs.Common.{◌≡◌, ◌≢◌, ℕ, ◌<◌, Bool, true, false, cond, List, [], ◌∷◌, ◌++◌, map, refl, sym, ap, ◌∙◌, subst, ne_eqb, arith}
+use Rattle.std.proofs.Common.{◌≡◌, ◌≢◌, ℕ, ◌<◌, Bool, true, false, cond, List, [], ◌∷◌, map, refl, sym, ap, ◌∙◌, subst, ne_eqb, arith}
 use Rattle.std.specs.Prelude.{nat_lt, ◌==◌, ◌&&◌}
 use Rattle.std.specs.List.{AllByRecursion, filter}
-use Rattle.std.proofs.lemmas.Bool.{ltb-true, eq-eqb, eqb-true, false≢true}
+use Rattle.std.proofs.lemmas.Bool.{ltb-true, eq-eqb}
 use Rattle.mvo_types.specs.Keys.{Map}
 use Rattle.mvo_model.specs.History.{History, AreSerial, Legal, after_history}
 use Rattle.mvo_model.proofs.Serials.{after_history-append}
@@ -11,7 +11,7 @@ use Rattle.mvo_theory.specs.AfterTrace.{pairs}
 use Rattle.mvo_theory.specs.Sound.{IsPlaced, IsPast}
 use Rattle.mvo_theory.proofs.Each.{each_weaker, each_both, each_filter, each_back}
 use Rattle.mvo_theory.proofs.Tales.{pairs_rise}
-use Rattle.mvo_shared.specs.Shared.{AllTaken, taken_history, IsTakenWork, told_tale}
+use Rattle.mvo_shared.specs.Shared.{taken_history, IsTakenWork, told_tale}
 use Rattle.mvo_shared.proofs.Finals.{same_rows, shared_tale}
 use Rattle.mvo_readonly.specs.ReadAt.{WritesNothing, settled_before, IsReadAt}
 use Rattle.mvo_readonly.specs.Whole.{CommittedReader}

@@ -1,9 +1,9 @@
 -- What each call of the core of the others leaves to those that it doesn't name, whatever works it is given.
-use Rattle.std.proofs.Common.{◌≡◌, ◌≢◌, ℕ, ◌+◌, ◌<◌, ◌≤◌, Bool, true, false, cond, not, ◌||◌, List, [], ◌∷◌, ◌++◌, Option, None, Some, map, refl, sym, ap, ◌∙◌, subst, ne_eqb, arith}
+use Rattle.std.proofs.Common.{◌≡◌, ◌≢◌, ℕ, ◌+◌, ◌<◌, ◌≤◌, Bool, true, false, cond, not, List, [], ◌∷◌, ◌++◌, Option, None, Some, map, refl, sym, ap, ◌∙◌, subst, ne_eqb, arith}
 use Rattle.std.specs.Prelude.{◌==◌, ◌&&◌, is_some, nat_lt}
 use Rattle.std.specs.List.{AllByRecursion, filter}
 use Rattle.std.specs.Option.{option_map}
-use Rattle.std.proofs.lemmas.Bool.{true≢false, eqb-true, eq-eqb}
+use Rattle.std.proofs.lemmas.Bool.{true≢false, eqb-true}
 use Rattle.mvo_types.specs.declared.op.Op.{Op}
 use Rattle.mvo_types.specs.declared.refusal.Refusal.{Refusal}
 use Rattle.mvo_types.specs.Keys.{Map}
@@ -14,7 +14,7 @@ use Rattle.mvo_theory.specs.State.{State, ActiveTx, StampedTx, Claim, active_of,
 use Rattle.mvo_theory.specs.Dependencies.{has_end, dependencies, keys_for, unwritten}
 use Rattle.mvo_theory.specs.Claims.{new_claim}
 use Rattle.mvo_theory.specs.Words.{words_left, is_done}
-use Rattle.mvo_theory.specs.Changes.{new_active, after_begin, with_answer, after_operation, taken_over, after_answer, without_id, to_stamped, after_prepare, with_settled, after_commit, with_flag, active_with_flag, not_at, after_termination, with_words, after_finish, after_trim, after_close}
+use Rattle.mvo_theory.specs.Changes.{new_active, after_begin, with_answer, after_operation, taken_over, after_answer, without_id, to_stamped, with_settled, after_commit, with_flag, active_with_flag, not_at, after_termination, with_words, after_finish, after_trim, after_close}
 use Rattle.mvo_theory.specs.Causes.{awaited, awaited_by, waiting_for, is_failure, why_not_settle}
 use Rattle.mvo_theory.specs.Steps.{after_precommit_of, after_precommit, after_commit_of, after_settle_unless, after_settle, after_abort_of, after_abort, after_refusal}
 use Rattle.mvo_theory.specs.Sound.{IsApart, IsActive, IsRising, IsLegal, IsPast, IsSound}
@@ -33,7 +33,7 @@ use Rattle.mvo_theory.proofs.Stamped.{IsLike}
 use Rattle.mvo_theory.proofs.Ends.{like_settled, spared}
 use Rattle.mvo_shared.specs.Kept.{Looked, WorkContent}
 use Rattle.mvo_shared.specs.Shared.{AreSeen, with_dependencies, after_registering, with_valid, after_valid}
-use Rattle.mvo_shared.specs.Given.{GivenRefusal, GivenState, GivenResult, answer_given, why_not_given, core_op, after_core_op, after_do_given, one_more_checked, is_last_look, after_check_given, after_took}
+use Rattle.mvo_shared.specs.Given.{GivenState, answer_given, why_not_given, core_op, after_core_op, after_do_given, one_more_checked, is_last_look, after_check_given, after_took}
 use Rattle.mvo_shared.specs.Given.GivenRefusal.{Because}
 use Rattle.mvo_shared.specs.Held.{IsHeldGiven}
 use Rattle.mvo_shared.proofs.Seen.{seen_last, seen_map, seen_aborted, seen_to, seen_more}
