@@ -6,3 +6,4 @@ pub mod Passing
 pub mod HeldReads
 pub mod HeldTale
 pub mod HeldCalls
+pub mod Counting

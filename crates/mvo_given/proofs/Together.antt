@@ -36,15 +36,16 @@ use Rattle.mvo_readonly.specs.Whole.{ReaderStage, UnfinishedReader, WholeState, 
 use Rattle.mvo_readonly.specs.Whole.ReaderStage.{Reading, Preparing, Committed, Aborted}
 use Rattle.mvo_readonly.specs.WholeCauses.{WholeCall, why_not_reader, why_not_at_stage, takes_memory_at_stage, MayComeWhole, awaited_by_reader, IsWholeCallInOrder}
 use Rattle.mvo_readonly.specs.WholeCauses.WholeCall.{CoreCall, BeginReadOnly}
-use Rattle.mvo_readonly.specs.WholeCalls.{core_at_stage, core_calls, with_stage, without_reader, checked_more, settled_unless, readers_failed, readers_at_stage, steps_of_whole_call, after_whole_call}
+use Rattle.mvo_readonly.specs.WholeCalls.{core_at_stage, core_calls, with_stage, without_reader, checked_more, settled_unless, readers_failed, readers_at_stage, steps_of_whole_call, after_whole_call, WholeRun, MayRunWhole, after_whole_run}
 use Rattle.mvo_readonly.proofs.Others.{not_named}
 use Rattle.mvo_readonly.proofs.CoreRuns.{may_core}
 use Rattle.mvo_readonly.proofs.WholeRuns.{whole_opened, whole_after_call}
 use Rattle.mvo_given.specs.GivenWhole.{GivenWhole, why_not_given_whole, takes_memory_whole, MayComeGivenWhole}
 use Rattle.mvo_given.specs.GivenCalls.{after_given_calls, readers_took, committed_took, reads_took, work_for_whole}
-use Rattle.mvo_given.specs.WholeShadowed.{HasReadsAt, HasReads, GoWholeTogether, why_not_whole, whole_shadow_call, IsWholeByWrites, IsToldWhole}
+use Rattle.mvo_given.specs.WholeShadowed.{HasReadsAt, HasReads, IsWholeShadowed, GoWholeTogether, why_not_whole, whole_shadow_call, IsWholeByWrites, IsToldWhole}
 use Rattle.mvo_given.specs.WholeHeld.{opened_given_whole}
-use Rattle.mvo_given.specs.Laws.{GoWholeOn}
+use Rattle.mvo_given.specs.WholeRuns.{OwnWholeState, whole_shadow_run, AreWholeByWrites, after_own_whole, after_own_whole_run, MayRunOwnWhole}
+use Rattle.mvo_given.specs.Laws.{opened_own_whole, GoWholeOn}
 use Rattle.mvo_given.proofs.Causes.{at_whole_shadow, given_whole_is, same_named, IsNamed, named_here, work_there, whole_at_there, whole_causes_go}
 use Rattle.mvo_given.proofs.Goes.{stage_onward, begin_onward, IsTakenOf, taken_of, took_readers, denied_readers, took_committed, denied_committed, reads_begun, reads_others, reads_told, reads_moved, reads_taken, reads_left}
 
@@ -313,3 +314,17 @@ opens_together rows mark all reads = record {
   each = λ t. work_empty;
   shadowed = record { core = record { state = refl; active = tt; taken = tt; checked = tt }; readers = refl; committed = refl; reads = tt };
 }
+
+-- ---- each list of calls
+run_goes : (opening : Map) (ws xs : List Step) (w : WholeState) (o : OwnWholeState) (run : WholeRun) → AreWholeByWrites run → MayRunWhole w run → GoWholeTogether opening ws xs w o.given o.works
+    → MayRunOwnWhole o (whole_shadow_run run) × IsWholeShadowed (after_whole_run w run) (after_own_whole_run o (whole_shadow_run run)).given (after_own_whole_run o (whole_shadow_run run)).works
+run_goes opening ws xs w o [] b m h = (tt, h.shadowed)
+run_goes opening ws xs w o (c ∷ run) b m h =
+    let q = whole_goes opening ws xs w o.given o.works c.0 c.1 b.0 m.0 h in
+    let rest = run_goes opening (ws ++ steps_of_whole_call w c.0 c.1) (xs ++ trace_of w.core (core_calls w c.0 c.1)) (after_whole_call w c.0 c.1) (after_own_whole o (record { call = whole_shadow_call c.0; result = shadow_result c.1 })) run b.1 m.1 q.2 in
+    ((q.0, rest.0), rest.1)
+
+pub whole_runs_go : (rows : Map) (mark : ℕ) (all : AllTaken) (reads : WorksById) (run : WholeRun) → AreWholeByWrites run → MayRunWhole (opened_whole rows mark) run
+    → MayRunOwnWhole (opened_own_whole rows mark all reads) (whole_shadow_run run)
+    × IsWholeShadowed (after_whole_run (opened_whole rows mark) run) (after_own_whole_run (opened_own_whole rows mark all reads) (whole_shadow_run run)).given (after_own_whole_run (opened_own_whole rows mark all reads) (whole_shadow_run run)).works
+whole_runs_go rows mark all reads run b m = run_goes rows [] [] (opened_whole rows mark) (opened_own_whole rows mark all reads) run b m (opens_together rows mark all reads)
