@@ -9,7 +9,7 @@ use Rattle.mvo_types.specs.declared.entry.Entry.{Entry}
 use Rattle.mvo_types.specs.declared.refusal.Refusal.{Refusal}
 use Rattle.mvo_types.specs.Keys.{Map}
 use Rattle.mvo_model.specs.History.{History}
-use Rattle.mvo_model.specs.Trace.{Step}
+use Rattle.mvo_model.specs.Trace.{Step, phase_of}
 use Rattle.mvo_model.specs.Trace.Phase.{Active as IsActive}
 use Rattle.mvo_theory.specs.Entries.{entries}
 use Rattle.mvo_theory.specs.State.{State, ActiveTx, StampedTx, active_of, history_of_active}
@@ -287,11 +287,11 @@ module _ (ws xs : List Step) (w : WholeState) (works reads : WorksById) (known :
   pub reads_told : (t : ℕ) (u : WorkContent) → stage_of t w.readers ≡ Some Reading → AllByRecursion (HasReads reads (with_work works t u)) w.readers
   reads_told t u e = each_both (IsUnfinishedReader ws xs w.core) (HasReads reads works) (HasReads reads (with_work works t u)) (λ r k q. go r (r.id == t) refl k q) w.readers known h
     where
-      phase : Rattle.mvo_model.specs.Trace.phase_of t ws ≡ IsActive
+      phase : phase_of t ws ≡ IsActive
       phase = (core_stands ws xs w.core t w.readers Reading e known).1
 
       go : (r : UnfinishedReader) (b : Bool) → (r.id == t) ≡ b → IsUnfinishedReader ws xs w.core r → HasReads reads works r → HasReads reads (with_work works t u) r
-      go r true i k q = not_taken t u r (sym k.phase ∙ ap (λ (n : ℕ). Rattle.mvo_model.specs.Trace.phase_of n ws) (eqb-true r.id t i) ∙ phase)
+      go r true i k q = not_taken t u r (sym k.phase ∙ ap (λ (n : ℕ). phase_of n ws) (eqb-true r.id t i) ∙ phase)
       go r false i k q = reads_same reads works reads (with_work works t u) r.id r.stage refl (ap (λ (b : Bool). cond b u (works r.id)) i) q
 
   -- where one is at another stage

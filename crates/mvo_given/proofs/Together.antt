@@ -17,6 +17,7 @@ use Rattle.mvo_theory.specs.Calls.Call.{Begin, Do, Precommit, Validate, Settle, 
 use Rattle.mvo_theory.specs.Calls.Result.{Accepted, Refused}
 use Rattle.mvo_theory.proofs.Each.{each_weaker, each_append}
 use Rattle.mvo_theory.proofs.Who.{active_done}
+use Rattle.mvo_theory.proofs.Runs.{kept_opened}
 use Rattle.mvo_shared.specs.Kept.{after_op}
 use Rattle.mvo_shared.specs.Shared.{AllTaken, WorksById}
 use Rattle.mvo_shared.specs.Shadow.{shadow}
@@ -24,22 +25,27 @@ use Rattle.mvo_shared.specs.Given.{GivenState, IsGivenRefusal, answer_given, row
 use Rattle.mvo_shared.specs.Given.GivenRefusal.{Because}
 use Rattle.mvo_shared.specs.Given.GivenResult.{Took}
 use Rattle.mvo_shared.specs.Held.{empty_work, work_for, works_after, works_after_took}
+use Rattle.mvo_shared.proofs.Works.{work_empty}
+use Rattle.mvo_shared.proofs.GivenSteps.{held_opened}
+use Rattle.mvo_shared.proofs.OwnCalls.{own_opened}
 use Rattle.mvo_shadow.specs.Shadowed.{IsByWrites, shadow_call, shadow_result}
 use Rattle.mvo_shadow.proofs.Finds.{answer_alike}
 use Rattle.mvo_shadow.proofs.Causes.{told_alike}
 use Rattle.mvo_shadow.proofs.Groups.{next_there}
-use Rattle.mvo_readonly.specs.Whole.{ReaderStage, UnfinishedReader, WholeState, stage_of, id_named, stage_named}
+use Rattle.mvo_readonly.specs.Whole.{ReaderStage, UnfinishedReader, WholeState, opened_whole, stage_of, id_named, stage_named}
 use Rattle.mvo_readonly.specs.Whole.ReaderStage.{Reading, Preparing, Committed, Aborted}
 use Rattle.mvo_readonly.specs.WholeCauses.{WholeCall, why_not_reader, why_not_at_stage, takes_memory_at_stage, MayComeWhole, awaited_by_reader, IsWholeCallInOrder}
 use Rattle.mvo_readonly.specs.WholeCauses.WholeCall.{CoreCall, BeginReadOnly}
-use Rattle.mvo_readonly.specs.WholeCalls.{core_at_stage, core_calls, with_stage, without_reader, checked_more, settled_unless, readers_failed, readers_at_stage, steps_of_whole_call, after_whole_call}
+use Rattle.mvo_readonly.specs.WholeCalls.{core_at_stage, core_calls, with_stage, without_reader, checked_more, settled_unless, readers_failed, readers_at_stage, steps_of_whole_call, after_whole_call, WholeRun, MayRunWhole, after_whole_run}
 use Rattle.mvo_readonly.proofs.Others.{not_named}
 use Rattle.mvo_readonly.proofs.CoreRuns.{may_core}
-use Rattle.mvo_readonly.proofs.WholeRuns.{whole_after_call}
+use Rattle.mvo_readonly.proofs.WholeRuns.{whole_opened, whole_after_call}
 use Rattle.mvo_given.specs.GivenWhole.{GivenWhole, why_not_given_whole, takes_memory_whole, MayComeGivenWhole}
 use Rattle.mvo_given.specs.GivenCalls.{after_given_calls, readers_took, committed_took, reads_took, work_for_whole}
-use Rattle.mvo_given.specs.WholeShadowed.{HasReadsAt, HasReads, GoWholeTogether, why_not_whole, whole_shadow_call, IsWholeByWrites, IsToldWhole}
-use Rattle.mvo_given.specs.Laws.{GoWholeOn}
+use Rattle.mvo_given.specs.WholeShadowed.{HasReadsAt, HasReads, IsWholeShadowed, GoWholeTogether, why_not_whole, whole_shadow_call, IsWholeByWrites, IsToldWhole}
+use Rattle.mvo_given.specs.WholeHeld.{opened_given_whole}
+use Rattle.mvo_given.specs.WholeRuns.{OwnWholeState, whole_shadow_run, AreWholeByWrites, after_own_whole, after_own_whole_run, MayRunOwnWhole}
+use Rattle.mvo_given.specs.Laws.{opened_own_whole, GoWholeOn}
 use Rattle.mvo_given.proofs.Causes.{at_whole_shadow, given_whole_is, same_named, IsNamed, named_here, work_there, whole_at_there, whole_causes_go}
 use Rattle.mvo_given.proofs.Goes.{stage_onward, begin_onward, IsTakenOf, taken_of, took_readers, denied_readers, took_committed, denied_committed, reads_begun, reads_others, reads_told, reads_moved, reads_taken, reads_left}
 
@@ -300,3 +306,25 @@ whole_goes opening ws xs w g works c r b m h =
     let k = subst (λ (q : GivenWhole). GoWholeTogether opening ws xs w q works) (sym i) h in
     subst (λ (q : GivenWhole). MayComeGivenWhole q (work_for_whole works (whole_shadow_call c)) (whole_shadow_call c) (shadow_result r) × IsToldWhole w q works c r × GoWholeOn opening ws xs w q works c r (whole_shadow_call c) (shadow_result r))
     i (may_here opening ws xs w g.taken g.reads works k c r b m, told_here opening ws xs w g.taken g.reads works k c r m, on_here opening ws xs w g.taken g.reads works k c r b m)
+
+pub opens_together : (rows : Map) (mark : ℕ) (all : AllTaken) (reads : WorksById) → GoWholeTogether rows [] [] (opened_whole rows mark) (opened_given_whole rows mark all reads) (λ t. empty_work)
+opens_together rows mark all reads = record {
+  kept = whole_opened rows mark;
+  others = record { kept = kept_opened rows mark; held = held_opened rows mark all; own = own_opened rows mark all (λ t. empty_work); shadowed = record { state = refl; active = tt; taken = tt; checked = tt } };
+  each = λ t. work_empty;
+  shadowed = record { core = record { state = refl; active = tt; taken = tt; checked = tt }; readers = refl; committed = refl; reads = tt };
+}
+
+-- ---- each list of calls
+run_goes : (opening : Map) (ws xs : List Step) (w : WholeState) (o : OwnWholeState) (run : WholeRun) → AreWholeByWrites run → MayRunWhole w run → GoWholeTogether opening ws xs w o.given o.works
+    → MayRunOwnWhole o (whole_shadow_run run) × IsWholeShadowed (after_whole_run w run) (after_own_whole_run o (whole_shadow_run run)).given (after_own_whole_run o (whole_shadow_run run)).works
+run_goes opening ws xs w o [] b m h = (tt, h.shadowed)
+run_goes opening ws xs w o (c ∷ run) b m h =
+    let q = whole_goes opening ws xs w o.given o.works c.0 c.1 b.0 m.0 h in
+    let rest = run_goes opening (ws ++ steps_of_whole_call w c.0 c.1) (xs ++ trace_of w.core (core_calls w c.0 c.1)) (after_whole_call w c.0 c.1) (after_own_whole o (record { call = whole_shadow_call c.0; result = shadow_result c.1 })) run b.1 m.1 q.2 in
+    ((q.0, rest.0), rest.1)
+
+pub whole_runs_go : (rows : Map) (mark : ℕ) (all : AllTaken) (reads : WorksById) (run : WholeRun) → AreWholeByWrites run → MayRunWhole (opened_whole rows mark) run
+    → MayRunOwnWhole (opened_own_whole rows mark all reads) (whole_shadow_run run)
+    × IsWholeShadowed (after_whole_run (opened_whole rows mark) run) (after_own_whole_run (opened_own_whole rows mark all reads) (whole_shadow_run run)).given (after_own_whole_run (opened_own_whole rows mark all reads) (whole_shadow_run run)).works
+whole_runs_go rows mark all reads run b m = run_goes rows [] [] (opened_whole rows mark) (opened_own_whole rows mark all reads) run b m (opens_together rows mark all reads)

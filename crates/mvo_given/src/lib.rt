@@ -4,4 +4,4 @@
 
 mod laws;
 
-pub use laws::laws_of_given_readers;
+pub use laws::{laws_of_given_readers, laws_of_held_readers};
