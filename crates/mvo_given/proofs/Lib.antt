@@ -7,3 +7,4 @@ pub mod HeldReads
 pub mod HeldTale
 pub mod HeldCalls
 pub mod Counting
+pub mod Onward

@@ -121,3 +121,22 @@ GivenWholeRunsAreLegal = (rows : Map) (mark : ℕ) (all : AllTaken) (reads : Wor
     (cs : List GivenWholeCall) → MayRunGivenWhole (opened_given_whole rows mark all reads) cs
     → let g = after_given_whole_run (opened_given_whole rows mark all reads) cs in
     Legal g.whole.core.base (map (told_given g) (whole_tale g.whole))
+
+-- ---- both
+-- it stands together with a whole state, and keeps what it keeps whatever works it is given
+pub record StandWholeTogether (opening : Map) (steps own : List Step) (w : WholeState)
+    (g : GivenWhole) (works : WorksById) : Type 0 where
+  pub together : GoWholeTogether opening steps own w g works
+  pub held : IsWholeHeld opening g
+
+-- What a call may come to on the whole state it may come to there, and so they stand after it.
+abbrev pub EachWholeCallGoesOn : Type 0
+EachWholeCallGoesOn = (opening : Map) (steps own : List Step) (w : WholeState)
+    (g : GivenWhole) (works : WorksById) (c : WholeCall) (r : Result) → IsWholeByWrites c
+    → MayComeWhole w c r → StandWholeTogether opening steps own w g works
+    → let call = whole_shadow_call c in let given = shadow_result r in
+    MayComeGivenWhole g (work_for_whole works call) call given
+    × StandWholeTogether opening (steps ++ steps_of_whole_call w c r)
+    (own ++ trace_of w.core (core_calls w c r)) (after_whole_call w c r)
+    (after_given_whole g (work_for_whole works call) call given)
+    (works_after_whole g works call given)

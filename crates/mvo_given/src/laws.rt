@@ -3,6 +3,7 @@ ghost use Rattle.mvo_given.specs.Laws.{EachGivenCallIsWhole, OpensWholeTogether}
 ghost use Rattle.mvo_given.specs.Laws.{ActiveWorksCount, WholeRunsGoAlike};
 ghost use Rattle.mvo_given.specs.Laws.{OpensWholeHeld, EachGivenWholeCallHolds};
 ghost use Rattle.mvo_given.specs.Laws.{GivenWholeTaleIsLegal, GivenWholeRunsAreLegal};
+ghost use Rattle.mvo_given.specs.Laws.{EachWholeCallGoesOn};
 
 /// The laws of read-only transactions on a core that is given works. Where all works are made on
 /// it, it refuses each call as the whole state does, tells each operation the same, and goes on as
@@ -19,10 +20,12 @@ pub fn laws_of_given_readers()
 
 /// The laws of what a core that is given works keeps with its read-only transactions. Whatever
 /// works they are, each call keeps it; so over each list of calls what the stored commits were told
-/// is legal, a read-only one standing at its begin. The call does nothing.
+/// is legal, a read-only one standing at its begin. So it goes on beside a whole state. The call
+/// does nothing.
 pub fn laws_of_held_readers()
     ensures opens { OpensWholeHeld }
     ensures keeps { EachGivenWholeCallHolds }
     ensures tale { GivenWholeTaleIsLegal }
     ensures legal { GivenWholeRunsAreLegal }
+    ensures on { EachWholeCallGoesOn }
 {}
