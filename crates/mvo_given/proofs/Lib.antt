@@ -8,3 +8,4 @@ pub mod HeldTale
 pub mod HeldCalls
 pub mod Counting
 pub mod Onward
+pub mod Traced

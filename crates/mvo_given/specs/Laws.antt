@@ -16,7 +16,7 @@ use Rattle.mvo_shadow.specs.Shadowed.{shadow_result}
 use Rattle.mvo_readonly.specs.Whole.{WholeState, opened_whole}
 use Rattle.mvo_readonly.specs.WholeCauses.{WholeCall, MayComeWhole}
 use Rattle.mvo_readonly.specs.WholeCalls.{core_calls, steps_of_whole_call, after_whole_call, WholeRun, MayRunWhole, after_whole_run}
-use Rattle.mvo_readonly.specs.WholeTale.{whole_tale}
+use Rattle.mvo_readonly.specs.WholeTale.{whole_tale, told_in}
 use Rattle.mvo_given.specs.GivenWhole.{GivenWhole, why_not_given_whole, MayComeGivenWhole}
 use Rattle.mvo_given.specs.GivenCalls.{after_given_whole, work_for_whole, works_after_whole}
 use Rattle.mvo_given.specs.WholeShadowed.{IsWholeShadowed, GoWholeTogether, why_not_whole, whole_shadow_call, IsWholeByWrites, IsToldWhole, IsWholeCallBehind}
@@ -87,6 +87,13 @@ ActiveWorksCount = (opening : Map) (steps own : List Step) (w : WholeState) (g :
     (works more : WorksById) → GoWholeTogether opening steps own w g works
     → AllByRecursion (λ (r : ActiveTx). more r.id ≡ works r.id) w.core.active
     → ((t : ℕ) → IsWork (more t)) → GoWholeTogether opening steps own w g more
+
+-- The stored commits are the same, and were told there what the whole trace says.
+abbrev pub ToldAsTraced : Type 0
+ToldAsTraced = (opening : Map) (steps own : List Step) (w : WholeState) (g : GivenWhole)
+    (works : WorksById) → GoWholeTogether opening steps own w g works
+    → (whole_tale g.whole ≡ whole_tale w)
+    × AllByRecursion (λ c. told_given g c ≡ told_in steps c) (whole_tale w)
 
 -- So each list of calls of a whole state is one there, over the shadows.
 abbrev pub WholeRunsGoAlike : Type 0

@@ -1,6 +1,6 @@
 ghost use Rattle.mvo_given.specs.Laws.{WholeCausesAreAlike, EachWholeCallGoesAlike};
 ghost use Rattle.mvo_given.specs.Laws.{EachGivenCallIsWhole, OpensWholeTogether};
-ghost use Rattle.mvo_given.specs.Laws.{ActiveWorksCount, WholeRunsGoAlike};
+ghost use Rattle.mvo_given.specs.Laws.{ActiveWorksCount, WholeRunsGoAlike, ToldAsTraced};
 ghost use Rattle.mvo_given.specs.Laws.{OpensWholeHeld, EachGivenWholeCallHolds};
 ghost use Rattle.mvo_given.specs.Laws.{GivenWholeTaleIsLegal, GivenWholeRunsAreLegal};
 ghost use Rattle.mvo_given.specs.Laws.{EachWholeCallGoesOn};
@@ -8,13 +8,15 @@ ghost use Rattle.mvo_given.specs.Laws.{EachWholeCallGoesOn};
 /// The laws of read-only transactions on a core that is given works. Where all works are made on
 /// it, it refuses each call as the whole state does, tells each operation the same, and goes on as
 /// that does, over each list of calls; and each call that it may come to is one of the whole state.
-/// Of the works those of Active transactions count alone. The call does nothing.
+/// Of the works those of Active transactions count alone, and the stored commits were told what the
+/// whole trace says. The call does nothing.
 pub fn laws_of_given_readers()
     ensures causes { WholeCausesAreAlike }
     ensures calls { EachWholeCallGoesAlike }
     ensures back { EachGivenCallIsWhole }
     ensures opens { OpensWholeTogether }
     ensures active { ActiveWorksCount }
+    ensures told { ToldAsTraced }
     ensures runs { WholeRunsGoAlike }
 {}
 

@@ -1,6 +1,7 @@
 use Rattle.mvo_given.proofs.Causes.{whole_causes_go}
 use Rattle.mvo_given.proofs.Together.{whole_goes, opens_together, whole_runs_go}
 use Rattle.mvo_given.proofs.Counting.{works_count}
+use Rattle.mvo_given.proofs.Traced.{told_traced}
 use Rattle.mvo_given.proofs.Back.{given_is_whole}
 use Rattle.mvo_given.proofs.laws.laws_of_given_readers.Goals as goal
 
@@ -21,3 +22,6 @@ returns-clause-active c = works_count
 
 pub returns-clause-runs : goal.returns-clause-runs
 returns-clause-runs c = whole_runs_go
+
+pub returns-clause-told : goal.returns-clause-told
+returns-clause-told c = told_traced
