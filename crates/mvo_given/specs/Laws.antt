@@ -1,23 +1,25 @@
 -- The laws of read-only transactions on a core that is given works.
-use Rattle.std.specs.Prelude.{ℕ, ◌≡◌, List, [], ◌++◌, map}
+use Rattle.std.specs.Prelude.{ℕ, ◌≡◌, ◌↔◌, false, List, [], ◌∷◌, ◌++◌, map, Some}
 use Rattle.std.specs.List.{AllByRecursion}
 use Rattle.std.specs.Option.{option_map}
 use Rattle.mvo_types.specs.Keys.{Map}
 use Rattle.mvo_model.specs.History.{Legal}
 use Rattle.mvo_model.specs.Trace.{Step}
-use Rattle.mvo_theory.specs.State.{ActiveTx}
+use Rattle.mvo_theory.specs.State.{State, ActiveTx}
 use Rattle.mvo_theory.specs.Calls.{Result, trace_of}
-use Rattle.mvo_shared.specs.Kept.{WorkContent, IsWork}
-use Rattle.mvo_shared.specs.Shared.{AllTaken, WorksById}
+use Rattle.mvo_shared.specs.Kept.{Looked, WorkContent, IsWork}
+use Rattle.mvo_shared.specs.Shared.{AllTaken, WorksById, AreSeen}
+use Rattle.mvo_shared.specs.Causes.{is_write_mismatch}
 use Rattle.mvo_shared.specs.Given.{GivenResult}
 use Rattle.mvo_shared.specs.Given.GivenRefusal.{Because}
 use Rattle.mvo_shared.specs.Held.{empty_work}
 use Rattle.mvo_shadow.specs.Shadowed.{shadow_result}
+use Rattle.mvo_readonly.specs.ReadAt.{WritesNothing}
 use Rattle.mvo_readonly.specs.Whole.{WholeState, opened_whole}
 use Rattle.mvo_readonly.specs.WholeCauses.{WholeCall, MayComeWhole}
 use Rattle.mvo_readonly.specs.WholeCalls.{core_calls, steps_of_whole_call, after_whole_call, WholeRun, MayRunWhole, after_whole_run}
 use Rattle.mvo_readonly.specs.WholeTale.{whole_tale, told_in}
-use Rattle.mvo_given.specs.GivenWhole.{GivenWhole, why_not_given_whole, MayComeGivenWhole}
+use Rattle.mvo_given.specs.GivenWhole.{GivenWhole, read_mismatches, why_not_given_whole, MayComeGivenWhole}
 use Rattle.mvo_given.specs.GivenCalls.{after_given_whole, work_for_whole, works_after_whole}
 use Rattle.mvo_given.specs.WholeShadowed.{IsWholeShadowed, GoWholeTogether, why_not_whole, whole_shadow_call, IsWholeByWrites, IsToldWhole, IsWholeCallBehind}
 use Rattle.mvo_given.specs.WholeHeld.{IsWholeHeld, told_given, GivenWholeCall, MayRunGivenWhole, after_given_whole_run, opened_given_whole}
@@ -103,6 +105,19 @@ WholeRunsGoAlike = (rows : Map) (mark : ℕ) (all : AllTaken) (reads : WorksById
     let after = after_own_whole_run start (whole_shadow_run run) in
     MayRunOwnWhole start (whole_shadow_run run)
     × IsWholeShadowed (after_whole_run (opened_whole rows mark) run) after.given after.works
+
+-- ---- the mismatch of a read-only one, both ways
+-- A check meets none just where others show the rows of its look to the begin, and who decides it
+-- is settled or depended on.
+abbrev pub ReadChecksAreExact : Type 0
+ReadChecksAreExact = (s : State) (r : ActiveTx) (l : Looked)
+    → (read_mismatches s (Some r) (Some l) ≡ false)
+    ↔ AreSeen s.base s.stamped r.id r.depends_on (l ∷ [])
+
+-- A precommit meets none just where the work wrote nothing, as the core saw.
+abbrev pub TakenReadsWroteNothing : Type 0
+TakenReadsWroteNothing = (r : ActiveTx) (w : WorkContent) → r.history ≡ []
+    → (is_write_mismatch r w ≡ false) ↔ WritesNothing w.history
 
 -- ---- whatever works it is given
 -- A core that was just opened holds nothing, and each call keeps what the core keeps, whatever work

@@ -1,6 +1,7 @@
 ghost use Rattle.mvo_given.specs.Laws.{WholeCausesAreAlike, EachWholeCallGoesAlike};
 ghost use Rattle.mvo_given.specs.Laws.{EachGivenCallIsWhole, OpensWholeTogether};
 ghost use Rattle.mvo_given.specs.Laws.{ActiveWorksCount, WholeRunsGoAlike, ToldAsTraced};
+ghost use Rattle.mvo_given.specs.Laws.{ReadChecksAreExact, TakenReadsWroteNothing};
 ghost use Rattle.mvo_given.specs.Laws.{OpensWholeHeld, EachGivenWholeCallHolds};
 ghost use Rattle.mvo_given.specs.Laws.{GivenWholeTaleIsLegal, GivenWholeRunsAreLegal};
 ghost use Rattle.mvo_given.specs.Laws.{EachWholeCallGoesOn};
@@ -9,7 +10,7 @@ ghost use Rattle.mvo_given.specs.Laws.{EachWholeCallGoesOn};
 /// it, it refuses each call as the whole state does, tells each operation the same, and goes on as
 /// that does, over each list of calls; and each call that it may come to is one of the whole state.
 /// Of the works those of Active transactions count alone, and the stored commits were told what the
-/// whole trace says. The call does nothing.
+/// whole trace says. A mismatch is met just where it is one. The call does nothing.
 pub fn laws_of_given_readers()
     ensures causes { WholeCausesAreAlike }
     ensures calls { EachWholeCallGoesAlike }
@@ -17,6 +18,8 @@ pub fn laws_of_given_readers()
     ensures opens { OpensWholeTogether }
     ensures active { ActiveWorksCount }
     ensures told { ToldAsTraced }
+    ensures checks { ReadChecksAreExact }
+    ensures taken { TakenReadsWroteNothing }
     ensures runs { WholeRunsGoAlike }
 {}
 
