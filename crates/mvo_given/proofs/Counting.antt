@@ -52,6 +52,7 @@ works_count opening ws xs w g works more h e each =
         readers = h.shadowed.readers;
         committed = h.shadowed.committed;
         reads = each_both (IsUnfinishedReader ws xs w.core) (HasReads g.reads works) (HasReads g.reads more) (λ r k q. go r.id r.stage (sym (h.kept.kept.after_trace.phases r.id) ∙ k.stands) q) w.readers h.kept.readers h.shadowed.reads;
+        past = h.shadowed.past;
       };
     }
   where

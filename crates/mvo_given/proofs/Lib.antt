@@ -9,3 +9,4 @@ pub mod HeldCalls
 pub mod Counting
 pub mod Onward
 pub mod Traced
+pub mod Past
