@@ -10,3 +10,4 @@ pub mod Counting
 pub mod Onward
 pub mod Traced
 pub mod Past
+pub mod Behind

@@ -21,7 +21,7 @@ use Rattle.mvo_readonly.specs.WholeCalls.{core_calls, steps_of_whole_call, after
 use Rattle.mvo_readonly.specs.WholeTale.{whole_tale, told_in}
 use Rattle.mvo_given.specs.GivenWhole.{GivenWhole, read_mismatches, why_not_given_whole, MayComeGivenWhole}
 use Rattle.mvo_given.specs.GivenCalls.{after_given_whole, work_for_whole, works_after_whole}
-use Rattle.mvo_given.specs.WholeShadowed.{IsWholeShadowed, GoWholeTogether, why_not_whole, whole_shadow_call, IsWholeByWrites, IsToldWhole, IsWholeCallBehind}
+use Rattle.mvo_given.specs.WholeShadowed.{IsWholeShadowed, GoWholeTogether, why_not_whole, whole_shadow_call, IsWholeByWrites, IsToldWhole, IsWholeCallBehind, ClosesNone}
 use Rattle.mvo_given.specs.WholeHeld.{IsWholeHeld, told_given, GivenWholeCall, MayRunGivenWhole, after_given_whole_run, opened_given_whole}
 use Rattle.mvo_given.specs.WholeRuns.{whole_shadow_run, AreWholeByWrites, OwnWholeState, after_own_whole_run, MayRunOwnWhole}
 
@@ -75,6 +75,11 @@ EachGivenCallIsWhole = (opening : Map) (steps own : List Step) (w : WholeState)
     → IsWholeByWrites call → MayComeGivenWhole g (work_for_whole works call) call given
     → GoWholeTogether opening steps own w g works
     → (c : WholeCall) × (r : Result) × IsWholeCallOf opening steps own w g works call given c r
+
+-- That is the same call, unless it closes a group.
+abbrev pub SameUnlessItCloses : Type 0
+SameUnlessItCloses = (c call : WholeCall) (r : Result) → IsWholeCallBehind c r call
+    → ClosesNone call → c ≡ call
 
 -- A core that was just opened stands together with the state that was, with no works.
 abbrev pub OpensWholeTogether : Type 0

@@ -1,13 +1,14 @@
 -- A core that is given works which were all made on it, with its read-only transactions, stands
 -- where a whole state does.
-use Rattle.std.specs.Prelude.{ℕ, ◌≡◌, List, Option, ⊤}
+use Rattle.std.specs.Prelude.{ℕ, ◌≡◌, Bool, List, Option, ⊤}
 use Rattle.std.specs.List.{AllByRecursion}
 use Rattle.mvo_types.specs.declared.refusal.Refusal.{Refusal}
 use Rattle.mvo_types.specs.Keys.{Map}
 use Rattle.mvo_model.specs.Trace.{Step}
 use Rattle.mvo_theory.specs.State.{StampedTx}
+use Rattle.mvo_theory.specs.Groups.{Limits, Group}
 use Rattle.mvo_theory.specs.Calls.{Result, why_not, answer_in}
-use Rattle.mvo_theory.specs.Calls.Call.{Begin, Do}
+use Rattle.mvo_theory.specs.Calls.Call.{Begin, Do, Close}
 use Rattle.mvo_theory.specs.Calls.Result.{Accepted, Refused}
 use Rattle.mvo_shared.specs.Kept.{IsWork}
 use Rattle.mvo_shared.specs.Shared.{AllTaken, WorksById}
@@ -84,3 +85,7 @@ whole_with_no_group (CoreCall c) = CoreCall (with_no_group c)
 abbrev pub IsWholeCallBehind : WholeCall → Result → WholeCall → Type 0
 IsWholeCallBehind c Accepted call = whole_shadow_call c ≡ call
 IsWholeCallBehind c (Refused r) call = whole_with_no_group c ≡ whole_with_no_group call
+
+abbrev pub ClosesNone : WholeCall → Type 0
+ClosesNone call = (fits : Limits) (g : Group) (full : Bool)
+    → call ≡ CoreCall (Close fits g full) → ⊥

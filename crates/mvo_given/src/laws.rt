@@ -1,5 +1,5 @@
 ghost use Rattle.mvo_given.specs.Laws.{WholeCausesAreAlike, EachWholeCallGoesAlike};
-ghost use Rattle.mvo_given.specs.Laws.{EachGivenCallIsWhole, OpensWholeTogether};
+ghost use Rattle.mvo_given.specs.Laws.{EachGivenCallIsWhole, SameUnlessItCloses, OpensWholeTogether};
 ghost use Rattle.mvo_given.specs.Laws.{ActiveWorksCount, WholeRunsGoAlike, ToldAsTraced};
 ghost use Rattle.mvo_given.specs.Laws.{ReadChecksAreExact, TakenReadsWroteNothing};
 ghost use Rattle.mvo_given.specs.Laws.{OpensWholeHeld, EachGivenWholeCallHolds};
@@ -15,6 +15,7 @@ pub fn laws_of_given_readers()
     ensures causes { WholeCausesAreAlike }
     ensures calls { EachWholeCallGoesAlike }
     ensures back { EachGivenCallIsWhole }
+    ensures same { SameUnlessItCloses }
     ensures opens { OpensWholeTogether }
     ensures active { ActiveWorksCount }
     ensures told { ToldAsTraced }

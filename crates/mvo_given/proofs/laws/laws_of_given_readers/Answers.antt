@@ -5,6 +5,7 @@ use Rattle.mvo_given.proofs.Traced.{told_traced}
 use Rattle.mvo_theory.specs.Changes.{to_stamped}
 use Rattle.mvo_shared.proofs.Causes.{no_entry_test}
 use Rattle.mvo_given.proofs.HeldReads.{found_one, wrote_nothing, nothing_differs}
+use Rattle.mvo_given.proofs.Behind.{behind_same}
 use Rattle.mvo_given.proofs.Back.{given_is_whole}
 use Rattle.mvo_given.proofs.laws.laws_of_given_readers.Goals as goal
 
@@ -34,3 +35,6 @@ returns-clause-checks c = λ s r l. (found_one s.base s.stamped r l, no_entry_te
 
 pub returns-clause-taken : goal.returns-clause-taken
 returns-clause-taken c = λ r w e. (wrote_nothing r w e, nothing_differs r w e)
+
+pub returns-clause-same : goal.returns-clause-same
+returns-clause-same c = behind_same
