@@ -1,20 +1,19 @@
 -- The works of those that are Active count alone.
-use Rattle.std.proofs.Common.{◌≡◌, ℕ, List, [], ◌∷◌, Some, map, refl, sym, ap, ◌∙◌, subst}
+use Rattle.std.proofs.Common.{◌≡◌, ℕ, List, sym, ◌∙◌, subst}
 use Rattle.std.specs.List.{AllByRecursion}
 use Rattle.mvo_types.specs.Keys.{Map}
 use Rattle.mvo_model.specs.Trace.{Step}
-use Rattle.mvo_model.specs.Trace.Phase.{Active as IsActive}
 use Rattle.mvo_theory.specs.State.{State, ActiveTx}
 use Rattle.mvo_theory.specs.Phases.{phase_in}
 use Rattle.mvo_theory.proofs.Each.{each_both, each_map}
 use Rattle.mvo_theory.proofs.Who.{active_holds}
-use Rattle.mvo_shared.specs.Kept.{WorkContent, IsWork}
-use Rattle.mvo_shared.specs.Shared.{WorksById, IsOwnWork, AreOwnWorks}
-use Rattle.mvo_shared.specs.Shadow.{active_shadow, shadow}
+use Rattle.mvo_shared.specs.Kept.{IsWork}
+use Rattle.mvo_shared.specs.Shared.{WorksById, IsOwnWork}
+use Rattle.mvo_shared.specs.Shadow.{active_shadow}
 use Rattle.mvo_shared.specs.Given.{GivenState}
-use Rattle.mvo_shadow.specs.Shadowed.{IsWorkOf, IsShadowed}
+use Rattle.mvo_shadow.specs.Shadowed.{IsWorkOf}
 use Rattle.mvo_shadow.specs.Laws.{GoTogether}
-use Rattle.mvo_readonly.specs.Whole.{ReaderStage, UnfinishedReader, WholeState}
+use Rattle.mvo_readonly.specs.Whole.{ReaderStage, WholeState}
 use Rattle.mvo_readonly.specs.Whole.ReaderStage.{Reading, Preparing, Committed, Aborted}
 use Rattle.mvo_readonly.specs.WholeKept.{core_phase, IsUnfinishedReader}
 use Rattle.mvo_readonly.proofs.Stages.{found_active}
@@ -53,6 +52,7 @@ works_count opening ws xs w g works more h e each =
         readers = h.shadowed.readers;
         committed = h.shadowed.committed;
         reads = each_both (IsUnfinishedReader ws xs w.core) (HasReads g.reads works) (HasReads g.reads more) (λ r k q. go r.id r.stage (sym (h.kept.kept.after_trace.phases r.id) ∙ k.stands) q) w.readers h.kept.readers h.shadowed.reads;
+        past = h.shadowed.past;
       };
     }
   where

@@ -40,20 +40,22 @@ use Rattle.mvo_readonly.specs.WholeKept.{IsUnfinishedReader}
 use Rattle.mvo_readonly.proofs.Stages.{each_staged, core_stands}
 use Rattle.mvo_given.specs.GivenWhole.{GivenWhole}
 use Rattle.mvo_given.specs.GivenCalls.{after_given_calls, looked_more, readers_took, told_unless, committed_took}
-use Rattle.mvo_given.specs.WholeShadowed.{HasReadsAt, HasReads}
+use Rattle.mvo_given.specs.WholeShadowed.{HasReadsAt, HasReads, PastWasTaken}
+use Rattle.mvo_given.proofs.Past.{past_one}
 use Rattle.mvo_given.proofs.Causes.{at_whole_shadow}
 
 -- ---- one call of the core of the others, or none
-pub record IsOnward (opening : Map) (xs zs : List Step) (s : State) (g : GivenState) (works : WorksById) : Type 0 where
+pub record IsOnward (opening : Map) (xs zs : List Step) (Before : Type 0) (s : State) (g : GivenState) (works : WorksById) : Type 0 where
   pub together : GoTogether opening (xs ++ zs) s g works
   pub each : AreWorks works
+  pub past : Before → PastWasTaken s.past g.taken
 
 module _ (opening : Map) (xs : List Step) (s : State) (g : GivenState) (works : WorksById) (a : AreWorks works) (h : GoTogether opening xs s g works) where
-  none_onward : IsOnward opening xs [] s g works
-  none_onward = record { together = subst (λ (ys : List Step). GoTogether opening ys s g works) (sym (append-nil xs)) h; each = a }
+  none_onward : IsOnward opening xs [] (PastWasTaken s.past g.taken) s g works
+  none_onward = record { together = subst (λ (ys : List Step). GoTogether opening ys s g works) (sym (append-nil xs)) h; each = a; past = λ p. p }
 
   one_onward : (c : Call) (r : Result) → IsByWrites c → MayCome s c r
-      → IsOnward opening xs (steps_of s c r ++ []) (after_call s c r) (after_given g (work_for works (shadow_call c)) (shadow_call c) (shadow_result r)) (works_after g works (shadow_call c) (shadow_result r))
+      → IsOnward opening xs (steps_of s c r ++ []) (PastWasTaken s.past g.taken) (after_call s c r) (after_given g (work_for works (shadow_call c)) (shadow_call c) (shadow_result r)) (works_after g works (shadow_call c) (shadow_result r))
   one_onward c r b m =
       let call = shadow_call c in
       let result = shadow_result r in
@@ -66,6 +68,7 @@ module _ (opening : Map) (xs : List Step) (s : State) (g : GivenState) (works : 
           shadowed = q.1;
         });
         each = works_still g works call result a;
+        past = past_one opening xs s g works (work_for works call) c r h;
       }
 
 -- ---- whom a read-only one waits for
@@ -90,21 +93,21 @@ module _ (opening : Map) (xs : List Step) (s : State) (all : AllTaken) (works : 
 
   -- by the calls of the core of the others, with the same on its shadow
   abbrev Onward : Call → Result → Run → Run → Type 0
-  Onward c r cs ds = IsOnward opening xs (trace_of s cs) (after_run s cs) (after_given_calls given (work_for works (shadow_call c)) ds) (works_after given works (shadow_call c) (shadow_result r))
+  Onward c r cs ds = IsOnward opening xs (trace_of s cs) (PastWasTaken s.past all) (after_run s cs) (after_given_calls given (work_for works (shadow_call c)) ds) (works_after given works (shadow_call c) (shadow_result r))
 
   one : (c : Call) (r : Result) → IsByWrites c → MayRun s ((c, r) ∷ []) → Onward c r ((c, r) ∷ []) ((shadow_call c, r) ∷ [])
   one c r b m = one_onward opening xs s given works a h c r b m.0
 
-  none : IsOnward opening xs [] s given works
+  none : IsOnward opening xs [] (PastWasTaken s.past all) s given works
   none = none_onward opening xs s given works a h
 
-  back : (t : ℕ) (c : Call) → MayRun s (rolled_back t) → IsOnward opening xs (trace_of s (rolled_back t)) (after_run s (rolled_back t)) (after_given_calls given (work_for works (shadow_call c)) (rolled_back t)) works
+  back : (t : ℕ) (c : Call) → MayRun s (rolled_back t) → IsOnward opening xs (trace_of s (rolled_back t)) (PastWasTaken s.past all) (after_run s (rolled_back t)) (after_given_calls given (work_for works (shadow_call c)) (rolled_back t)) works
   back t c m = one_onward opening xs s given works a h (Rollback t) Accepted tt m.0
 
-  failed : (t : ℕ) (q : Refusal) (c : Call) → MayRun s (core_failed t q) → IsOnward opening xs (trace_of s (core_failed t q)) (after_run s (core_failed t q)) (after_given_calls given (work_for works (shadow_call c)) (core_failed t q)) works
+  failed : (t : ℕ) (q : Refusal) (c : Call) → MayRun s (core_failed t q) → IsOnward opening xs (trace_of s (core_failed t q)) (PastWasTaken s.past all) (after_run s (core_failed t q)) (after_given_calls given (work_for works (shadow_call c)) (core_failed t q)) works
   failed t q c = go (is_failure q)
     where
-      go : (b : Bool) → MayRun s (cond b (rolled_back t) []) → IsOnward opening xs (trace_of s (cond b (rolled_back t) [])) (after_run s (cond b (rolled_back t) [])) (after_given_calls given (work_for works (shadow_call c)) (cond b (rolled_back t) [])) works
+      go : (b : Bool) → MayRun s (cond b (rolled_back t) []) → IsOnward opening xs (trace_of s (cond b (rolled_back t) [])) (PastWasTaken s.past all) (after_run s (cond b (rolled_back t) [])) (after_given_calls given (work_for works (shadow_call c)) (cond b (rolled_back t) [])) works
       go true m = back t c m
       go false m = none
 

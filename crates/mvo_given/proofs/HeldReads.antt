@@ -33,12 +33,12 @@ use Rattle.mvo_theory.proofs.Sound.{each_take_more}
 use Rattle.mvo_theory.proofs.Who.{active_holds, id_of}
 use Rattle.mvo_shared.specs.Kept.{Looked, WorkContent, IsWork, rows_shown, IsLookShown}
 use Rattle.mvo_shared.specs.Shared.{AreSeen, WriteTheSame, are_known}
-use Rattle.mvo_shared.specs.Causes.{same_rows, is_entry_mismatch}
+use Rattle.mvo_shared.specs.Causes.{same_rows, is_entry_mismatch, is_write_mismatch}
 use Rattle.mvo_shared.specs.Given.{GivenRefusal, GivenState, if_mismatch, among, or_behind, first_given, look_differs, op_causes, why_not_do_given, writes_differ, entry_mismatches}
 use Rattle.mvo_shared.specs.Given.GivenRefusal.{Because, WorkMismatch}
 use Rattle.mvo_shared.specs.Held.{IsHeldGiven}
 use Rattle.mvo_shared.proofs.Causes.{rows_are, known_decided}
-use Rattle.mvo_shared.proofs.Written.{same_by_test}
+use Rattle.mvo_shared.proofs.Written.{same_by_test, test_by_same}
 use Rattle.mvo_shared.proofs.Valid.{valid_consistent}
 use Rattle.mvo_shared.proofs.GivenCauses.{none_given}
 use Rattle.mvo_readonly.specs.ReadAt.{WritesNothing, settled_before, IsReadAt}
@@ -116,7 +116,7 @@ later_some : (a b : Option Effect) → later a b ≡ None → (a ≡ None) × (b
 later_some None b e = (refl, e)
 later_some (Some h) b e = absurd cc
 
-idle_by_writes : (ts : History) → WriteTheSame [] ts → WritesNothing ts
+pub idle_by_writes : (ts : History) → WriteTheSame [] ts → WritesNothing ts
 idle_by_writes [] h = tt
 idle_by_writes (o ∷ ts) h = (go (write_of o.0 o.1) refl, idle_by_writes ts (λ k. sym (later_some (net_write k ts) (write_at k (write_of o.0 o.1)) (sym (h k))).0))
   where
@@ -126,6 +126,17 @@ idle_by_writes (o ∷ ts) h = (go (write_of o.0 o.1) refl, idle_by_writes ts (λ
     go : (w : Option Write) → write_of o.0 o.1 ≡ w → w ≡ None
     go None e = refl
     go (Some v) e = absurd (some_none v.1 (sym (ap (λ (b : Bool). cond b (Some v.1) None) (key_is v.0)) ∙ sym (ap (write_at v.0) e) ∙ (later_some (net_write v.0 ts) (write_at v.0 (write_of o.0 o.1)) (sym (h v.0))).1))
+
+writes_by_idle : (ts : History) → WritesNothing ts → WriteTheSame [] ts
+writes_by_idle [] h k = refl
+writes_by_idle (o ∷ ts) h k = sym (ap (λ (w : Option Write). later (net_write k ts) (write_at k w)) h.0 ∙ ap (λ e. later e None) (sym (writes_by_idle ts h.1 k)))
+
+-- so the test of the two tells just that
+pub wrote_nothing : (r : ActiveTx) (w : WorkContent) → r.history ≡ [] → is_write_mismatch r w ≡ false → WritesNothing w.history
+wrote_nothing r w e m = let same = same_by_test r w m in idle_by_writes w.history (λ k. sym (ap (net_write k) e) ∙ same k)
+
+pub nothing_differs : (r : ActiveTx) (w : WorkContent) → r.history ≡ [] → WritesNothing w.history → is_write_mismatch r w ≡ false
+nothing_differs r w e h = test_by_same r w (λ k. ap (net_write k) e ∙ writes_by_idle w.history h k)
 
 pub takes_reads : (s : State) (t : ℕ) (w : WorkContent) (p : ReaderStage) → why_not_take_reads s p t w ≡ None → IsActiveReader s t → WritesNothing w.history
 takes_reads s t w (Preparing n v) h a = absurd (none_given (Because NotActive) h)
@@ -152,7 +163,7 @@ taken_now s t w work idle = record {
 }
 
 -- ---- a check
-found_one : (base : Map) (stamped : List StampedTx) (r : ActiveTx) (l : Looked) → is_entry_mismatch base stamped (to_stamped r.id r) l ≡ false → AreSeen base stamped r.id r.depends_on (l ∷ [])
+pub found_one : (base : Map) (stamped : List StampedTx) (r : ActiveTx) (l : Looked) → is_entry_mismatch base stamped (to_stamped r.id r) l ≡ false → AreSeen base stamped r.id r.depends_on (l ∷ [])
 found_one base stamped r l h =
     let q = or_parts (not (same_rows l.rows (rows_shown l.entry (seen_by base stamped r.id)))) (not (are_known r.depends_on (keys_for l.entry r.id base stamped) r.id stamped)) h in
     record {

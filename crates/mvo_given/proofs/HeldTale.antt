@@ -26,7 +26,7 @@ use Rattle.mvo_given.specs.WholeHeld.{IsHeldCommitted, IsWholeHeld, read_by, tol
 
 -- ---- what each was told
 -- the first with the id is the one
-read_first : (ys : List CommittedReader) → HaveDistinctIds ys → AllByRecursion (λ y. read_by y.id ys ≡ y.history) ys
+pub read_first : (ys : List CommittedReader) → HaveDistinctIds ys → AllByRecursion (λ y. read_by y.id ys ≡ y.history) ys
 read_first [] d = tt
 read_first (y ∷ ys) d = (
   ap (λ (b : Bool). cond b y.history (read_by y.id ys)) (eq-eqb y.id y.id refl),

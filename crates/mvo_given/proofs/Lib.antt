@@ -7,3 +7,7 @@ pub mod HeldReads
 pub mod HeldTale
 pub mod HeldCalls
 pub mod Counting
+pub mod Onward
+pub mod Traced
+pub mod Past
+pub mod Behind

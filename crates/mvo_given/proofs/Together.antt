@@ -180,6 +180,7 @@ module _ (opening : Map) (ws xs : List Step) (w : WholeState) (all : AllTaken) (
           readers = took_readers w all works reads c v (λ t n x i j. taken_there t n x (sym (ap (stage_named w.readers) i) ∙ j));
           committed = took_committed w all works reads c v (λ t p i j. settle_history t p (sym (ap (λ d. stage_named w.readers (id_named d)) i) ∙ j) (sym (ap (λ d. why_not_at_stage w d (Some p)) i) ∙ sym (ap (why_not_at_stage w c) j) ∙ m.0));
           reads = took_reads c v refl m.0;
+          past = k.past h.shadowed.past;
         };
       }
     where
@@ -200,6 +201,7 @@ module _ (opening : Map) (ws xs : List Step) (w : WholeState) (all : AllTaken) (
           readers = denied_readers w all works reads c q v;
           committed = sym (denied_committed w all works reads c q v);
           reads = denied_reads c q v;
+          past = k.past h.shadowed.past;
         };
       }
 
@@ -222,6 +224,7 @@ module _ (opening : Map) (ws xs : List Step) (w : WholeState) (all : AllTaken) (
           readers = refl;
           committed = refl;
           reads = each_append (HasReads reads (works_after given works Begin Took)) w.readers ((record { id = w.core.clock + 1; stage = Reading }) ∷ []) (reads_begun ws xs w works reads h.kept.readers held_reads empty_work) (tt, tt);
+          past = k.past h.shadowed.past;
         };
       }
   on_here BeginReadOnly (Refused q) b m =
@@ -230,7 +233,7 @@ module _ (opening : Map) (ws xs : List Step) (w : WholeState) (all : AllTaken) (
         kept = whole_after_call opening ws xs w BeginReadOnly (Refused q) m h.kept;
         others = k.together;
         each = k.each;
-        shadowed = record { core = k.together.shadowed; readers = refl; committed = refl; reads = held_reads };
+        shadowed = record { core = k.together.shadowed; readers = refl; committed = refl; reads = held_reads; past = k.past h.shadowed.past };
       }
 
   -- ---- what a call may come to
@@ -312,7 +315,7 @@ opens_together rows mark all reads = record {
   kept = whole_opened rows mark;
   others = record { kept = kept_opened rows mark; held = held_opened rows mark all; own = own_opened rows mark all (λ t. empty_work); shadowed = record { state = refl; active = tt; taken = tt; checked = tt } };
   each = λ t. work_empty;
-  shadowed = record { core = record { state = refl; active = tt; taken = tt; checked = tt }; readers = refl; committed = refl; reads = tt };
+  shadowed = record { core = record { state = refl; active = tt; taken = tt; checked = tt }; readers = refl; committed = refl; reads = tt; past = tt };
 }
 
 -- ---- each list of calls

@@ -1,25 +1,27 @@
 -- The laws of read-only transactions on a core that is given works.
-use Rattle.std.specs.Prelude.{ℕ, ◌≡◌, List, [], ◌++◌, map}
+use Rattle.std.specs.Prelude.{ℕ, ◌≡◌, ◌↔◌, false, List, [], ◌∷◌, ◌++◌, map, Some}
 use Rattle.std.specs.List.{AllByRecursion}
 use Rattle.std.specs.Option.{option_map}
 use Rattle.mvo_types.specs.Keys.{Map}
 use Rattle.mvo_model.specs.History.{Legal}
 use Rattle.mvo_model.specs.Trace.{Step}
-use Rattle.mvo_theory.specs.State.{ActiveTx}
+use Rattle.mvo_theory.specs.State.{State, ActiveTx}
 use Rattle.mvo_theory.specs.Calls.{Result, trace_of}
-use Rattle.mvo_shared.specs.Kept.{WorkContent, IsWork}
-use Rattle.mvo_shared.specs.Shared.{AllTaken, WorksById}
+use Rattle.mvo_shared.specs.Kept.{Looked, WorkContent, IsWork}
+use Rattle.mvo_shared.specs.Shared.{AllTaken, WorksById, AreSeen}
+use Rattle.mvo_shared.specs.Causes.{is_write_mismatch}
 use Rattle.mvo_shared.specs.Given.{GivenResult}
 use Rattle.mvo_shared.specs.Given.GivenRefusal.{Because}
 use Rattle.mvo_shared.specs.Held.{empty_work}
 use Rattle.mvo_shadow.specs.Shadowed.{shadow_result}
+use Rattle.mvo_readonly.specs.ReadAt.{WritesNothing}
 use Rattle.mvo_readonly.specs.Whole.{WholeState, opened_whole}
 use Rattle.mvo_readonly.specs.WholeCauses.{WholeCall, MayComeWhole}
 use Rattle.mvo_readonly.specs.WholeCalls.{core_calls, steps_of_whole_call, after_whole_call, WholeRun, MayRunWhole, after_whole_run}
-use Rattle.mvo_readonly.specs.WholeTale.{whole_tale}
-use Rattle.mvo_given.specs.GivenWhole.{GivenWhole, why_not_given_whole, MayComeGivenWhole}
+use Rattle.mvo_readonly.specs.WholeTale.{whole_tale, told_in}
+use Rattle.mvo_given.specs.GivenWhole.{GivenWhole, read_mismatches, why_not_given_whole, MayComeGivenWhole}
 use Rattle.mvo_given.specs.GivenCalls.{after_given_whole, work_for_whole, works_after_whole}
-use Rattle.mvo_given.specs.WholeShadowed.{IsWholeShadowed, GoWholeTogether, why_not_whole, whole_shadow_call, IsWholeByWrites, IsToldWhole, IsWholeCallBehind}
+use Rattle.mvo_given.specs.WholeShadowed.{IsWholeShadowed, GoWholeTogether, why_not_whole, whole_shadow_call, IsWholeByWrites, IsToldWhole, IsWholeCallBehind, ClosesNone}
 use Rattle.mvo_given.specs.WholeHeld.{IsWholeHeld, told_given, GivenWholeCall, MayRunGivenWhole, after_given_whole_run, opened_given_whole}
 use Rattle.mvo_given.specs.WholeRuns.{whole_shadow_run, AreWholeByWrites, OwnWholeState, after_own_whole_run, MayRunOwnWhole}
 
@@ -74,6 +76,11 @@ EachGivenCallIsWhole = (opening : Map) (steps own : List Step) (w : WholeState)
     → GoWholeTogether opening steps own w g works
     → (c : WholeCall) × (r : Result) × IsWholeCallOf opening steps own w g works call given c r
 
+-- That is the same call, unless it closes a group.
+abbrev pub SameUnlessItCloses : Type 0
+SameUnlessItCloses = (c call : WholeCall) (r : Result) → IsWholeCallBehind c r call
+    → ClosesNone call → c ≡ call
+
 -- A core that was just opened stands together with the state that was, with no works.
 abbrev pub OpensWholeTogether : Type 0
 OpensWholeTogether = (rows : Map) (mark : ℕ) (all : AllTaken) (reads : WorksById)
@@ -88,6 +95,13 @@ ActiveWorksCount = (opening : Map) (steps own : List Step) (w : WholeState) (g :
     → AllByRecursion (λ (r : ActiveTx). more r.id ≡ works r.id) w.core.active
     → ((t : ℕ) → IsWork (more t)) → GoWholeTogether opening steps own w g more
 
+-- The stored commits are the same, and were told there what the whole trace says.
+abbrev pub ToldAsTraced : Type 0
+ToldAsTraced = (opening : Map) (steps own : List Step) (w : WholeState) (g : GivenWhole)
+    (works : WorksById) → GoWholeTogether opening steps own w g works
+    → (whole_tale g.whole ≡ whole_tale w)
+    × AllByRecursion (λ c. told_given g c ≡ told_in steps c) (whole_tale w)
+
 -- So each list of calls of a whole state is one there, over the shadows.
 abbrev pub WholeRunsGoAlike : Type 0
 WholeRunsGoAlike = (rows : Map) (mark : ℕ) (all : AllTaken) (reads : WorksById) (run : WholeRun)
@@ -96,6 +110,19 @@ WholeRunsGoAlike = (rows : Map) (mark : ℕ) (all : AllTaken) (reads : WorksById
     let after = after_own_whole_run start (whole_shadow_run run) in
     MayRunOwnWhole start (whole_shadow_run run)
     × IsWholeShadowed (after_whole_run (opened_whole rows mark) run) after.given after.works
+
+-- ---- the mismatch of a read-only one, both ways
+-- A check meets none just where others show the rows of its look to the begin, and who decides it
+-- is settled or depended on.
+abbrev pub ReadChecksAreExact : Type 0
+ReadChecksAreExact = (s : State) (r : ActiveTx) (l : Looked)
+    → (read_mismatches s (Some r) (Some l) ≡ false)
+    ↔ AreSeen s.base s.stamped r.id r.depends_on (l ∷ [])
+
+-- A precommit meets none just where the work wrote nothing, as the core saw.
+abbrev pub TakenReadsWroteNothing : Type 0
+TakenReadsWroteNothing = (r : ActiveTx) (w : WorkContent) → r.history ≡ []
+    → (is_write_mismatch r w ≡ false) ↔ WritesNothing w.history
 
 -- ---- whatever works it is given
 -- A core that was just opened holds nothing, and each call keeps what the core keeps, whatever work
@@ -121,3 +148,22 @@ GivenWholeRunsAreLegal = (rows : Map) (mark : ℕ) (all : AllTaken) (reads : Wor
     (cs : List GivenWholeCall) → MayRunGivenWhole (opened_given_whole rows mark all reads) cs
     → let g = after_given_whole_run (opened_given_whole rows mark all reads) cs in
     Legal g.whole.core.base (map (told_given g) (whole_tale g.whole))
+
+-- ---- both
+-- it stands together with a whole state, and keeps what it keeps whatever works it is given
+pub record StandWholeTogether (opening : Map) (steps own : List Step) (w : WholeState)
+    (g : GivenWhole) (works : WorksById) : Type 0 where
+  pub together : GoWholeTogether opening steps own w g works
+  pub held : IsWholeHeld opening g
+
+-- What a call may come to on the whole state it may come to there, and so they stand after it.
+abbrev pub EachWholeCallGoesOn : Type 0
+EachWholeCallGoesOn = (opening : Map) (steps own : List Step) (w : WholeState)
+    (g : GivenWhole) (works : WorksById) (c : WholeCall) (r : Result) → IsWholeByWrites c
+    → MayComeWhole w c r → StandWholeTogether opening steps own w g works
+    → let call = whole_shadow_call c in let given = shadow_result r in
+    MayComeGivenWhole g (work_for_whole works call) call given
+    × StandWholeTogether opening (steps ++ steps_of_whole_call w c r)
+    (own ++ trace_of w.core (core_calls w c r)) (after_whole_call w c r)
+    (after_given_whole g (work_for_whole works call) call given)
+    (works_after_whole g works call given)

@@ -1,15 +1,17 @@
 -- A core that is given works which were all made on it, with its read-only transactions, stands
 -- where a whole state does.
-use Rattle.std.specs.Prelude.{ℕ, ◌≡◌, List, Option, ⊤}
+use Rattle.std.specs.Prelude.{ℕ, ◌≡◌, Bool, List, Option, ⊤}
 use Rattle.std.specs.List.{AllByRecursion}
 use Rattle.mvo_types.specs.declared.refusal.Refusal.{Refusal}
 use Rattle.mvo_types.specs.Keys.{Map}
 use Rattle.mvo_model.specs.Trace.{Step}
+use Rattle.mvo_theory.specs.State.{StampedTx}
+use Rattle.mvo_theory.specs.Groups.{Limits, Group}
 use Rattle.mvo_theory.specs.Calls.{Result, why_not, answer_in}
-use Rattle.mvo_theory.specs.Calls.Call.{Begin, Do}
+use Rattle.mvo_theory.specs.Calls.Call.{Begin, Do, Close}
 use Rattle.mvo_theory.specs.Calls.Result.{Accepted, Refused}
 use Rattle.mvo_shared.specs.Kept.{IsWork}
-use Rattle.mvo_shared.specs.Shared.{WorksById}
+use Rattle.mvo_shared.specs.Shared.{AllTaken, WorksById}
 use Rattle.mvo_shared.specs.Given.{answer_given}
 use Rattle.mvo_shadow.specs.Shadowed.{IsShadowed, IsByWrites, shadow_call, with_no_group}
 use Rattle.mvo_shadow.specs.Laws.{GoTogether}
@@ -31,6 +33,11 @@ HasReadsAt reads works t Aborted = ⊤
 abbrev pub HasReads : WorksById → WorksById → UnfinishedReader → Type 0
 HasReads reads works r = HasReadsAt reads works r.id r.stage
 
+-- of those that end up to the start of the tale, too, it has what precommit took in: their
+-- operations
+abbrev pub PastWasTaken : List StampedTx → AllTaken → Type 0
+PastWasTaken past all = AllByRecursion (λ x. (all x.end).work.history ≡ x.history) past
+
 -- The core of the others keeps the shadow, and the works are those of the Active ones, to which the
 -- unfinished read-only ones belong. Of these it knows how far they are, and of the committed ones
 -- what they were told.
@@ -39,6 +46,7 @@ pub record IsWholeShadowed (w : WholeState) (g : GivenWhole) (works : WorksById)
   pub readers : g.whole.readers ≡ w.readers
   pub committed : g.whole.committed_readers ≡ w.committed_readers
   pub reads : AllByRecursion (HasReads g.reads works) w.readers
+  pub past : PastWasTaken w.core.past g.taken
 
 -- what all keep where they stand together, after the whole trace and the core's own
 pub record GoWholeTogether (opening : Map) (steps own : List Step) (w : WholeState)
@@ -77,3 +85,7 @@ whole_with_no_group (CoreCall c) = CoreCall (with_no_group c)
 abbrev pub IsWholeCallBehind : WholeCall → Result → WholeCall → Type 0
 IsWholeCallBehind c Accepted call = whole_shadow_call c ≡ call
 IsWholeCallBehind c (Refused r) call = whole_with_no_group c ≡ whole_with_no_group call
+
+abbrev pub ClosesNone : WholeCall → Type 0
+ClosesNone call = (fits : Limits) (g : Group) (full : Bool)
+    → call ≡ CoreCall (Close fits g full) → ⊥
