@@ -1,9 +1,9 @@
 //! A segment on a disk that is read in slices.
 use crate::equal::same;
-use crate::load::image::{FRESH, INSERTED, disk_of};
+use crate::load::image::{FRESH, INSERTED, disk_of, put};
 use mvo_disk::{Disk, MemDisk};
 use mvo_format::LAST_FORMAT;
-use mvo_frame::{Kind, Reached, Segment, SegmentReader};
+use mvo_frame::{Kind, Reached, SegmentReader};
 use mvo_group::{Group, Record, Write};
 use mvo_load::{begin_segment, read_frames};
 use mvo_types::{Refusal, Row, RowKey, Stamp};
@@ -140,21 +140,6 @@ fn wide(alloc: Global, prev: u64, ends: [u64; 3]) -> Result<Group, Fail> {
     Ok(Group::new(Stamp(prev), Stamp(ends[2]), records).ok_or("a group")?)
 }
 
-/// Appends a group to a segment.
-fn append(
-    alloc: Global,
-    disk: &mut MemDisk,
-    segment: &mut Segment,
-    group: &Group,
-) -> Result<(), Fail> {
-    if disk.faults() > 0 {
-        return Err(Fail::from("a fault"));
-    }
-    segment.write_body(alloc, disk, group)?;
-    segment.open_gate(disk)?;
-    Ok(())
-}
-
 /// The ends of the records of three such groups, behind the marks 0, 3 and 6.
 const ENDS: [(u64, [u64; 3]); 3] = [(0, [1, 2, 3]), (3, [4, 5, 6]), (6, [7, 8, 9])];
 
@@ -166,13 +151,30 @@ const GATES: [(Reached, usize); 4] = [
     (Reached::End, 7_236_167),
 ];
 
-/// A disk with the three.
+/// The frame of a group: a gate, the length of the body, and the body.
+fn put_frame(bytes: &mut Vec<u8>, group: &Group) -> Result<(), Fail> {
+    let body = group.encode()?;
+    bytes.push(0xa5)?;
+    bytes.extend_from_slice(&u32::try_from(body.len())?.to_le_bytes())?;
+    bytes.extend_from_slice(&body)?;
+    Ok(())
+}
+
+/// A segment of version 2 with the three, sealed.
+fn bytes_of_three(alloc: Global) -> Result<Vec<u8>, Fail> {
+    let mut bytes = Vec::new(alloc);
+    bytes.extend_from_slice(b"MVOL\x02\0\0\0")?;
+    for (prev, ends) in ENDS {
+        put_frame(&mut bytes, &wide(alloc, prev, ends)?)?;
+    }
+    bytes.push(0)?;
+    Ok(bytes)
+}
+
+/// A disk with that.
 fn disk_of_three(alloc: Global) -> Result<MemDisk, Fail> {
     let mut disk = MemDisk::new(alloc)?;
-    let mut segment = Segment::fresh(&mut disk, LAST_FORMAT.version, 2)?;
-    for (prev, ends) in ENDS {
-        append(alloc, &mut disk, &mut segment, &wide(alloc, prev, ends)?)?;
-    }
+    put(&mut disk, 2, &bytes_of_three(alloc)?)?;
     Ok(disk)
 }
 
