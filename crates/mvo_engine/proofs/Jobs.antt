@@ -12,13 +12,14 @@ use Rattle.mvo_store.specs.declared.done.Done.TheVariants.{Installed}
 use Rattle.mvo_store.specs.Wholes.{AreToRefusal, IsCheckpoint, install, rotation, merge}
 use Rattle.mvo_store.proofs.Taken.{IsQuiet}
 use Rattle.mvo_engine.specs.declared.slice.Slice.{Slice}
-use Rattle.mvo_engine.specs.declared.slice.Slice.TheVariants.{Checkpoint, Merge, Places}
+use Rattle.mvo_engine.specs.declared.slice.Slice.TheVariants.{Checkpoint, Merge, Places, MergeBegin, MergeRead, MergeForget}
+use Rattle.mvo_engine.specs.declared.sliced.Sliced.{Sliced}
 use Rattle.mvo_engine.specs.Calls.{asked_by}
 use Rattle.mvo_engine.specs.Jobs.{IsAloneWith, IsCallAlone, IsOneCallAlone, slices_of, opens_a_manifest, IsInstallAnswer}
 
 -- what is known of the call's slices says how it is made
-pub alone_with : {D : Type 0} (d : Ghosts D) (call : StoreCall) (r : Result Done Refusal) {slices : Option Slice} → slices_of call ≡ slices → IsAloneWith d slices call r → IsCallAlone d tt call r tt
-alone_with d call r {slices} is h = subst (λ (x : Option Slice). IsAloneWith d x call r) (sym is) h
+pub alone_with : {D : Type 0} (d : Ghosts D) (call : StoreCall) (r : Result Done Refusal) {slices : Option Sliced} → slices_of call ≡ slices → IsAloneWith d slices call r → IsCallAlone d tt call r tt
+alone_with d call r {slices} is h = subst (λ (x : Option Sliced). IsAloneWith d x call r) (sym is) h
 
 -- the call that installs a manifest is the last step of an install
 pub opens_alone : {D : Type 0} (d : Ghosts D) (call : StoreCall) (r : Result Done Refusal) → opens_a_manifest call ≡ true → IsOneCallAlone d (Step (Install Open)) r → IsOneCallAlone d call r
@@ -63,3 +64,6 @@ pub quiet_slice : (slice : Slice) → IsQuiet (asked_by slice)
 quiet_slice Checkpoint = tt
 quiet_slice Merge = tt
 quiet_slice Places = tt
+quiet_slice (MergeBegin place) = tt
+quiet_slice MergeRead = tt
+quiet_slice MergeForget = tt

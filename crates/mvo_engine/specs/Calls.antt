@@ -26,8 +26,9 @@ use Rattle.mvo_core.specs.WholeStanding.{StandsWhole, IsWholeStep, IsReadOnlyBeg
 use Rattle.mvo_store.specs.StoreData.{StoreData}
 use Rattle.mvo_store.specs.Seen.{mark_of}
 use Rattle.mvo_store.specs.Causes.{why_not_take}
-use Rattle.mvo_store.specs.Calls.{AnswersCall, AnswersSlice, AnswersPlaces, IsStoreStep, StoreStep}
+use Rattle.mvo_store.specs.Calls.{AnswersCall, AnswersSlice, AnswersPlaces, AnswersReading, IsStoreStep, StoreStep}
 use Rattle.mvo_store.specs.Calls.StoreStep.{Take, Call, Slice as SliceOf, Place}
+use Rattle.mvo_store.specs.Calls.StoreStep.{MergeBegin as BeginMerge, MergeReadOn, MergeForget as ForgetMerge}
 use Rattle.mvo_store.specs.declared.jobs.due.Due.TheVariants.{Data, MergeData, Install}
 use Rattle.mvo_store.specs.declared.install.generation.Generation.{Generation}
 use Rattle.mvo_store.specs.declared.install.install_step.InstallStep.TheVariants.{Open}
@@ -35,13 +36,14 @@ use Rattle.mvo_store.specs.declared.install.spent.Spent.{Spent}
 use Rattle.mvo_store.specs.Jobs.{next_installed}
 use Rattle.mvo_store.specs.Steps.{spent_by}
 use Rattle.mvo_store.specs.declared.jobs.progress.Progress.{Progress}
+use Rattle.mvo_store.specs.declared.jobs.progress.Progress.TheVariants.{More, Ready}
 use Rattle.mvo_store.specs.declared.call.StoreCall.{StoreCall}
 use Rattle.mvo_store.specs.declared.call.StoreCall.TheVariants.{Step as StepOf}
 use Rattle.mvo_store.specs.declared.done.Done.{Done}
 use Rattle.mvo_store.specs.declared.done.Done.TheVariants.{Durable, Installed}
 use Rattle.mvo_engine.specs.declared.run.run.TheConstants.{MAX_SESSIONS}
 use Rattle.mvo_engine.specs.declared.slice.Slice.{Slice}
-use Rattle.mvo_engine.specs.declared.slice.Slice.TheVariants.{Checkpoint, Merge, Places}
+use Rattle.mvo_engine.specs.declared.slice.Slice.TheVariants.{Checkpoint, Merge, Places, MergeBegin, MergeRead, MergeForget}
 use Rattle.mvo_core.specs.Receipts.{receipt}
 use Rattle.mvo_engine.specs.States.{CoreState, SendsState, StoreState, SessionState}
 
@@ -152,12 +154,24 @@ abbrev pub asked_by : Slice → StoreStep
 asked_by Checkpoint = SliceOf Data
 asked_by Merge = SliceOf MergeData
 asked_by Places = Place
+asked_by (MergeBegin place) = BeginMerge place
+asked_by MergeRead = MergeReadOn
+asked_by MergeForget = ForgetMerge
 
--- whether more of these slices are left
+-- what is told of what has no answer
+abbrev pub told_as : Progress → Result (Unit {0}) Refusal → Result Progress Refusal
+told_as progress (Ok _) = Ok progress
+told_as progress (Err e) = Err e
+
+-- Whether more of these slices are left: behind what begins they are, and behind what is forgotten
+-- none.
 abbrev pub AnswersAsked : {D : Type 0} → Slice → StoreData D → Progress → Type 0
 AnswersAsked Checkpoint new progress = AnswersSlice Data new progress
 AnswersAsked Merge new progress = AnswersSlice MergeData new progress
 AnswersAsked Places new progress = AnswersPlaces new progress
+AnswersAsked (MergeBegin place) new progress = progress ≡ More
+AnswersAsked MergeRead new progress = AnswersReading new progress
+AnswersAsked MergeForget new progress = progress ≡ Ready
 
 -- A slice of what a job does: no group is received, and no mark published.
 pub record IsLockedSlice {D : Type 0} (d : Ghosts D) (old : StoreState D) (slice : Slice)

@@ -1,10 +1,10 @@
 -- What the jobs of the store come to that an engine makes whole.
-use Rattle.std.specs.Prelude.{◌≡◌, Bool, true, false, Option, Some, None, Result, Ok, Err}
+use Rattle.std.specs.Prelude.{◌≡◌, ℕ, Bool, true, false, Option, Some, None, Result, Ok, Err}
 use Rattle.mvo_types.specs.declared.refusal.Refusal.{Refusal}
 use Rattle.mvo_disk.specs.declared.disk.Disk.{Ghosts}
 use Rattle.mvo_store.specs.declared.install.generation.Generation.{Generation}
 use Rattle.mvo_store.specs.declared.call.StoreCall.{StoreCall}
-use Rattle.mvo_store.specs.declared.call.StoreCall.TheVariants.{Step}
+use Rattle.mvo_store.specs.declared.call.StoreCall.TheVariants.{Step, MergeRead as ReadToMerge}
 use Rattle.mvo_store.specs.declared.jobs.due.Due.TheVariants.{Data, MergeData, Install}
 use Rattle.mvo_store.specs.declared.install.install_step.InstallStep.TheVariants.{Close, Open}
 use Rattle.mvo_store.specs.declared.jobs.progress.Progress.{Progress}
@@ -12,7 +12,9 @@ use Rattle.mvo_store.specs.declared.jobs.progress.Progress.TheVariants.{More, Re
 use Rattle.mvo_store.specs.declared.done.Done.{Done}
 use Rattle.mvo_store.specs.declared.done.Done.TheVariants.{Installed, Progress as Progressed}
 use Rattle.mvo_engine.specs.declared.slice.Slice.{Slice}
-use Rattle.mvo_engine.specs.declared.slice.Slice.TheVariants.{Checkpoint, Merge, Places}
+use Rattle.mvo_engine.specs.declared.slice.Slice.TheVariants.{Checkpoint, Merge, Places, MergeBegin, MergeRead, MergeForget}
+use Rattle.mvo_engine.specs.declared.sliced.Sliced.{Sliced}
+use Rattle.mvo_engine.specs.declared.sliced.Sliced.TheVariants.{Written, Placed, Read}
 use Rattle.mvo_engine.specs.States.{StoreState}
 use Rattle.mvo_engine.specs.Calls.{IsLockedCall, IsLockedSlice}
 
@@ -42,22 +44,23 @@ abbrev pub opens_a_manifest : StoreCall → Bool
 opens_a_manifest (Step (Install Open)) = true
 opens_a_manifest call = false
 
--- the slices that a call is made of, or that are made before it
-abbrev pub slices_of : StoreCall → Option Slice
-slices_of (Step Data) = Some Checkpoint
-slices_of (Step MergeData) = Some Merge
-slices_of (Step (Install Close)) = Some Places
+-- how a call is made of slices, or behind some
+abbrev pub slices_of : StoreCall → Option Sliced
+slices_of (Step Data) = Some (Written Checkpoint)
+slices_of (Step MergeData) = Some (Written Merge)
+slices_of (Step (Install Close)) = Some Placed
+slices_of (ReadToMerge place) = Some (Read place)
 slices_of call = None
 
--- what the call that writes a data file answers
-abbrev pub written_by : Result (Unit {0}) Refusal → Result Done Refusal
-written_by (Ok _) = Ok (Progressed More)
-written_by (Err e) = Err e
+-- what the call answers that the slices make
+abbrev pub made_by : Result (Unit {0}) Refusal → Result Done Refusal
+made_by (Ok _) = Ok (Progressed More)
+made_by (Err e) = Err e
 
 -- a data file is written by slices
 abbrev pub IsDataAlone : {D : Type 0} → Ghosts D → Slice → Result Done Refusal → Type 0
 IsDataAlone d slice result =
-    (came : Result (Unit {0}) Refusal) × AreSlicesAlone d slice came × (result ≡ written_by came)
+    (came : Result (Unit {0}) Refusal) × AreSlicesAlone d slice came × (result ≡ made_by came)
 
 -- the call alone, behind the slices of the places, whatever these came to
 abbrev pub IsBehindPlaces : {D : Type 0} → Ghosts D → StoreCall → Result Done Refusal → Type 0
@@ -65,19 +68,40 @@ IsBehindPlaces d call result =
     ((came : Result (Unit {0}) Refusal) × AreSlicesAlone d Places came)
     × IsOneCallAlone d call result
 
-abbrev pub IsInSlices : {D : Type 0} → Ghosts D → Slice → StoreCall → Result Done Refusal
-    → Type 0
-IsInSlices d Checkpoint call result = IsDataAlone d Checkpoint result
-IsInSlices d Merge call result = IsDataAlone d Merge result
-IsInSlices d Places call result = IsBehindPlaces d call result
+-- where the reading of two pairs is refused, what is read of them is forgotten
+abbrev pub IsForgottenBehind : {D : Type 0} → Ghosts D → Result (Unit {0}) Refusal → Type 0
+IsForgottenBehind d (Ok _) = Unit {0}
+IsForgottenBehind d (Err e) = (told : Result Progress Refusal) × IsSliceAlone d MergeForget told
 
-abbrev pub IsAloneWith : {D : Type 0} → Ghosts D → Option Slice → StoreCall → Result Done Refusal
+-- two pairs of which the reading has begun are read by slices
+abbrev pub IsReadAlone : {D : Type 0} → Ghosts D → Result Done Refusal → Type 0
+IsReadAlone d result = (came : Result (Unit {0}) Refusal) × AreSlicesAlone d MergeRead came
+    × IsForgottenBehind d came × (result ≡ made_by came)
+
+-- so they are where it isn't refused to begin
+abbrev pub IsReadBehind : {D : Type 0} → Ghosts D → Result Progress Refusal
+    → Result Done Refusal → Type 0
+IsReadBehind d (Ok _) result = IsReadAlone d result
+IsReadBehind d (Err e) result = result ≡ Err e
+
+-- the pair at a place and the one behind it are read by slices, to be merged
+abbrev pub ArePairsAlone : {D : Type 0} → Ghosts D → ℕ → Result Done Refusal → Type 0
+ArePairsAlone d place result = (begun : Result Progress Refusal)
+    × IsSliceAlone d (MergeBegin place) begun × IsReadBehind d begun result
+
+abbrev pub IsInSlices : {D : Type 0} → Ghosts D → Sliced → StoreCall → Result Done Refusal
     → Type 0
+IsInSlices d (Written slice) call result = IsDataAlone d slice result
+IsInSlices d Placed call result = IsBehindPlaces d call result
+IsInSlices d (Read place) call result = ArePairsAlone d place result
+
+abbrev pub IsAloneWith : {D : Type 0} → Ghosts D → Option Sliced → StoreCall
+    → Result Done Refusal → Type 0
 IsAloneWith d None call result = IsOneCallAlone d call result
-IsAloneWith d (Some slice) call result = IsInSlices d slice call result
+IsAloneWith d (Some sliced) call result = IsInSlices d sliced call result
 
--- A call alone; but a data file is written by slices, and before a manifest is installed the places
--- of its records are put by slices.
+-- A call alone; but a data file is written by slices, two pairs are read by slices, and before a
+-- manifest is installed the places of its records are put by slices.
 abbrev pub IsCallAlone : {D : Type 0} → Ghosts D → Unit {0} → StoreCall → Result Done Refusal
     → Unit {0} → Type 0
 IsCallAlone d _ call result _ = IsAloneWith d (slices_of call) call result

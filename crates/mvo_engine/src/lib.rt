@@ -25,6 +25,7 @@ mod seen_durable;
 mod sends;
 mod session;
 mod slice;
+mod sliced;
 mod stats;
 mod store_guard;
 mod taken;

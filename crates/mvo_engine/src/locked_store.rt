@@ -2,7 +2,7 @@ mod standing;
 
 ghost use Rattle.std.specs.Prelude.{◌≡◌, Some, IsTrue, IfOk};
 ghost use Rattle.mvo_store.specs.Calls.{IsStoreStep};
-ghost use Rattle.mvo_engine.specs.Calls.{asked_by, AnswersAsked};
+ghost use Rattle.mvo_engine.specs.Calls.{asked_by, told_as, AnswersAsked};
 ghost use Rattle.mvo_types.specs.declared.refusal.Refusal.{Refusal};
 
 use crate::chain::Chain;
@@ -213,7 +213,9 @@ impl<L: Run, D: Disk> LockedStore<L, D> {
         Ok(())
     }
 
-    /// As `Store::checkpoint_slice`, `Store::merge_slice` or `Store::place_slice`.
+    /// As the call of `Store` that makes this slice: `checkpoint_slice`, `merge_slice`,
+    /// `place_slice`, `merge_begin`, which answers More, `merge_read_slice`, or `merge_forget`,
+    /// which answers Ready.
     pub fn slice(&mut self, slice: Slice) -> Result<Progress, Refusal>
         ensures { IsLockedSlice D.Disk self.old slice result self.new }
     {
@@ -258,6 +260,19 @@ fn slice_of<D: Disk>(store: &mut Store<D>, slice: Slice) -> Result<Progress, Ref
         Slice::Checkpoint => store.checkpoint_slice(),
         Slice::Merge => store.merge_slice(),
         Slice::Places => store.place_slice(),
+        Slice::MergeBegin(place) => told(store.merge_begin(place), Progress::More),
+        Slice::MergeRead => store.merge_read_slice(),
+        Slice::MergeForget => told(store.merge_forget(), Progress::Ready),
+    }
+}
+
+// What is told of what has no answer.
+fn told(done: Result<(), Refusal>, progress: Progress) -> Result<Progress, Refusal>
+    ensures { result ≡ told_as progress done }
+{
+    match done {
+        Ok(()) => Ok(progress),
+        Err(refusal) => Err(refusal),
     }
 }
 

@@ -7,4 +7,11 @@ pub enum Slice {
     Merge,
     /// The places of the records are put of the job whose manifest is the next to be installed.
     Places,
+    /// The pair at this place, counted from 0, and the one behind it begin to be read, to be
+    /// merged.
+    MergeBegin(usize),
+    /// They are read on.
+    MergeRead,
+    /// What is read of them is forgotten.
+    MergeForget,
 }

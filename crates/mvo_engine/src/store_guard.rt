@@ -116,8 +116,10 @@ impl<'e, L: Run, D: Disk> StoreGuard<'e, L, D> {
         self.held.call(self.marks, call)
     }
 
-    /// The next slice of a data file or of the places, as `Store::checkpoint_slice`,
-    /// `Store::merge_slice` and `Store::place_slice`: whether more are left.
+    /// The next slice of a data file, of the places or of two pairs that are to be merged, as
+    /// `Store::checkpoint_slice`, `Store::merge_slice`, `Store::place_slice` and
+    /// `Store::merge_read_slice`: whether more are left. More comes with `Store::merge_begin`, and
+    /// Ready with `Store::merge_forget`.
     pub fn slice(&mut self, slice: Slice) -> Result<Progress, Refusal>
         ensures { IsLockedSlice D.Disk self.old slice result self.new }
     {

@@ -9,9 +9,10 @@ use Rattle.mvo_store.specs.declared.jobs.due.Due.{Due}
 use Rattle.mvo_store.specs.declared.jobs.jobs.Jobs.{Jobs}
 use Rattle.mvo_store.specs.declared.jobs.jobs.Jobs.TheVariants.{Rotation as RotationAlone, Merge as MergeAlone, Beside}
 use Rattle.mvo_store.specs.declared.checkpoint.checkpointing.Checkpointing.{Checkpointing}
-use Rattle.mvo_store.specs.declared.merge.merging.Merging.{Merging}
-use Rattle.mvo_store.specs.Jobs.{keeps_checkpoint_out, is_of_merge, merge_by, checkpoint_behind, with_step, merge_upto, checkpoint_upto, jobs_upto, next_installed, after_install}
-use Rattle.mvo_store.specs.Placing.{places_so_far, HavePlacesSoFar}
+use Rattle.mvo_store.specs.declared.merge.merge_job.MergeJob.{MergeJob}
+use Rattle.mvo_store.specs.declared.merge.merge_job.MergeJob.TheVariants.{Reading, Running}
+use Rattle.mvo_store.specs.Jobs.{keeps_checkpoint_out, is_of_merge, merge_by, checkpoint_behind, with_step, merge_job_upto, checkpoint_upto, jobs_upto, next_installed, after_install, reading_of, checkpoint_by}
+use Rattle.mvo_store.specs.Placing.{checkpoint_placed, with_places, places_so_far, HavePlacesSoFar}
 use Rattle.mvo_store.proofs.Turning.{begins_beside_merge}
 
 -- ---- they are the same
@@ -41,24 +42,68 @@ slice_changes upto step (RotationAlone fresh i) at = refl
 slice_changes upto step (MergeAlone seen placed i) at = refl
 slice_changes upto step (Beside None g) at = go (is_of_merge step)
   where
-    go : (b : Bool) → places_so_far (next_installed (cond b (Beside None (option_map (merge_upto upto) g)) (Beside None g))) at ≡ at
+    go : (b : Bool) → places_so_far (next_installed (cond b (Beside None (option_map (merge_job_upto upto) g)) (Beside None g))) at ≡ at
     go true = refl
     go false = refl
 slice_changes upto step (Beside (Some c) g) at = go (is_of_merge step)
   where
-    go : (b : Bool) → places_so_far (next_installed (cond b (Beside (Some c) (option_map (merge_upto upto) g)) (Beside (Some (checkpoint_upto upto c)) g))) at ≡ places_so_far (next_installed (Beside (Some c) g)) at
+    go : (b : Bool) → places_so_far (next_installed (cond b (Beside (Some c) (option_map (merge_job_upto upto) g)) (Beside (Some (checkpoint_upto upto c)) g))) at ≡ places_so_far (next_installed (Beside (Some c) g)) at
     go true = refl
     go false = refl
 
 -- and where a merge begins
-pub merge_changes : (c : Option Checkpointing) (g h : Option Merging) (at : PlaceMap) → places_so_far (next_installed (Beside c g)) at ≡ places_so_far (next_installed (Beside c h)) at
+pub merge_changes : (c : Option Checkpointing) (g h : Option MergeJob) (at : PlaceMap) → places_so_far (next_installed (Beside c g)) at ≡ places_so_far (next_installed (Beside c h)) at
 merge_changes None g h at = refl
 merge_changes (Some c) g h at = refl
+
+-- ---- the merge whose pairs are read
+
+-- is the same, whatever checkpoint runs beside it
+pub beside_reads : (a b : Option Checkpointing) (g : Option MergeJob) → reading_of (Beside a g) ≡ reading_of (Beside b g)
+beside_reads a b None = refl
+beside_reads a b (Some (Reading r)) = refl
+beside_reads a b (Some (Running g)) = refl
+
+-- and behind a step
+pub step_reads : (step : Due) (jobs : Jobs) → reading_of (with_step step jobs) ≡ reading_of jobs
+step_reads step (RotationAlone fresh i) = refl
+step_reads step (MergeAlone seen placed i) = refl
+step_reads step (Beside c g) = go (is_of_merge step)
+  where
+    by_merge : (g : Option MergeJob) → reading_of (Beside c (merge_by g)) ≡ reading_of (Beside c g)
+    by_merge None = refl
+    by_merge (Some (Reading r)) = refl
+    by_merge (Some (Running g)) = refl
+
+    go : (b : Bool) → reading_of (cond b (Beside c (merge_by g)) (Beside (checkpoint_by c) g)) ≡ reading_of (Beside c g)
+    go true = by_merge g
+    go false = beside_reads (checkpoint_by c) c g
+
+-- and behind a slice of a data file
+pub slice_reads : (upto : ℕ) (step : Due) (jobs : Jobs) → reading_of (jobs_upto upto step jobs) ≡ reading_of jobs
+slice_reads upto step (RotationAlone fresh i) = refl
+slice_reads upto step (MergeAlone seen placed i) = refl
+slice_reads upto step (Beside c g) = go (is_of_merge step)
+  where
+    by_merge : (g : Option MergeJob) → reading_of (Beside c (option_map (merge_job_upto upto) g)) ≡ reading_of (Beside c g)
+    by_merge None = refl
+    by_merge (Some (Reading r)) = refl
+    by_merge (Some (Running g)) = refl
+
+    go : (b : Bool) → reading_of (cond b (Beside c (option_map (merge_job_upto upto) g)) (Beside (option_map (checkpoint_upto upto) c) g)) ≡ reading_of (Beside c g)
+    go true = by_merge g
+    go false = beside_reads (option_map (checkpoint_upto upto) c) c g
+
+-- and behind a slice of places
+pub place_reads : (jobs : Jobs) → reading_of (with_places jobs) ≡ reading_of jobs
+place_reads (RotationAlone fresh i) = refl
+place_reads (MergeAlone seen placed i) = refl
+place_reads (Beside c g) = beside_reads (option_map checkpoint_placed c) c g
 
 -- ---- there are none
 
 -- where a checkpoint begins
-pub checkpoint_changes : (c : Checkpointing) (g : Option Merging) (at : PlaceMap) → c.placed ≡ 0 → places_so_far (next_installed (Beside (Some c) g)) at ≡ at
+pub checkpoint_changes : (c : Checkpointing) (g : Option MergeJob) (at : PlaceMap) → c.placed ≡ 0 → places_so_far (next_installed (Beside (Some c) g)) at ≡ at
 checkpoint_changes c g at none = ap (λ (n : ℕ). taken_upto c.pair.data_file c.made.records c.made.gone n at) none ∙ none_taken c.pair.data_file c.made.records c.made.gone at
 
 -- and behind an install

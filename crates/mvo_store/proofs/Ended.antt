@@ -15,6 +15,7 @@ use Rattle.mvo_store.specs.declared.install.install_step.InstallStep.TheVariants
 use Rattle.mvo_store.specs.declared.merge.stage.MergeStage.{MergeStage}
 use Rattle.mvo_store.specs.declared.merge.stage.MergeStage.TheVariants.{Data as MergeAtData, Delta as MergeAtDelta}
 use Rattle.mvo_store.specs.declared.merge.merging.Merging.{Merging}
+use Rattle.mvo_store.specs.declared.merge.merge_job.MergeJob.TheVariants.{Running}
 use Rattle.mvo_store.specs.declared.jobs.jobs.Jobs.{Jobs}
 use Rattle.mvo_store.specs.declared.jobs.jobs.Jobs.TheVariants.{Merge as MergeAlone, Beside}
 use Rattle.mvo_store.specs.StoreData.{StoreData}
@@ -50,7 +51,7 @@ last_stage MergeAtDelta e = refl
 pub record EndsAlone {D : Type 0} (d : Ghosts D) (s : StoreData D) : Type 0 where
   pub begins : Begins d s EndMerge
   pub merge : Merging
-  pub is : s.jobs ≡ Beside None (Some merge)
+  pub is : s.jobs ≡ Beside None (Some (Running merge))
   pub at : merge.stage ≡ MergeAtDelta
 
 module _ {D : Type 0} (d : Ghosts D) (s t : StoreData D) (same : s ≡ t) (none : why_not_merge_delta t ≡ None) (invariant : s.down ≡ false → IsStoreSound d s) where
@@ -58,17 +59,17 @@ module _ {D : Type 0} (d : Ghosts D) (s t : StoreData D) (same : s ≡ t) (none 
   begun = begins d s t EndMerge same none invariant
 
   -- one runs
-  pub runs_alone : (g : Merging) × (s.jobs ≡ Beside None (Some g)) × (merge_due_of g.stage ≡ MergeDelta)
+  pub runs_alone : (g : Merging) × (s.jobs ≡ Beside None (Some (Running g))) × (merge_due_of g.stage ≡ MergeDelta)
   runs_alone = let may = may_end s begun.none in ends_alone s.jobs may.0 may.1
 
   -- it is this one
-  pub last_at : (merge : Merging) → s.jobs ≡ Beside None (Some merge) → merge.stage ≡ MergeAtDelta
+  pub last_at : (merge : Merging) → s.jobs ≡ Beside None (Some (Running merge)) → merge.stage ≡ MergeAtDelta
   last_at merge is =
-      let e : Beside None (Some runs_alone.0) ≡ Beside None (Some merge) = sym runs_alone.1 ∙ is in
+      let e : Beside None (Some (Running runs_alone.0)) ≡ Beside None (Some (Running merge)) = sym runs_alone.1 ∙ is in
       let it : runs_alone.0 ≡ merge = cc in
       last_stage merge.stage (subst (λ (k : Merging). merge_due_of k.stage ≡ MergeDelta) it runs_alone.2)
 
-  abbrev pub ends_at : (merge : Merging) → s.jobs ≡ Beside None (Some merge) → EndsAlone d s
+  abbrev pub ends_at : (merge : Merging) → s.jobs ≡ Beside None (Some (Running merge)) → EndsAlone d s
   ends_at merge is = record { begins = begun; merge = merge; is = is; at = last_at merge is }
 
 module _ {D : Type 0} {d : Ghosts D} {s : StoreData D} (b : EndsAlone d s) where
@@ -112,11 +113,11 @@ module _ {D : Type 0} {d : Ghosts D} {s : StoreData D} (b : EndsAlone d s) where
           let made = e.ended.makes honest up.parts stood in
           let stands = made.stands no_gate in
           stays_up d s rows up new s.places alone stands.settled (w.rest.content s.segment.file (λ f. w.other (subst (IsLastFile s.manifest) f up.last)))
-          (step_stays (d.content s.disk) (d.content new) (d.may_leave s.disk) s.manifest up.parts up.settled made.counts (Merge g) stood.job.work w.file w.is w.rest.content) (stands.job, tt) tt
+          (step_stays (d.content s.disk) (d.content new) (d.may_leave s.disk) s.manifest up.parts up.settled made.counts (Merge g) stood.job.work w.file w.is w.rest.content) (stands.job, tt) tt tt
           (same_changes s.manifest.pairs up.parts.lives s.jobs alone s.places.at (λ at. sym (ap (λ (k : Jobs). places_so_far (next_installed k) at) b.is)) up.places) (tt, tt) e.count
 
       ended_safe : IsSafe d ended
-      ended_safe = stays_safe b.begins.sound.safe new s.places alone (record { pair = safe_here.pair; within = omega arith; next_is = ap (λ (n : ManifestData). n.generation) e.ended.next_is }, tt) tt (tt, tt) e.count
+      ended_safe = stays_safe b.begins.sound.safe new s.places alone (record { pair = safe_here.pair; within = omega arith; next_is = ap (λ (n : ManifestData). n.generation) e.ended.next_is }, tt) tt tt (tt, tt) e.count
 
       -- THE STORE IS SOUND WITH THE MERGE'S MANIFEST.
       pub ended_sound : IsStoreSound d (record s { disk = new; jobs = with_manifest next s.jobs })

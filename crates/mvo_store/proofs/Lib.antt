@@ -13,6 +13,7 @@ pub mod Numbered
 pub mod Beside
 pub mod Turning
 pub mod Changes
+pub mod Readings
 pub mod Beginning
 pub mod Still
 pub mod Dues
@@ -25,4 +26,7 @@ pub mod Marked
 pub mod Unwritten
 pub mod Slicing
 pub mod SlicedStore
+pub mod Forgotten
 pub mod PlacedStore
+pub mod ReadOn
+pub mod ReadStore

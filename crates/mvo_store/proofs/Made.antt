@@ -20,15 +20,18 @@ use Rattle.mvo_store.specs.declared.jobs.jobs.Jobs.{Jobs}
 use Rattle.mvo_store.specs.declared.jobs.jobs.Jobs.TheVariants.{Beside}
 use Rattle.mvo_store.specs.declared.checkpoint.checkpointing.Checkpointing.{Checkpointing}
 use Rattle.mvo_store.specs.declared.merge.merging.Merging.{Merging}
+use Rattle.mvo_store.specs.declared.merge.merge_job.MergeJob.{MergeJob}
+use Rattle.mvo_store.specs.declared.merge.merge_job.MergeJob.TheVariants.{Running}
 use Rattle.mvo_store.specs.StoreData.{StoreData}
 use Rattle.mvo_store.specs.Causes.{replaces_last, why_not_due, why_not_install_open}
 use Rattle.mvo_store.specs.Files.{files_taken}
 use Rattle.mvo_store.specs.Merging.{seen_with, pair_with}
-use Rattle.mvo_store.specs.Jobs.{Job, job_takes_file, job_due, is_step_due, step_due, after_step, with_step, with_checkpoint, with_merge, next_installed, after_install, has_rotation, merge_pair, checkpoint_pair}
+use Rattle.mvo_store.specs.Jobs.{Job, job_takes_file, job_due, is_step_due, step_due, after_step, with_step, with_checkpoint, with_merge, next_installed, after_install, has_rotation, reading_of, merge_pair, checkpoint_pair}
 use Rattle.mvo_store.specs.Old.{AreUnmarked}
 use Rattle.mvo_store.specs.Planning.{IsNewCheckpoint, IsReadCheckpoint}
 use Rattle.mvo_store.specs.MergePlanning.{IsNewMerge}
 use Rattle.mvo_store.specs.MergeReading.{IsReadMerge}
+use Rattle.mvo_store.specs.PairsRead.{IsSafeReading, HasReading}
 use Rattle.mvo_store.specs.Safe.{IsSafeCheckpoint, IsSafeMerge, IsSafeWork, AreSafe, IsSafe, IsStoreSound}
 use Rattle.mvo_store.specs.Standing.{IsRotating, IsRunning, HasWork, HaveJobs, ShareNone, JobsHaveRoom, JobHasRoom, IsUp, MayTakeOverOf, HaveKeysOf}
 use Rattle.mvo_store.specs.Steps.{manifest_after, places_after, manifest_by, segment_by, places_by, filled_by, IsNextBy, IsNextOf, IsCheckpointOf, IsMergeOf}
@@ -37,7 +40,7 @@ use Rattle.mvo_store.specs.Calls.{StoreStep, IsReadToCheckpoint, IsReadToMerge, 
 use Rattle.mvo_store.specs.Calls.StoreStep.{Call}
 use Rattle.mvo_store.specs.declared.call.StoreCall.TheVariants.{CheckpointRead, MergeRead, Step}
 use Rattle.mvo_store.specs.Placing.{places_so_far}
-use Rattle.mvo_store.proofs.Changes.{same_changes, as_they_are, merge_changes, checkpoint_changes, free_places}
+use Rattle.mvo_store.proofs.Changes.{same_changes, as_they_are, merge_changes, checkpoint_changes, beside_reads, free_places}
 use Rattle.mvo_store.proofs.Keeping.{OnlyNow, CountsNow, Begins, begins, may_open, none_keeps_checkpoint, none_keeps_merge, stays_safe, fault_step, done_step}
 use Rattle.mvo_store.proofs.Beside.{IsDueIn, due_in_jobs}
 use Rattle.mvo_store.proofs.Beside.IsDueIn.{TheRotation, TheMerge, TheCheckpoint, OfMerge}
@@ -209,10 +212,10 @@ module _ {D : Type 0} {d : Ghosts D} {s : StoreData D} (b : Begins d s (Call Che
   unplaced = to.plan.unplaced
 
   -- the merge that runs, if one does
-  merge_here : (g : Option Merging) × (s.jobs ≡ Beside None g)
+  merge_here : (g : Option MergeJob) × (s.jobs ≡ Beside None g)
   merge_here = begins_beside_merge s.jobs (none_keeps_checkpoint s b.none)
 
-  abbrev g : Option Merging
+  abbrev g : Option MergeJob
   g = merge_here.0
 
   abbrev now_run : Jobs
@@ -239,14 +242,18 @@ module _ {D : Type 0} {d : Ghosts D} {s : StoreData D} (b : Begins d s (Call Che
   are_free : (rows : Map) (up : IsUp d s rows) → ArePlaces s.manifest.pairs up.parts.lives s.places.at
   are_free rows up = free_places s.manifest.pairs up.parts.lives s.jobs s.places.at (none_keeps_checkpoint s b.none) up.places
 
+  -- the merge whose pairs are read, if one is, is the same
+  same_reading : reading_of now_run ≡ reading_of s.jobs
+  same_reading = beside_reads (Some c) None g ∙ sym (ap reading_of merge_here.1)
+
   read_up : IsHonest (d.moment new) → (rows : Map) → IsUp d s rows → IsUp d (read now_run) rows
   read_up honest rows up = looked_up b new rest rows up places now_run (as_they_are s.manifest.pairs up.parts.lives now_run places.at (λ at. checkpoint_changes c g at unplaced) (subst (λ (at : PlaceMap). ArePlaces s.manifest.pairs up.parts.lives at) (sym same) (are_free rows up))) have_room
-      (with_checkpoint_all (IsRunning (d.content s.disk) (d.may_leave s.disk) s.manifest up.parts) c g (stands honest up.parts up.settled (are_free rows up)) (subst (HaveJobs (d.content s.disk) (d.may_leave s.disk) s.manifest up.parts) merge_here.1 up.jobs)) apart count
+      (with_checkpoint_all (IsRunning (d.content s.disk) (d.may_leave s.disk) s.manifest up.parts) c g (stands honest up.parts up.settled (are_free rows up)) (subst (HaveJobs (d.content s.disk) (d.may_leave s.disk) s.manifest up.parts) merge_here.1 up.jobs)) apart (subst (HasReading (d.content s.disk) s.manifest) (sym same_reading) up.reading) count
 
   -- THE STORE IS SOUND WITH THE CHECKPOINT.
   pub checkpoint_sound : IsStoreSound d (read (with_checkpoint c s.jobs))
   checkpoint_sound = subst (λ (k : Jobs). IsStoreSound d (read k)) jobs_are (record {
-    safe = stays_safe b.sound.safe new places now_run are_safe apart have_room count;
+    safe = stays_safe b.sound.safe new places now_run are_safe apart (subst (IsSafeReading s.manifest) (sym same_reading) b.sound.safe.reading) have_room count;
     up = λ honest. let now = b.sound.up (any_moment.later.honest honest) in (now.0, read_up honest now.0 now.1);
   })
 
@@ -271,7 +278,7 @@ module _ {D : Type 0} {d : Ghosts D} {s : StoreData D} {place : ℕ} (b : Begins
   c = checkpoint_here.0
 
   abbrev both_run : Jobs
-  both_run = Beside c (Some g)
+  both_run = Beside c (Some (Running g))
 
   abbrev merging : Jobs → StoreData D
   merging jobs = record s { disk = new; jobs = jobs }
@@ -292,13 +299,13 @@ module _ {D : Type 0} {d : Ghosts D} {s : StoreData D} {place : ℕ} (b : Begins
   both_safe = with_merge_all (IsSafeWork s.manifest) c g safe (subst (AreSafe s.manifest) checkpoint_here.1 b.sound.safe.jobs)
 
   merge_up : IsHonest (d.moment new) → (rows : Map) → IsUp d s rows → IsUp d (merging both_run) rows
-  merge_up honest rows up = looked_up b new rest rows up s.places both_run (same_changes s.manifest.pairs up.parts.lives s.jobs both_run s.places.at (λ at. merge_changes c (Some g) None at ∙ ap (λ (k : Jobs). places_so_far (next_installed k) at) (sym checkpoint_here.1)) up.places) (both_room (subst (JobsHaveRoom s.places) checkpoint_here.1 up.room_for))
-      (with_merge_all (IsRunning (d.content s.disk) (d.may_leave s.disk) s.manifest up.parts) c g (stands honest up.parts up.places.at up.settled up.places.are) (subst (HaveJobs (d.content s.disk) (d.may_leave s.disk) s.manifest up.parts) checkpoint_here.1 up.jobs)) both_apart count
+  merge_up honest rows up = looked_up b new rest rows up s.places both_run (same_changes s.manifest.pairs up.parts.lives s.jobs both_run s.places.at (λ at. merge_changes c (Some (Running g)) None at ∙ ap (λ (k : Jobs). places_so_far (next_installed k) at) (sym checkpoint_here.1)) up.places) (both_room (subst (JobsHaveRoom s.places) checkpoint_here.1 up.room_for))
+      (with_merge_all (IsRunning (d.content s.disk) (d.may_leave s.disk) s.manifest up.parts) c g (stands honest up.parts up.places.at up.settled up.places.are) (subst (HaveJobs (d.content s.disk) (d.may_leave s.disk) s.manifest up.parts) checkpoint_here.1 up.jobs)) both_apart tt count
 
   -- THE STORE IS SOUND WITH THE MERGE.
   pub merge_sound : IsStoreSound d (merging (with_merge g s.jobs))
   merge_sound = subst (λ (k : Jobs). IsStoreSound d (merging k)) both_are (record {
-    safe = stays_safe b.sound.safe new s.places both_run both_safe both_apart (both_room (subst (JobsHaveRoom s.places) checkpoint_here.1 b.sound.safe.room_for)) count;
+    safe = stays_safe b.sound.safe new s.places both_run both_safe both_apart tt (both_room (subst (JobsHaveRoom s.places) checkpoint_here.1 b.sound.safe.room_for)) count;
     up = λ honest. let now = b.sound.up (any_moment.later.honest honest) in (now.0, merge_up honest now.0 now.1);
   })
 

@@ -120,7 +120,7 @@ module _ (image : Image) (m : ManifestData) (rows : Map) (mark gate : ℕ) (load
 -- the store over what was read is safe
 pub opened_safe : {D : Type 0} (d : Ghosts D) (old new : D) (m : ManifestData) (places : PlaceTable) (marks : List Bool) (mark gate file : ℕ) → IsFile file → gate < MAX_SEGMENT_LEN → HasSynced d (IsUsed m) 1024 old new → d.fault_count old < MAX_FAULTS
     → IsSafe d (record { disk = new; manifest = m; places = places; old_marks = marks; segment = record { file = file; gate = gate; next = gate }; mark = mark; pending = None; written = false; jobs = no_jobs; down = false })
-opened_safe d old new m places marks mark gate file is few synced faults = record { file = is; few = few; written = λ e. absurd (cc e); jobs = tt; apart = tt; room_for = tt; room = omega (arith, synced.count, faults) }
+opened_safe d old new m places marks mark gate file is few synced faults = record { file = is; few = few; written = λ e. absurd (cc e); jobs = tt; apart = tt; reading = tt; room_for = tt; room = omega (arith, synced.count, faults) }
 
 module _ {D : Type 0} (d : Ghosts D) (old new : D) (m : ManifestData) (rows : Map) (mark gate file : ℕ) (loaded : IsLoaded (d.content old) m rows mark gate) (places : PlaceTable) (have : HavePlaces m.version (d.content old) m.pairs places.at) (marks : List Bool) (knows : KnowsOld (d.content old) m 1024 marks) (synced : HasSynced d (IsUsed m) 1024 old new) (is : IsLastFile m file) (few : d.fault_count old < MAX_FAULTS) where
   abbrev pub opened_store : StoreData D

@@ -11,6 +11,7 @@ use Rattle.mvo_merge.specs.Moved.{HaveOwnKeys}
 use Rattle.mvo_merge.proofs.Kept.{own_keys}
 use Rattle.mvo_recovery.specs.Parts.{Parts}
 use Rattle.mvo_store.specs.declared.limits.TheConstants.{PLACES_A_SLICE}
+use Rattle.mvo_store.specs.declared.merge.merge_job.MergeJob.TheVariants.{Reading, Running}
 use Rattle.mvo_store.specs.declared.jobs.jobs.Jobs.{Jobs}
 use Rattle.mvo_store.specs.declared.jobs.jobs.Jobs.TheVariants.{Rotation as RotationAlone, Merge as MergeAlone, Beside}
 use Rattle.mvo_store.specs.StoreData.{StoreData}
@@ -18,10 +19,12 @@ use Rattle.mvo_store.specs.Jobs.{Job, jobs_of, next_installed}
 use Rattle.mvo_store.specs.Jobs.Job.{Rotation, Checkpoint, Merge, MergeInstall}
 use Rattle.mvo_store.specs.Placing.{change_count, changes_behind, checkpoint_placed, with_places, places_so_far}
 use Rattle.mvo_store.specs.Standing.{IsRunning, HaveJobs, ShareNone, JobsHaveRoom, IsUp, MayTakeOverOf, HaveKeysOf}
+use Rattle.mvo_store.specs.PairsRead.{IsSafeReading, HasReading}
 use Rattle.mvo_store.specs.Safe.{IsSafeWork, AreSafe, IsStoreSound}
 use Rattle.mvo_store.specs.Calls.{IsStoreStep}
 use Rattle.mvo_store.specs.Calls.StoreStep.{Place}
 use Rattle.mvo_store.proofs.Keeping.{OnlyNow, Begins, stays_up, stays_safe, still_leaves, all_others, done_step}
+use Rattle.mvo_store.proofs.Changes.{place_reads}
 use Rattle.mvo_store.proofs.Dues.{safe_take_over}
 
 -- ---- how many are made
@@ -55,9 +58,11 @@ all_placed : (P Q : Job → Type 0) → ((j : Job) → P j → Q (placed_job j))
 all_placed P Q each (RotationAlone fresh i) all = (each (Rotation fresh i) all.0, tt)
 all_placed P Q each (MergeAlone seen placed i) all = (each (MergeInstall seen placed i) all.0, tt)
 all_placed P Q each (Beside None None) all = tt
-all_placed P Q each (Beside None (Some g)) all = (each (Merge g) all.0, tt)
+all_placed P Q each (Beside None (Some (Reading r))) all = tt
+all_placed P Q each (Beside (Some c) (Some (Reading r))) all = (each (Checkpoint c) all.0, tt)
+all_placed P Q each (Beside None (Some (Running g))) all = (each (Merge g) all.0, tt)
 all_placed P Q each (Beside (Some c) None) all = (each (Checkpoint c) all.0, tt)
-all_placed P Q each (Beside (Some c) (Some g)) all = (each (Checkpoint c) all.0, (each (Merge g) all.1.0, tt))
+all_placed P Q each (Beside (Some c) (Some (Running g))) all = (each (Checkpoint c) all.0, (each (Merge g) all.1.0, tt))
 
 -- what it has written stands
 placed_runs : (content : Image) (may : ℕ → List ℕ → Type 0) (m : ManifestData) (x : Parts) (j : Job) → IsRunning content may m x j → IsRunning content may m x (placed_job j)
@@ -77,7 +82,8 @@ share_placed (RotationAlone fresh i) apart = tt
 share_placed (MergeAlone seen placed i) apart = tt
 share_placed (Beside None g) apart = tt
 share_placed (Beside (Some c) None) apart = tt
-share_placed (Beside (Some c) (Some g)) apart = apart
+share_placed (Beside (Some c) (Some (Reading r))) apart = tt
+share_placed (Beside (Some c) (Some (Running g))) apart = apart
 
 -- the places of what it installs may be put
 may_place : (m : ManifestData) (places : PlaceTable) (jobs : Jobs) → AreSafe m jobs → JobsHaveRoom places jobs → MayTakeOverOf places (next_installed jobs)
@@ -112,11 +118,11 @@ module _ {D : Type 0} {d : Ghosts D} {s : StoreData D} (b : Begins d s Place) wh
     up_so : (rows : Map) → IsUp d s rows → IsUp d after rows
     up_so rows up = stays_up d s rows up s.disk places (with_places s.jobs) up.settled refl (λ n _. refl)
         (all_placed (IsRunning (d.content s.disk) (d.may_leave s.disk) s.manifest up.parts) (IsRunning (d.content s.disk) (d.may_leave s.disk) s.manifest up.parts) (placed_runs (d.content s.disk) (d.may_leave s.disk) s.manifest up.parts) s.jobs up.jobs)
-        (share_placed s.jobs up.apart) (record { at = up.places.at; are = up.places.are; so_far = took (keys_here rows up) up.places.at up.places.so_far }) (room up.room_for) refl
+        (share_placed s.jobs up.apart) (subst (HasReading (d.content s.disk) s.manifest) (sym (place_reads s.jobs)) up.reading) (record { at = up.places.at; are = up.places.are; so_far = took (keys_here rows up) up.places.at up.places.so_far }) (room up.room_for) refl
 
     pub placed_sound : IsStoreSound d after
     placed_sound = record {
-      safe = stays_safe b.sound.safe s.disk places (with_places s.jobs) (all_placed (IsSafeWork s.manifest) (IsSafeWork s.manifest) (placed_safe s.manifest) s.jobs b.sound.safe.jobs) (share_placed s.jobs b.sound.safe.apart) (room b.sound.safe.room_for) refl;
+      safe = stays_safe b.sound.safe s.disk places (with_places s.jobs) (all_placed (IsSafeWork s.manifest) (IsSafeWork s.manifest) (placed_safe s.manifest) s.jobs b.sound.safe.jobs) (share_placed s.jobs b.sound.safe.apart) (subst (IsSafeReading s.manifest) (sym (place_reads s.jobs)) b.sound.safe.reading) (room b.sound.safe.room_for) refl;
       up = λ honest. let now = b.sound.up honest in (now.0, up_so now.0 now.1);
     }
 

@@ -28,7 +28,10 @@ use Rattle.mvo_store.specs.declared.checkpoint.stage.CheckpointStage.TheVariants
 use Rattle.mvo_store.specs.declared.merge.stage.MergeStage.{MergeStage}
 use Rattle.mvo_store.specs.declared.merge.stage.MergeStage.TheVariants.{Data as MergeAtData, Delta as MergeAtDelta}
 use Rattle.mvo_store.specs.declared.merge.merging.Merging.{Merging}
+use Rattle.mvo_store.specs.declared.merge.merge_job.MergeJob.{MergeJob}
+use Rattle.mvo_store.specs.declared.merge.merge_job.MergeJob.TheVariants.{Reading, Running}
 use Rattle.mvo_store.specs.declared.merge.seen_pairs.SeenPairs.{SeenPairs}
+use Rattle.mvo_store.specs.declared.merge.reading.MergeReading.{MergeReading}
 use Rattle.mvo_store.specs.Checkpoint.{made_of, IsWrittenUpTo}
 use Rattle.mvo_store.specs.Merging.{IsMergeWritten}
 use Rattle.mvo_store.specs.Slices.{HasFirstRecords, HasAnyFirst}
@@ -185,9 +188,10 @@ module _ {D : Type 0} (d : Ghosts D) (old new : D) (m : ManifestData) (g : Mergi
 
 -- ---- the job whose data file is due
 
-no_merge : (g : Option Merging) → first_due Data (merge_alone g) ≡ None
+no_merge : (g : Option MergeJob) → first_due Data (merge_alone g) ≡ None
 no_merge None = refl
-no_merge (Some g) = go g.stage
+no_merge (Some (Reading r)) = refl
+no_merge (Some (Running g)) = go g.stage
   where
     go : (stage : MergeStage) → cond (eqb (step_number (merge_due_of stage)) (step_number Data)) (Some (Merge g)) None ≡ None
     go (MergeAtData written) = refl
@@ -201,20 +205,24 @@ no_checkpoint (AtInstall Body) = refl
 no_checkpoint (AtInstall Open) = refl
 
 -- a checkpoint's
-pub data_due : (c : Checkpointing) (g : Option Merging) → job_due Data (Beside (Some c) g) ≡ first_due Data (Checkpoint c ∷ [])
+pub data_due : (c : Checkpointing) (g : Option MergeJob) → job_due Data (Beside (Some c) g) ≡ first_due Data (Checkpoint c ∷ [])
 data_due c g = ap (λ (o : Option Job). cond (is_step_of Data (Checkpoint c)) (Some (Checkpoint c)) o) (no_merge g)
 
-pub no_data_due : (g : Option Merging) → job_due Data (Beside None g) ≡ None
+pub no_data_due : (g : Option MergeJob) → job_due Data (Beside None g) ≡ None
 no_data_due g = no_merge g
 
 -- a merge's
-pub merge_data_due : (c : Option Checkpointing) (g : Merging) → job_due MergeData (Beside c (Some g)) ≡ first_due MergeData (Merge g ∷ [])
+pub merge_data_due : (c : Option Checkpointing) (g : Merging) → job_due MergeData (Beside c (Some (Running g))) ≡ first_due MergeData (Merge g ∷ [])
 merge_data_due None g = refl
 merge_data_due (Some c) g = ap (λ b. cond b (Some (Checkpoint c)) (first_due MergeData (Merge g ∷ []))) (no_checkpoint c.stage)
 
 pub no_merge_data_due : (c : Option Checkpointing) → job_due MergeData (Beside c None) ≡ None
 no_merge_data_due None = refl
 no_merge_data_due (Some c) = ap (λ b. cond b (Some (Checkpoint c)) None) (no_checkpoint c.stage)
+
+pub no_merge_data_read : (c : Option Checkpointing) (r : MergeReading) → job_due MergeData (Beside c (Some (Reading r))) ≡ None
+no_merge_data_read None r = refl
+no_merge_data_read (Some c) r = ap (λ b. cond b (Some (Checkpoint c)) None) (no_checkpoint c.stage)
 
 -- none of those that run alone
 install_number : (k : InstallStep) → (eqb (step_number (Install k)) (step_number Data) ≡ false) × (eqb (step_number (Install k)) (step_number MergeData) ≡ false)

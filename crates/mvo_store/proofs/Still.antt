@@ -11,11 +11,13 @@ use Rattle.mvo_recovery.specs.Checkpoint.{NewNumbers, raise}
 use Rattle.mvo_recovery.specs.beside.Seen.{grown}
 use Rattle.mvo_store.specs.declared.checkpoint.checkpointing.Checkpointing.{Checkpointing}
 use Rattle.mvo_store.specs.declared.merge.merging.Merging.{Merging}
+use Rattle.mvo_store.specs.declared.merge.reading.MergeReading.{MergeReading}
 use Rattle.mvo_store.specs.Checkpoint.{gained, next_of}
 use Rattle.mvo_store.specs.Files.{is_named}
 use Rattle.mvo_store.specs.Jobs.{job_takes_file}
 use Rattle.mvo_store.specs.Jobs.Job.{Checkpoint, Merge}
-use Rattle.mvo_store.specs.Merging.{first_two, neighbours_at, StandStill}
+use Rattle.mvo_store.specs.Merging.{first_two, neighbours_at, AreStill}
+use Rattle.mvo_store.specs.PairsRead.{IsSafeRead}
 use Rattle.mvo_store.specs.Safe.{IsSafeCheckpoint, IsSafeMerge}
 use Rattle.mvo_store.specs.Standing.{ShareNoFile}
 use Rattle.mvo_store.proofs.Working.{IsOfPair}
@@ -37,16 +39,16 @@ raised_grown : (new : NewNumbers) (n : ℕ) (p : Pair) → raise new (grown n p)
 raised_grown new n p = let same : p.entries + n + length (new (grown n p)) ≡ p.entries + (n + length (new (grown n p))) = omega arith in ap (λ k. record p { entries = k }) same
 
 -- the two stand still
-still_after : (m : ManifestData) (c : Checkpointing) (g : Merging) → c.next ≡ next_of m c.pair c.made.deltas → StandStill m g.seen → StandStill c.next g.seen
-still_after m c g is still =
+still_after : (m : ManifestData) (c : Checkpointing) (place : ℕ) (left right : Pair) → c.next ≡ next_of m c.pair c.made.deltas → AreStill m place left right → AreStill c.next place left right
+still_after m c place left right is still =
     let new = gained c.made.deltas in
     record {
-      more_left = still.more_left + length (new (grown still.more_left g.seen.left));
-      more_right = still.more_right + length (new (grown still.more_right g.seen.right));
-      two = ap (λ (k : ManifestData). neighbours_at g.seen.place k.pairs) is
-          ∙ neighbours_raised new m.pairs (c.pair ∷ []) g.seen.place (grown still.more_left g.seen.left) (grown still.more_right g.seen.right) still.two
-          ∙ ap (λ (p : Pair). Some (p, raise new (grown still.more_right g.seen.right))) (raised_grown new still.more_left g.seen.left)
-          ∙ ap (λ (q : Pair). Some (grown (still.more_left + length (new (grown still.more_left g.seen.left))) g.seen.left, q)) (raised_grown new still.more_right g.seen.right);
+      more_left = still.more_left + length (new (grown still.more_left left));
+      more_right = still.more_right + length (new (grown still.more_right right));
+      two = ap (λ (k : ManifestData). neighbours_at place k.pairs) is
+          ∙ neighbours_raised new m.pairs (c.pair ∷ []) place (grown still.more_left left) (grown still.more_right right) still.two
+          ∙ ap (λ (p : Pair). Some (p, raise new (grown still.more_right right))) (raised_grown new still.more_left left)
+          ∙ ap (λ (q : Pair). Some (grown (still.more_left + length (new (grown still.more_left left))) left, q)) (raised_grown new still.more_right right);
     }
 
 -- ---- the files stay free
@@ -94,7 +96,7 @@ merge_safe_after m c g apart first second =
     record {
       pair = second.pair;
       among = second.among;
-      still = still_after m c g first.next_is second.still;
+      still = still_after m c g.seen.place g.seen.left g.seen.right first.next_is second.still;
       may_become = record {
         generation = omega (arith, generation, first.generation);
         lo = may.lo;
@@ -107,4 +109,17 @@ merge_safe_after m c g apart first second =
         delta_unnamed = free g.seen.pair.delta_file (inr refl) may.delta_unnamed;
         two_files = may.two_files;
       };
+    }
+
+-- so is one whose pairs are read
+pub reading_safe_after : (m : ManifestData) (c : Checkpointing) (g : MergeReading) → IsSafeCheckpoint m c → IsSafeRead m g → IsSafeRead c.next g
+reading_safe_after m c g first second =
+    let generation : c.next.generation ≡ m.generation + 1 = ap (λ (k : ManifestData). k.generation) first.next_is in
+    record {
+      generation = omega (arith, generation, first.generation);
+      left_files = second.left_files;
+      right_files = second.right_files;
+      fits = second.fits;
+      still = still_after m c g.place g.left g.right first.next_is second.still;
+      read = second.read;
     }

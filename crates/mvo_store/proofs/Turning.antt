@@ -8,9 +8,12 @@ use Rattle.mvo_store.specs.declared.checkpoint.stage.CheckpointStage.{Checkpoint
 use Rattle.mvo_store.specs.declared.checkpoint.stage.CheckpointStage.TheVariants.{Data as AtData, Delta as AtDelta, Install as AtInstall}
 use Rattle.mvo_store.specs.declared.checkpoint.checkpointing.Checkpointing.{Checkpointing}
 use Rattle.mvo_store.specs.declared.merge.merging.Merging.{Merging}
+use Rattle.mvo_store.specs.declared.merge.merge_job.MergeJob.{MergeJob}
+use Rattle.mvo_store.specs.declared.merge.reading.MergeReading.{MergeReading}
+use Rattle.mvo_store.specs.declared.merge.merge_job.MergeJob.TheVariants.{Reading, Running}
 use Rattle.mvo_store.specs.declared.jobs.jobs.Jobs.{Jobs}
 use Rattle.mvo_store.specs.declared.jobs.jobs.Jobs.TheVariants.{Rotation as RotationAlone, Merge as MergeAlone, Beside}
-use Rattle.mvo_store.specs.Jobs.{Job, no_jobs, jobs_of, keeps_all_out, keeps_checkpoint_out, keeps_merge_out, has_checkpoint, due_of, merge_due_of, step_due, job_due, is_step_due, is_of_merge, with_step, after_step, checkpoint_by, merge_by, checkpoint_behind, with_data_file, after_install}
+use Rattle.mvo_store.specs.Jobs.{Job, no_jobs, jobs_of, keeps_all_out, keeps_checkpoint_out, keeps_merge_out, has_checkpoint, is_merge_read, due_of, merge_due_of, step_due, job_due, is_step_due, is_of_merge, with_step, after_step, checkpoint_by, merge_by, checkpoint_behind, with_data_file, after_install}
 use Rattle.mvo_store.specs.Jobs.Job.{Checkpoint, Merge}
 use Rattle.mvo_store.specs.Standing.{ShareNone}
 use Rattle.mvo_store.proofs.Beside.{IsDueIn, due_in_jobs, checkpoint_step, merge_step}
@@ -32,11 +35,11 @@ step_is (TheCheckpoint c g at) = at
 step_is (OfMerge c g at) = at
 
 -- those that run then
-pub with_checkpoint_step : (step : Due) (c : Checkpointing) (g : Option Merging) → is_of_merge step ≡ false → with_step step (Beside (Some c) g) ≡ Beside (Some (checkpoint_behind c)) g
+pub with_checkpoint_step : (step : Due) (c : Checkpointing) (g : Option MergeJob) → is_of_merge step ≡ false → with_step step (Beside (Some c) g) ≡ Beside (Some (checkpoint_behind c)) g
 with_checkpoint_step step c g is = ap (λ (b : Bool). cond b (Beside (Some c) (merge_by g)) (Beside (Some (checkpoint_behind c)) g)) is
 
-pub with_merge_step : (step : Due) (c : Option Checkpointing) (g : Merging) → is_of_merge step ≡ true → with_step step (Beside c (Some g)) ≡ Beside c (Some (with_data_file g))
-with_merge_step step c g is = ap (λ (b : Bool). cond b (Beside c (Some (with_data_file g))) (Beside (checkpoint_by c) (Some g))) is
+pub with_merge_step : (step : Due) (c : Option Checkpointing) (g : Merging) → is_of_merge step ≡ true → with_step step (Beside c (Some (Running g))) ≡ Beside c (Some (Running (with_data_file g)))
+with_merge_step step c g is = ap (λ (b : Bool). cond b (Beside c (Some (Running (with_data_file g)))) (Beside (checkpoint_by c) (Some (Running g)))) is
 
 -- what holds of each holds of that one
 pub of_due : (P : Job → Type 0) {step : Due} {jobs : Jobs} {j : Job} → IsDueIn step jobs j → AllByRecursion P (jobs_of jobs) → P j
@@ -48,13 +51,14 @@ of_due P (OfMerge (Some c) g at) all = all.1.0
 
 -- With that one a step on, and the other one as another fact says of it.
 pub all_stepped : (P Q : Job → Type 0) {step : Due} {jobs : Jobs} {j : Job} → IsDueIn step jobs j → AllByRecursion P (jobs_of jobs) → Q (after_step j)
-    → ((c : Checkpointing) (g : Merging) → jobs ≡ Beside (Some c) (Some g) → j ≡ Checkpoint c → P (Merge g) → Q (Merge g))
-    → ((c : Checkpointing) (g : Merging) → jobs ≡ Beside (Some c) (Some g) → j ≡ Merge g → P (Checkpoint c) → Q (Checkpoint c))
+    → ((c : Checkpointing) (g : Merging) → jobs ≡ Beside (Some c) (Some (Running g)) → j ≡ Checkpoint c → P (Merge g) → Q (Merge g))
+    → ((c : Checkpointing) (g : Merging) → jobs ≡ Beside (Some c) (Some (Running g)) → j ≡ Merge g → P (Checkpoint c) → Q (Checkpoint c))
     → AllByRecursion Q (jobs_of (with_step step jobs))
 all_stepped P Q (TheRotation fresh i at) all now of_merge of_checkpoint = (now, tt)
 all_stepped P Q (TheMerge seen placed i at) all now of_merge of_checkpoint = (now, tt)
 all_stepped P Q {step} (TheCheckpoint c None at) all now of_merge of_checkpoint = subst (λ (k : Jobs). AllByRecursion Q (jobs_of k)) (sym (with_checkpoint_step step c None (checkpoint_step c.stage step at))) (now, tt)
-all_stepped P Q {step} (TheCheckpoint c (Some g) at) all now of_merge of_checkpoint = subst (λ (k : Jobs). AllByRecursion Q (jobs_of k)) (sym (with_checkpoint_step step c (Some g) (checkpoint_step c.stage step at))) (now, (of_merge c g refl refl all.1.0, tt))
+all_stepped P Q {step} (TheCheckpoint c (Some (Reading r)) at) all now of_merge of_checkpoint = subst (λ (k : Jobs). AllByRecursion Q (jobs_of k)) (sym (with_checkpoint_step step c (Some (Reading r)) (checkpoint_step c.stage step at))) (now, tt)
+all_stepped P Q {step} (TheCheckpoint c (Some (Running g)) at) all now of_merge of_checkpoint = subst (λ (k : Jobs). AllByRecursion Q (jobs_of k)) (sym (with_checkpoint_step step c (Some (Running g)) (checkpoint_step c.stage step at))) (now, (of_merge c g refl refl all.1.0, tt))
 all_stepped P Q {step} (OfMerge None g at) all now of_merge of_checkpoint = subst (λ (k : Jobs). AllByRecursion Q (jobs_of k)) (sym (with_merge_step step None g (merge_step g.stage step at))) (now, tt)
 all_stepped P Q {step} (OfMerge (Some c) g at) all now of_merge of_checkpoint = subst (λ (k : Jobs). AllByRecursion Q (jobs_of k)) (sym (with_merge_step step (Some c) g (merge_step g.stage step at))) (of_checkpoint c g refl refl all.0, (now, tt))
 
@@ -63,7 +67,8 @@ pub share_stepped : {step : Due} {jobs : Jobs} {j : Job} → IsDueIn step jobs j
 share_stepped (TheRotation fresh i at) apart = tt
 share_stepped (TheMerge seen placed i at) apart = tt
 share_stepped {step} (TheCheckpoint c None at) apart = subst ShareNone (sym (with_checkpoint_step step c None (checkpoint_step c.stage step at))) tt
-share_stepped {step} (TheCheckpoint c (Some g) at) apart = subst ShareNone (sym (with_checkpoint_step step c (Some g) (checkpoint_step c.stage step at))) apart
+share_stepped {step} (TheCheckpoint c (Some (Reading r)) at) apart = subst ShareNone (sym (with_checkpoint_step step c (Some (Reading r)) (checkpoint_step c.stage step at))) tt
+share_stepped {step} (TheCheckpoint c (Some (Running g)) at) apart = subst ShareNone (sym (with_checkpoint_step step c (Some (Running g)) (checkpoint_step c.stage step at))) apart
 share_stepped {step} (OfMerge None g at) apart = subst ShareNone (sym (with_merge_step step None g (merge_step g.stage step at))) tt
 share_stepped {step} (OfMerge (Some c) g at) apart = subst ShareNone (sym (with_merge_step step (Some c) g (merge_step g.stage step at))) apart
 
@@ -84,8 +89,16 @@ begins_alone (Beside None None) e = refl
 begins_alone (Beside None (Some g)) e = absurd (cc e)
 begins_alone (Beside (Some c) g) e = absurd (cc e)
 
+-- a merge whose pairs are read, where one is
+pub is_read : (jobs : Jobs) → is_merge_read jobs ≡ true → (c : Option Checkpointing) × (r : MergeReading) × (jobs ≡ Beside c (Some (Reading r)))
+is_read (RotationAlone fresh i) e = absurd (cc e)
+is_read (MergeAlone seen placed i) e = absurd (cc e)
+is_read (Beside c None) e = absurd (cc e)
+is_read (Beside c (Some (Running g))) e = absurd (cc e)
+is_read (Beside c (Some (Reading r))) e = (c, r, refl)
+
 -- a checkpoint
-pub begins_beside_merge : (jobs : Jobs) → keeps_checkpoint_out jobs ≡ false → (g : Option Merging) × (jobs ≡ Beside None g)
+pub begins_beside_merge : (jobs : Jobs) → keeps_checkpoint_out jobs ≡ false → (g : Option MergeJob) × (jobs ≡ Beside None g)
 begins_beside_merge (RotationAlone fresh i) e = absurd (cc e)
 begins_beside_merge (MergeAlone seen placed i) e = absurd (cc e)
 begins_beside_merge (Beside None g) e = (g, refl)
@@ -99,7 +112,7 @@ begins_beside_checkpoint (Beside c None) e = (c, refl)
 begins_beside_checkpoint (Beside c (Some g)) e = absurd (cc e)
 
 -- the last file of a merge is written where no checkpoint runs
-pub ends_alone : (jobs : Jobs) → is_step_due MergeDelta jobs ≡ true → has_checkpoint jobs ≡ false → (g : Merging) × (jobs ≡ Beside None (Some g)) × (merge_due_of g.stage ≡ MergeDelta)
+pub ends_alone : (jobs : Jobs) → is_step_due MergeDelta jobs ≡ true → has_checkpoint jobs ≡ false → (g : Merging) × (jobs ≡ Beside None (Some (Running g))) × (merge_due_of g.stage ≡ MergeDelta)
 ends_alone jobs due none = let j = some_due MergeDelta jobs due in go (due_in_jobs MergeDelta jobs j.0 j.1) none
   where
     no_step : {A : Type 0} (stage : CheckpointStage) → due_of stage ≡ MergeDelta → A
@@ -107,7 +120,7 @@ ends_alone jobs due none = let j = some_due MergeDelta jobs due in go (due_in_jo
     no_step (AtDelta written) e = absurd (cc e)
     no_step (AtInstall step) e = absurd (cc e)
 
-    go : {jobs : Jobs} {j : Job} → IsDueIn MergeDelta jobs j → has_checkpoint jobs ≡ false → (g : Merging) × (jobs ≡ Beside None (Some g)) × (merge_due_of g.stage ≡ MergeDelta)
+    go : {jobs : Jobs} {j : Job} → IsDueIn MergeDelta jobs j → has_checkpoint jobs ≡ false → (g : Merging) × (jobs ≡ Beside None (Some (Running g))) × (merge_due_of g.stage ≡ MergeDelta)
     go (TheRotation fresh i at) e = absurd (cc at)
     go (TheMerge seen placed i at) e = absurd (cc at)
     go (TheCheckpoint c g at) e = no_step c.stage at

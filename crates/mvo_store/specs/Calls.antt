@@ -19,6 +19,7 @@ use Rattle.mvo_store.specs.declared.call.StoreCall.TheVariants.{AppendBody, Appe
 use Rattle.mvo_store.specs.declared.call.StoreCall.TheVariants.{CheckpointRead, MergeRead, Step, Reclaim}
 use Rattle.mvo_store.specs.declared.jobs.jobs.Jobs.TheVariants.{Beside}
 use Rattle.mvo_store.specs.declared.merge.merging.Merging.{Merging}
+use Rattle.mvo_store.specs.declared.merge.merge_job.MergeJob.TheVariants.{Running}
 use Rattle.mvo_store.specs.declared.jobs.progress.Progress.{Progress}
 use Rattle.mvo_store.specs.declared.jobs.progress.Progress.TheVariants.{More, Ready as AllWritten}
 use Rattle.mvo_store.specs.declared.done.Done.{Done}
@@ -30,9 +31,9 @@ use Rattle.mvo_store.specs.Standing.{IsKeeping, after_taken}
 use Rattle.mvo_store.specs.Causes.{why_not_take, why_not_append_body, why_not_append_open}
 use Rattle.mvo_store.specs.Causes.{replaces_last, why_not_rotate, why_not_checkpoint, why_not_merge}
 use Rattle.mvo_store.specs.Causes.{why_not_due, why_not_merge_delta, why_not_install_open}
-use Rattle.mvo_store.specs.Causes.{why_not_place, why_not_reclaim}
-use Rattle.mvo_store.specs.Jobs.{Job, no_jobs, job_due, is_step_due, with_step, sliced, slices_left, with_manifest, progress_of}
-use Rattle.mvo_store.specs.Steps.{IsRotationOf, IsCheckpointOf, IsMergeOf, HasInstalledNext, HasPlaced}
+use Rattle.mvo_store.specs.Causes.{why_not_place, why_not_merge_read, why_not_reclaim}
+use Rattle.mvo_store.specs.Jobs.{Job, no_jobs, job_due, is_step_due, is_merge_read, without_reading, with_step, sliced, slices_left, with_manifest, progress_of}
+use Rattle.mvo_store.specs.Steps.{IsRotationOf, IsCheckpointOf, IsMergeOf, IsBegunReading, IsMergeReadOn, HasInstalledNext, HasPlaced}
 use Rattle.mvo_store.specs.Placing.{are_places_left}
 use Rattle.mvo_store.specs.Files.{IsLeastFree}
 use Rattle.mvo_store.specs.Merging.{merged_at, pair_with}
@@ -47,6 +48,12 @@ pub data StoreStep : Type 0 where
   Slice : Due → StoreStep
   -- to make the next slice of the changes that a job makes of the places
   Place : StoreStep
+  -- to begin to read the pair at a place and the one behind it, which are to be merged, in slices
+  MergeBegin : (place : ℕ) → StoreStep
+  -- to read the next slice of them
+  MergeReadOn : StoreStep
+  -- to forget what is read of them
+  MergeForget : StoreStep
 
 -- ---- when it is refused
 
@@ -64,13 +71,17 @@ why_not_store s (Call (Step step)) = why_not_due step s
 why_not_store s (Call Reclaim) = why_not_reclaim s
 why_not_store s (Slice step) = why_not_due step s
 why_not_store s Place = why_not_place s
+why_not_store s (MergeBegin place) = why_not_merge place s
+why_not_store s MergeReadOn = why_not_merge_read s
+why_not_store s MergeForget = why_not_merge_read s
 
 -- What may refuse it where no cause stands: want of memory and a fault of the disk. Opening or
--- closing a gate and emptying a file take no memory, and taking a group and putting places ask for
--- neither. What is read may break a rule.
+-- closing a gate and emptying a file take no memory, and taking a group, putting places and
+-- forgetting what is read ask for neither. What is read may break a rule.
 abbrev pub MayMeet : StoreStep → Refusal → Type 0
 MayMeet (Take g) e = ⊥
 MayMeet Place e = ⊥
+MayMeet MergeForget e = ⊥
 MayMeet (Call AppendOpen) e = e ≡ DiskFault
 MayMeet (Call (Step (Install Close))) e = e ≡ DiskFault
 MayMeet (Call (Step (Install Open))) e = e ≡ DiskFault
@@ -78,6 +89,8 @@ MayMeet (Call Reclaim) e = e ≡ DiskFault
 MayMeet (Call CheckpointRead) e = (e ≡ OutOfMemory) ⊎ ((e ≡ DiskFault) ⊎ IsMisread e)
 MayMeet (Call (MergeRead place)) e = (e ≡ OutOfMemory) ⊎ ((e ≡ DiskFault) ⊎ IsMisread e)
 MayMeet (Call (Step MergeDelta)) e = (e ≡ OutOfMemory) ⊎ ((e ≡ DiskFault) ⊎ IsMisread e)
+MayMeet (MergeBegin place) e = (e ≡ OutOfMemory) ⊎ ((e ≡ DiskFault) ⊎ IsMisread e)
+MayMeet MergeReadOn e = (e ≡ OutOfMemory) ⊎ ((e ≡ DiskFault) ⊎ IsMisread e)
 MayMeet call e = (e ≡ OutOfMemory) ⊎ (e ≡ DiskFault)
 
 -- the first cause that stands is the refusal
@@ -144,6 +157,17 @@ pub record IsReadToMerge {D : Type 0} (d : Ghosts D) (place : ℕ) (old new : St
         old.jobs new.jobs
     pub after : HasNewJobs old new
 
+-- A merge of the pair at a place and the one behind it runs, of which nothing is read yet.
+pub record HasBegunReading {D : Type 0} (place : ℕ) (old new : StoreData D) : Type 0 where
+  pub merge : IsBegunReading old.manifest place old.jobs new.jobs
+  pub after : HasNewJobs old new
+
+-- The merge that runs has more of its pairs read, or all, and then nothing of it is written yet.
+pub record HasReadOn {D : Type 0} (d : Ghosts D) (old new : StoreData D) : Type 0 where
+  pub merge : IsMergeReadOn (IsHonest (d.moment new.disk)) (d.content old.disk) old.manifest
+      old.jobs new.jobs
+  pub after : HasNewJobs old new
+
 -- the job whose step this was has it behind it, and the other one is as it was
 abbrev pub HasStepped : {D : Type 0} → Due → StoreData D → StoreData D → Type 0
 HasStepped step old new =
@@ -157,7 +181,7 @@ HasSliced step old new = new ≡ record old { disk = new.disk; jobs = sliced ste
 -- Its manifest, which is made of the installed one, is to be installed.
 pub record IsMergeEnded {D : Type 0} (d : Ghosts D) (old new : StoreData D) : Type 0 where
   pub merge : Merging
-  pub was : old.jobs ≡ Beside None (Some merge)
+  pub was : old.jobs ≡ Beside None (Some (Running merge))
   pub late : List ℕ
   pub are : AreLateEntries (IsHonest (d.moment new.disk)) (d.content old.disk) old.manifest
       merge.seen late
@@ -183,6 +207,9 @@ Makes d (Call (Step step)) old new = HasStepped step old new
 Makes d (Call Reclaim) old new = new ≡ record old { disk = new.disk }
 Makes d (Slice step) old new = HasSliced step old new
 Makes d Place old new = HasPlaced (IsHonest (d.moment new.disk)) old new
+Makes d (MergeBegin place) old new = HasBegunReading place old new
+Makes d MergeReadOn old new = HasReadOn d old new
+Makes d MergeForget old new = new ≡ record old { jobs = without_reading old.jobs }
 
 -- so it does, and no call of the device failed
 pub record IsMade {D : Type 0} (d : Ghosts D) (call : StoreStep) (old new : StoreData D) : Type 0
@@ -207,6 +234,10 @@ AnswersSlice step new progress = progress ≡ slices_left (is_step_due step new.
 -- whether more changes of the places are left
 abbrev pub AnswersPlaces : {D : Type 0} → StoreData D → Progress → Type 0
 AnswersPlaces new progress = progress ≡ slices_left (are_places_left new.jobs)
+
+-- whether more of the pairs that are to be merged is left to be read
+abbrev pub AnswersReading : {D : Type 0} → StoreData D → Progress → Type 0
+AnswersReading new progress = progress ≡ slices_left (is_merge_read new.jobs)
 
 -- the generation of the installed manifest
 abbrev pub AnswersGeneration : {D : Type 0} → StoreData D → ℕ → Type 0
@@ -247,6 +278,8 @@ abbrev pub LeftByMemory : {D : Type 0} → Ghosts D → StoreStep → StoreData 
 LeftByMemory d (Call CheckpointRead) old new = HasLooked d old new
 LeftByMemory d (Call (MergeRead place)) old new = HasLooked d old new
 LeftByMemory d (Call (Step MergeDelta)) old new = HasLooked d old new
+LeftByMemory d (MergeBegin place) old new = HasLooked d old new
+LeftByMemory d MergeReadOn old new = HasLooked d old new
 LeftByMemory d call old new = new ≡ old
 
 -- A file came back otherwise than it was written: the store is down, and nothing else of it has

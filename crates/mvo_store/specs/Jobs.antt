@@ -16,6 +16,9 @@ use Rattle.mvo_store.specs.declared.checkpoint.checkpointing.Checkpointing.{Chec
 use Rattle.mvo_store.specs.declared.merge.stage.MergeStage.{MergeStage}
 use Rattle.mvo_store.specs.declared.merge.stage.MergeStage.TheVariants.{Data as MergeAtData, Delta as MergeAtDelta}
 use Rattle.mvo_store.specs.declared.merge.merging.Merging.{Merging}
+use Rattle.mvo_store.specs.declared.merge.reading.MergeReading.{MergeReading}
+use Rattle.mvo_store.specs.declared.merge.merge_job.MergeJob.{MergeJob}
+use Rattle.mvo_store.specs.declared.merge.merge_job.MergeJob.TheVariants.{Reading, Running}
 use Rattle.mvo_store.specs.declared.merge.seen_pairs.SeenPairs.{SeenPairs}
 use Rattle.mvo_store.specs.declared.jobs.due.Due.{Due}
 use Rattle.mvo_store.specs.declared.jobs.due.Due.TheVariants.{Data, Delta, MergeData, MergeDelta, Install}
@@ -40,15 +43,25 @@ abbrev pub checkpoint_alone : Option Checkpointing → List Job
 checkpoint_alone None = []
 checkpoint_alone (Some c) = Checkpoint c ∷ []
 
-abbrev pub merge_alone : Option Merging → List Job
+-- one whose pairs are read takes no file, and none of its steps is due
+abbrev pub merge_alone : Option MergeJob → List Job
 merge_alone None = []
-merge_alone (Some g) = Merge g ∷ []
+merge_alone (Some (Reading g)) = []
+merge_alone (Some (Running g)) = Merge g ∷ []
 
--- each of them
+-- each of them, but a merge whose pairs are read
 abbrev pub jobs_of : Jobs → List Job
 jobs_of (RotationAlone fresh i) = Rotation fresh i ∷ []
 jobs_of (MergeAlone seen placed i) = MergeInstall seen placed i ∷ []
 jobs_of (Beside c g) = checkpoint_alone c ++ merge_alone g
+
+-- the merge whose pairs are read
+abbrev pub reading_of : Jobs → Option MergeReading
+reading_of (Beside c (Some (Reading g))) = Some g
+reading_of jobs = None
+
+abbrev pub is_merge_read : Jobs → Bool
+is_merge_read jobs = is_some (reading_of jobs)
 
 -- ---- which of them keep another out
 
@@ -173,7 +186,7 @@ checkpoint_pair jobs = None
 
 -- that of a merge whose files aren't all written
 abbrev pub merge_pair : Jobs → Option Pair
-merge_pair (Beside c (Some g)) = Some g.seen.pair
+merge_pair (Beside c (Some (Running g))) = Some g.seen.pair
 merge_pair jobs = None
 
 -- ---- those that begin
@@ -185,8 +198,18 @@ with_checkpoint c jobs = jobs
 
 -- a merge, where none is kept out
 abbrev pub with_merge : Merging → Jobs → Jobs
-with_merge g (Beside c None) = Beside c (Some g)
+with_merge g (Beside c None) = Beside c (Some (Running g))
 with_merge g jobs = jobs
+
+-- so where its pairs are read first
+abbrev pub with_reading : MergeReading → Jobs → Jobs
+with_reading g (Beside c None) = Beside c (Some (Reading g))
+with_reading g jobs = jobs
+
+-- those that run, but a merge whose pairs are read
+abbrev pub without_reading : Jobs → Jobs
+without_reading (Beside c (Some (Reading g))) = Beside c None
+without_reading jobs = jobs
 
 -- ---- what a step makes of them
 
@@ -224,9 +247,13 @@ abbrev pub checkpoint_by : Option Checkpointing → Option Checkpointing
 checkpoint_by None = None
 checkpoint_by (Some c) = Some (checkpoint_behind c)
 
-abbrev pub merge_by : Option Merging → Option Merging
+abbrev pub merge_job_by : MergeJob → MergeJob
+merge_job_by (Reading g) = Reading g
+merge_job_by (Running g) = Running (with_data_file g)
+
+abbrev pub merge_by : Option MergeJob → Option MergeJob
 merge_by None = None
-merge_by (Some g) = Some (with_data_file g)
+merge_by (Some g) = Some (merge_job_by g)
 
 -- the step is one of a merge whose files aren't all written
 abbrev pub is_of_merge : Due → Bool
@@ -244,7 +271,7 @@ with_step step (Beside c g) =
 
 -- A merge with its last file written, and with this manifest to be installed, runs alone.
 abbrev pub with_manifest : ManifestData → Jobs → Jobs
-with_manifest next (Beside None (Some g)) =
+with_manifest next (Beside None (Some (Running g))) =
     MergeAlone g.seen 0 (record { next = next; step = Close })
 with_manifest next jobs = jobs
 
@@ -301,6 +328,10 @@ checkpoint_upto upto c = record c { stage = stage_upto upto (length c.made.recor
 abbrev pub merge_upto : ℕ → Merging → Merging
 merge_upto upto g = record g { stage = merge_stage_upto upto (length g.seen.made.records) }
 
+abbrev pub merge_job_upto : ℕ → MergeJob → MergeJob
+merge_job_upto upto (Reading g) = Reading g
+merge_job_upto upto (Running g) = Running (merge_upto upto g)
+
 abbrev pub job_upto : ℕ → Job → Job
 job_upto upto (Checkpoint c) = Checkpoint (checkpoint_upto upto c)
 job_upto upto (Merge g) = Merge (merge_upto upto g)
@@ -309,7 +340,7 @@ job_upto upto j = j
 -- Those that run, where the data file of the one whose step this is holds so many records.
 abbrev pub jobs_upto : ℕ → Due → Jobs → Jobs
 jobs_upto upto step (Beside c g) =
-    if is_of_merge step then Beside c (option_map (merge_upto upto) g)
+    if is_of_merge step then Beside c (option_map (merge_job_upto upto) g)
     else Beside (option_map (checkpoint_upto upto) c) g
 jobs_upto upto step jobs = jobs
 

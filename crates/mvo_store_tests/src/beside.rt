@@ -4,7 +4,8 @@ use crate::disks::hold;
 use crate::reply::Reply::{self, Done, Installed, Marked, Refused, Written};
 use crate::step::Step::{
     self, Append, Checkpoint, CheckpointData, CheckpointDelta, CheckpointRead, InstallBody,
-    InstallClose, InstallOpen, MergeData, MergeDelta, MergeRead, Rotate,
+    InstallClose, InstallOpen, MergeBegin, MergeData, MergeDelta, MergeRead, MergeReadSlice,
+    Rotate,
 };
 use crate::stores::{follow, following, gives, names, spans};
 use mvo_disk::MemDisk;
@@ -112,6 +113,37 @@ fn two_checkpoints_end_records_meanwhile(rt: HostRuntime) -> Result<(), Fail> {
     hold(&rt, &disk, &[(10, &TWO_ENDED)]);
     let rows = [(1, Some(1)), (3, Some(1)), (4, None), (9, None)];
     gives(&rt, alloc, disk, 16, &rows)
+}
+
+// So it is where the two pairs are read in slices meanwhile.
+const BESIDE_SLICES: [(Step, Reply); 17] = [
+    (Append(Write(7, 4, None)), Marked(Stamp(14))),
+    (Rotate, Installed(Generation(5))),
+    (Append(Write(8, 9, None)), Marked(Stamp(16))),
+    (Rotate, Installed(Generation(6))),
+    (MergeBegin(0), Done),
+    (Rotate, Refused(Refusal::Busy)),
+    (Checkpoint, Installed(Generation(7))),
+    (MergeReadSlice, Written(Progress::More)),
+    (MergeReadSlice, Written(Progress::More)),
+    (Checkpoint, Installed(Generation(8))),
+    (MergeReadSlice, Written(Progress::More)),
+    (MergeReadSlice, Written(Progress::Ready)),
+    (MergeData, Done),
+    (MergeDelta, Done),
+    (InstallClose, Done),
+    (InstallBody, Done),
+    (InstallOpen, Installed(Generation(9))),
+];
+
+#[test]
+fn checkpoints_end_records_that_are_read(rt: HostRuntime) -> Result<(), Fail> {
+    let alloc = rt.alloc();
+    let mut store = following(&rt, alloc, &TWO_PAIRS)?;
+    follow(&rt, alloc, &mut store, &BESIDE_SLICES)?;
+    spans(&rt, &store, &[(0, 12), (12, 14), (14, 16)]);
+    let rows = [(1, Some(1)), (3, Some(1)), (4, None), (9, None)];
+    gives(&rt, alloc, store.into_disk(), 16, &rows)
 }
 
 // A checkpoint behind the merge ends its second record.

@@ -29,6 +29,12 @@ pub(crate) enum Step {
     CheckpointSlice,
     CheckpointDelta,
     MergeRead(usize),
+    /// Begins to read the pair at this place and the one behind it.
+    MergeBegin(usize),
+    /// The next slice of them.
+    MergeReadSlice,
+    /// Forgets what is read of them.
+    MergeForget,
     MergeData,
     /// The next slice of its data file.
     MergeSlice,
@@ -143,6 +149,7 @@ impl Step {
             Step::RotateWrite => done(store.rotate_write()),
             Step::CheckpointRead => done(store.checkpoint_read()),
             Step::MergeRead(place) => done(store.merge_read(place)),
+            Step::MergeBegin(place) => done(store.merge_begin(place)),
             Step::Rotate => installed(rotate(store)),
             Step::Checkpoint => installed(checkpoint(store)),
             Step::Merge(place) => installed(merge(store, place)),
@@ -158,6 +165,8 @@ impl Step {
             Step::CheckpointData => done(store.checkpoint_data()),
             Step::CheckpointSlice => written(store.checkpoint_slice()),
             Step::CheckpointDelta => written(store.checkpoint_delta()),
+            Step::MergeReadSlice => written(store.merge_read_slice()),
+            Step::MergeForget => done(store.merge_forget()),
             Step::MergeData => done(store.merge_data()),
             Step::MergeSlice => written(store.merge_slice()),
             Step::MergeDelta => done(store.merge_delta()),

@@ -9,6 +9,7 @@ use crate::gate::Gate;
 use crate::place::Place;
 use crate::run::Run;
 use crate::slice::Slice;
+use crate::sliced::Sliced;
 use mvo_disk::Disk;
 use mvo_store::{
     Done, Due, Generation, InstallStep, Progress, Spent, StoreCall, run_checkpoint, run_merge,
@@ -21,6 +22,7 @@ impl<L: Run, D: Disk, G: Gate + Drop> Engine<L, D, G> {
     ghost use Rattle.mvo_store.specs.Wholes.{AreToRefusal, IsCheckpoint, rotation, merge};
     ghost use Rattle.mvo_engine.specs.Jobs.{IsCallAlone, IsInSlices, IsDataAlone, IsBehindPlaces};
     ghost use Rattle.mvo_engine.specs.Jobs.{IsOneCallAlone, AreSlicesAlone, IsSliceAlone, told_of};
+    ghost use Rattle.mvo_engine.specs.Jobs.{ArePairsAlone, IsReadAlone};
     ghost use Rattle.mvo_store.specs.declared.call.StoreCall.TheVariants.{Step};
     ghost use Rattle.mvo_store.specs.declared.jobs.due.Due.TheVariants.{Install as InstallDue};
     ghost use Rattle.mvo_store.specs.declared.install.install_step.InstallStep.TheVariants.{Open};
@@ -71,25 +73,25 @@ impl<L: Run, D: Disk, G: Gate + Drop> Engine<L, D, G> {
     }
 
     // A call of the store in a turn of its own, which is given back behind it; but a data file is
-    // written by slices, and so are the places put before a manifest is installed, each in a turn
-    // of its own.
+    // written by slices, two pairs are read by slices, and so are the places put before a manifest
+    // is installed, each in a turn of its own.
     pub(crate) fn call_in_turn<R: Wait>(&self, rt: &R, call: StoreCall) -> Result<Done, Refusal>
         ensures { IsCallAlone D.Disk tt call result tt }
     {
         match slices_of(call) {
             None => self.one_call_in_turn(rt, call),
-            Some(slice) => self.in_slices(rt, slice, call),
+            Some(sliced) => self.in_slices(rt, sliced, call),
         }
     }
 
     // A call that is made of slices, or behind them.
-    fn in_slices<R: Wait>(&self, rt: &R, slice: Slice, call: StoreCall) -> Result<Done, Refusal>
-        ensures { IsInSlices D.Disk slice call result }
+    fn in_slices<R: Wait>(&self, rt: &R, sliced: Sliced, call: StoreCall) -> Result<Done, Refusal>
+        ensures { IsInSlices D.Disk sliced call result }
     {
-        match slice {
-            Slice::Checkpoint => self.data_in_turns(rt, Slice::Checkpoint),
-            Slice::Merge => self.data_in_turns(rt, Slice::Merge),
-            Slice::Places => self.behind_places(rt, call),
+        match sliced {
+            Sliced::Written(slice) => self.data_in_turns(rt, slice),
+            Sliced::Placed => self.behind_places(rt, call),
+            Sliced::Read(place) => self.pairs_in_turns(rt, place),
         }
     }
 
@@ -100,6 +102,30 @@ impl<L: Run, D: Disk, G: Gate + Drop> Engine<L, D, G> {
         match self.slices_in_turns(rt, slice) {
             Ok(()) => Ok(Done::Progress(Progress::More)),
             Err(refusal) => Err(refusal),
+        }
+    }
+
+    // Reads the pair at a place and the one behind it.
+    fn pairs_in_turns<R: Wait>(&self, rt: &R, place: usize) -> Result<Done, Refusal>
+        ensures { ArePairsAlone D.Disk place result }
+    {
+        match self.slice_in_turn(rt, Slice::MergeBegin(place)) {
+            Ok(_) => self.read_in_turns(rt),
+            Err(refusal) => Err(refusal),
+        }
+    }
+
+    // Reads them on up to their end. Where that is refused, what is read is forgotten: nobody goes
+    // on with it, and others would wait for it.
+    fn read_in_turns<R: Wait>(&self, rt: &R) -> Result<Done, Refusal>
+        ensures { IsReadAlone D.Disk result }
+    {
+        match self.slices_in_turns(rt, Slice::MergeRead) {
+            Ok(()) => Ok(Done::Progress(Progress::More)),
+            Err(refusal) => {
+                let _ = self.slice_in_turn(rt, Slice::MergeForget);
+                Err(refusal)
+            }
         }
     }
 
@@ -192,14 +218,15 @@ impl<L: Run, D: Disk, G: Gate + Drop> Engine<L, D, G> {
     }
 }
 
-// The slices that a call is made of, or that are made before it.
-fn slices_of(call: StoreCall) -> Option<Slice>
+// How a call is made of slices, or behind some.
+fn slices_of(call: StoreCall) -> Option<Sliced>
     ensures { result ≡ slices_of call }
 {
     match call {
-        StoreCall::Step(Due::Data) => Some(Slice::Checkpoint),
-        StoreCall::Step(Due::MergeData) => Some(Slice::Merge),
-        StoreCall::Step(Due::Install(InstallStep::Close)) => Some(Slice::Places),
+        StoreCall::Step(Due::Data) => Some(Sliced::Written(Slice::Checkpoint)),
+        StoreCall::Step(Due::MergeData) => Some(Sliced::Written(Slice::Merge)),
+        StoreCall::Step(Due::Install(InstallStep::Close)) => Some(Sliced::Placed),
+        StoreCall::MergeRead(place) => Some(Sliced::Read(place)),
         _ => None,
     }
 }

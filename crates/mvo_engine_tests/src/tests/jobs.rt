@@ -42,7 +42,7 @@ const WHOLE: [Line; 15] = [
 ];
 
 /// Behind a rotation, so that the log has a sealed segment.
-const BY_STEPS: [Line; 31] = [
+const BY_STEPS: [Line; 39] = [
     (Store(SliceOf(Slice::Places)), NOTHING_TO_DO),
     // A checkpoint runs, and no other job begins. It goes on by its steps: the merged pair's delta
     // file gains a number behind the new pair's own.
@@ -62,6 +62,15 @@ const BY_STEPS: [Line; 31] = [
     (Store(Call(CLOSE)), Shut),
     (Store(Call(BODY)), Written),
     (Store(Call(OPEN)), Number(7)),
+    // Two pairs are read by slices, to be merged, and what is read is forgotten.
+    (Store(SliceOf(Slice::MergeRead)), NOTHING_TO_DO),
+    (Store(SliceOf(Slice::MergeForget)), NOTHING_TO_DO),
+    (Store(SliceOf(Slice::MergeBegin(0))), More),
+    (Rotate, BUSY),
+    (Merge(0), BUSY),
+    (Store(SliceOf(Slice::MergeRead)), More),
+    (Store(SliceOf(Slice::MergeForget)), Ready),
+    (Store(SliceOf(Slice::MergeRead)), NOTHING_TO_DO),
     // A merge.
     (Store(Call(MergeRead(0))), More),
     (Store(SliceOf(Slice::Merge)), Ready),

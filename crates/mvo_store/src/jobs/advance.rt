@@ -3,7 +3,8 @@ ghost use Rattle.std.specs.Prelude.{◌≡◌, length, None};
 ghost use Rattle.mvo_store.specs.declared.jobs.jobs.Jobs.TheVariants.{Beside};
 ghost use Rattle.mvo_store.specs.Jobs.{next_step, stepped, stage_behind, checkpoint_behind};
 ghost use Rattle.mvo_store.specs.Jobs.{checkpoint_by, merge_by, is_of_merge, with_step};
-ghost use Rattle.mvo_store.specs.Jobs.{with_checkpoint, with_merge, with_manifest};
+ghost use Rattle.mvo_store.specs.Jobs.{merge_job_by, with_checkpoint, with_merge, with_reading};
+ghost use Rattle.mvo_store.specs.Jobs.{without_reading, with_manifest};
 
 use crate::checkpoint::checkpointing::Checkpointing;
 use crate::checkpoint::stage::CheckpointStage;
@@ -11,7 +12,9 @@ use crate::install::install::Install;
 use crate::install::install_step::InstallStep;
 use crate::jobs::due::Due;
 use crate::jobs::jobs::Jobs;
+use crate::merge::merge_job::MergeJob;
 use crate::merge::merging::Merging;
+use crate::merge::reading::MergeReading;
 use crate::merge::stage::MergeStage;
 use mvo_manifest::Manifest;
 
@@ -86,18 +89,28 @@ fn checkpoint_by(checkpoint: Option<Checkpointing>) -> Option<Checkpointing>
     }
 }
 
-/// The merge that runs with its data file written.
-fn merge_by(merge: Option<Merging>) -> Option<Merging>
-    ensures { result ≡ merge_by merge }
+/// A merge with its data file written.
+fn merge_job_by(merge: MergeJob) -> MergeJob
+    ensures { result ≡ merge_job_by merge }
 {
     match merge {
-        Some(merge) => {
+        MergeJob::Reading(reading) => MergeJob::Reading(reading),
+        MergeJob::Running(merge) => {
             let Merging { seen, stage: _ } = merge;
-            Some(Merging {
+            MergeJob::Running(Merging {
                 seen,
                 stage: MergeStage::Delta,
             })
         }
+    }
+}
+
+/// The same of the one that runs.
+fn merge_by(merge: Option<MergeJob>) -> Option<MergeJob>
+    ensures { result ≡ merge_by merge }
+{
+    match merge {
+        Some(merge) => Some(merge_job_by(merge)),
         None => None,
     }
 }
@@ -142,17 +155,42 @@ pub fn with_merge(merge: Merging, jobs: Jobs) -> Jobs
     ensures { result ≡ with_merge merge jobs }
 {
     match jobs {
-        Jobs::Beside(checkpoint, running) => Jobs::Beside(checkpoint, running.or(Some(merge))),
+        Jobs::Beside(checkpoint, running) => {
+            Jobs::Beside(checkpoint, running.or(Some(MergeJob::Running(merge))))
+        }
+        jobs => jobs,
+    }
+}
+
+/// The jobs that run, and a merge whose pairs are read so.
+pub fn with_reading(reading: MergeReading, jobs: Jobs) -> Jobs
+    ensures { result ≡ with_reading reading jobs }
+{
+    match jobs {
+        Jobs::Beside(checkpoint, running) => {
+            Jobs::Beside(checkpoint, running.or(Some(MergeJob::Reading(reading))))
+        }
+        jobs => jobs,
+    }
+}
+
+/// The jobs that run, but a merge whose pairs are read.
+pub fn without_reading(jobs: Jobs) -> Jobs
+    ensures { result ≡ without_reading jobs }
+{
+    match jobs {
+        Jobs::Beside(checkpoint, Some(MergeJob::Reading(_))) => Jobs::Beside(checkpoint, None),
         jobs => jobs,
     }
 }
 
 /// The merge, if one runs, installs this manifest.
-fn installing(next: Manifest, merge: Option<Merging>) -> Jobs
+fn installing(next: Manifest, merge: Option<MergeJob>) -> Jobs
     ensures { result ≡ with_manifest next (Beside None merge) }
 {
     match merge {
-        Some(merge) => {
+        Some(MergeJob::Reading(reading)) => Jobs::Beside(None, Some(MergeJob::Reading(reading))),
+        Some(MergeJob::Running(merge)) => {
             let Merging { seen, stage: _ } = merge;
             Jobs::Merge(
                 seen,

@@ -6,13 +6,14 @@ ghost use Rattle.mvo_store.specs.Jobs.{keeps_merge_out, has_checkpoint, has_rota
 ghost use Rattle.mvo_store.specs.Jobs.{due_of, merge_due_of, is_step_due, job_takes_file, takes_file};
 ghost use Rattle.mvo_store.specs.Jobs.{checkpoint_pair, merge_pair, progress_at, progress_of};
 ghost use Rattle.mvo_store.specs.Jobs.{checkpoint_alone, merge_alone, first_due, next_due};
+ghost use Rattle.mvo_store.specs.Jobs.{first_step, is_merge_read};
 
 use crate::checkpoint::checkpointing::Checkpointing;
 use crate::checkpoint::stage::CheckpointStage;
 use crate::install::install::Install;
 use crate::jobs::due::Due;
 use crate::jobs::progress::Progress;
-use crate::merge::merging::Merging;
+use crate::merge::merge_job::MergeJob;
 use crate::merge::seen_pairs::SeenPairs;
 use crate::merge::stage::MergeStage;
 use mvo_frame::Segment;
@@ -30,7 +31,7 @@ pub enum Jobs {
     Merge(SeenPairs, usize, Install),
     /// A checkpoint of the oldest sealed segment, a merge of two neighbouring pairs whose files
     /// aren't all written, both, or none.
-    Beside(Option<Checkpointing>, Option<Merging>),
+    Beside(Option<Checkpointing>, Option<MergeJob>),
 }
 
 /// The step of a checkpoint that comes next.
@@ -65,12 +66,24 @@ fn checkpoint_is_due(step: Due, checkpoint: &Option<Checkpointing>) -> bool
 }
 
 /// Whether it is that of the merge, if one runs.
-fn merge_is_due(step: Due, merge: &Option<Merging>) -> bool
+fn merge_is_due(step: Due, merge: &Option<MergeJob>) -> bool
     ensures { result ≡ is_some (first_due step (merge_alone merge.now)) }
 {
     match merge {
-        Some(merge) => merge_due_of(merge.stage) == step,
+        Some(MergeJob::Running(merge)) => merge_due_of(merge.stage) == step,
+        Some(MergeJob::Reading(_)) => false,
         None => false,
+    }
+}
+
+/// The next step of the merge, if one runs.
+fn merge_step(merge: &Option<MergeJob>) -> Option<Due>
+    ensures { result ≡ first_step (merge_alone merge.now) }
+{
+    match merge {
+        Some(MergeJob::Running(merge)) => Some(merge_due_of(merge.stage)),
+        Some(MergeJob::Reading(_)) => None,
+        None => None,
     }
 }
 
@@ -87,11 +100,14 @@ fn checkpoint_takes(checkpoint: &Option<Checkpointing>, file: u16) -> bool
 }
 
 /// Whether the merge, if one runs, does.
-fn merge_takes(merge: &Option<Merging>, file: u16) -> bool
+fn merge_takes(merge: &Option<MergeJob>, file: u16) -> bool
     ensures { result ≡ list_any (λ j. job_takes_file j file) (merge_alone merge.now) }
 {
     match merge {
-        Some(merge) => merge.seen.pair.data_file == file || merge.seen.pair.delta_file == file,
+        Some(MergeJob::Running(merge)) => {
+            merge.seen.pair.data_file == file || merge.seen.pair.delta_file == file
+        }
+        Some(MergeJob::Reading(_)) => false,
         None => false,
     }
 }
@@ -148,6 +164,13 @@ impl Jobs {
         matches!(self, Jobs::Beside(Some(_), _))
     }
 
+    /// Whether a merge runs whose pairs are read.
+    pub fn is_merge_read(&self) -> bool
+        ensures { result ≡ is_merge_read self.now }
+    {
+        matches!(self, Jobs::Beside(_, Some(MergeJob::Reading(_))))
+    }
+
     /// Whether a rotation runs.
     pub fn has_rotation(&self) -> bool
         ensures { result ≡ has_rotation self.now }
@@ -176,8 +199,7 @@ impl Jobs {
             Jobs::Rotation(_, install) => Some(Due::Install(install.step)),
             Jobs::Merge(_, _, install) => Some(Due::Install(install.step)),
             Jobs::Beside(Some(checkpoint), _) => Some(due_of(checkpoint.stage)),
-            Jobs::Beside(None, Some(merge)) => Some(merge_due_of(merge.stage)),
-            Jobs::Beside(None, None) => None,
+            Jobs::Beside(None, merge) => merge_step(merge),
         }
     }
 
@@ -209,7 +231,7 @@ impl Jobs {
         ensures { result ≡ merge_pair self.now }
     {
         match self {
-            Jobs::Beside(_, Some(merge)) => Some(merge.seen.pair),
+            Jobs::Beside(_, Some(MergeJob::Running(merge))) => Some(merge.seen.pair),
             _ => None,
         }
     }

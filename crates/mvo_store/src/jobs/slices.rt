@@ -3,7 +3,7 @@ ghost use Rattle.std.specs.Prelude.{◌≡◌, ◌<◌, ◌+◌, ◌^◌, ◌∷
 ghost use Rattle.mvo_disk.specs.Disk.{IsHonest};
 ghost use Rattle.mvo_store.specs.Safe.{AreSafe, IsSafeCheckpoint, IsSafeMerge};
 ghost use Rattle.mvo_store.specs.Jobs.{first_due, is_of_data, job_due, jobs_upto};
-ghost use Rattle.mvo_store.specs.Jobs.{checkpoint_upto, merge_upto, stage_upto, merge_stage_upto};
+ghost use Rattle.mvo_store.specs.Jobs.{checkpoint_upto, merge_upto, merge_job_upto, stage_upto, merge_stage_upto};
 ghost use Rattle.mvo_store.specs.Jobs.Job.{Checkpoint, Merge};
 ghost use Rattle.mvo_store.specs.Writing.{IsDueSlice, JobStandsFor};
 ghost use Rattle.mvo_store.specs.declared.jobs.due.Due.TheVariants.{Data, MergeData};
@@ -13,6 +13,7 @@ use crate::checkpoint::stage::CheckpointStage;
 use crate::jobs::advance::is_of_merge;
 use crate::jobs::due::Due;
 use crate::jobs::jobs::Jobs;
+use crate::merge::merge_job::MergeJob;
 use crate::merge::merging::Merging;
 use crate::merge::stage::MergeStage;
 use mvo_disk::Disk;
@@ -118,7 +119,8 @@ fn slice_of_merge<D: Disk>(
         Jobs::Rotation(_, _) => Err(Refusal::NothingToDo),
         Jobs::Merge(_, _, _) => Err(Refusal::NothingToDo),
         Jobs::Beside(_, merge) => match merge {
-            Some(merge) => slice_merge(alloc, disk, manifest, merge),
+            Some(MergeJob::Running(merge)) => slice_merge(alloc, disk, manifest, merge),
+            Some(MergeJob::Reading(_)) => Err(Refusal::NothingToDo),
             None => Err(Refusal::NothingToDo),
         },
     }
@@ -199,6 +201,16 @@ fn merge_upto(upto: usize, merge: Merging) -> Merging
     Merging { seen, stage }
 }
 
+/// The same of one that runs. One whose pairs are read has no file.
+fn merge_job_upto(upto: usize, merge: MergeJob) -> MergeJob
+    ensures { result ≡ merge_job_upto upto merge }
+{
+    match merge {
+        MergeJob::Reading(reading) => MergeJob::Reading(reading),
+        MergeJob::Running(merge) => MergeJob::Running(merge_upto(upto, merge)),
+    }
+}
+
 /// The jobs that run, where the data file of the one whose step this is holds so many records. The
 /// other one is as it was.
 pub fn with_slice(upto: usize, step: Due, jobs: Jobs) -> Jobs
@@ -207,7 +219,7 @@ pub fn with_slice(upto: usize, step: Due, jobs: Jobs) -> Jobs
     match jobs {
         Jobs::Beside(checkpoint, merge) => {
             if is_of_merge(step) {
-                Jobs::Beside(checkpoint, merge.map(|merge| merge_upto(upto, merge)))
+                Jobs::Beside(checkpoint, merge.map(|merge| merge_job_upto(upto, merge)))
             } else {
                 let checkpoint = checkpoint.map(|checkpoint| checkpoint_upto(upto, checkpoint));
                 Jobs::Beside(checkpoint, merge)

@@ -15,6 +15,7 @@ use crate::install::install_step::InstallStep;
 use crate::jobs::advance::is_of_merge;
 use crate::jobs::due::Due;
 use crate::jobs::jobs::Jobs;
+use crate::merge::merge_job::MergeJob;
 use crate::merge::merging::Merging;
 use mvo_disk::Disk;
 use mvo_format::LAST_FORMAT;
@@ -138,7 +139,10 @@ pub fn write_step<D: Disk>(
         Jobs::Beside(checkpoint, merge) => {
             if is_of_merge(step) {
                 match merge {
-                    Some(merge) => write_merge_data(alloc, disk, manifest, merge),
+                    Some(MergeJob::Running(merge)) => {
+                        write_merge_data(alloc, disk, manifest, merge)
+                    }
+                    Some(MergeJob::Reading(_)) => Err(Refusal::NothingToDo),
                     None => Err(Refusal::NothingToDo),
                 }
             } else {

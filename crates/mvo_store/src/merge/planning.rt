@@ -1,9 +1,10 @@
 //! Plans a merge: what it writes, and the manifest that it installs.
 ghost use Rattle.std.specs.Prelude.{◌≡◌, ◌+◌, ◌<◌, ◌≤◌, ◌^◌, IfOk, length};
 ghost use Rattle.mvo_manifest.specs.Rules.{IsManifest};
+ghost use Rattle.mvo_types.specs.declared.limits.TheConstants.{MAX_PAIR_RECORDS};
 ghost use Rattle.mvo_store.specs.Merging.{neighbours_at, live_record_count, merged_at};
 ghost use Rattle.mvo_store.specs.Files.{files_taken};
-ghost use Rattle.mvo_store.specs.MergePlanning.{MayPlanMerge, IsPlannedMerge};
+ghost use Rattle.mvo_store.specs.MergePlanning.{IsPlannedMerge};
 
 use crate::files::two_free;
 use crate::merge::merging::Merging;
@@ -66,7 +67,7 @@ pub fn merged(
     }
 }
 
-/// A merge of the two neighbours from a place on, of which this is made, where another job has
+/// A merge of two pairs that were seen at a place, of which this is made, where another job has
 /// taken the files of this pair.
 pub fn planned_merge(
     manifest: &Manifest,
@@ -76,7 +77,7 @@ pub fn planned_merge(
     right: Pair,
     made: Merged,
 ) -> Merging
-    requires { MayPlanMerge manifest.now place left right made }
+    requires { length made.records ≤ MAX_PAIR_RECORDS }
     ensures { IsPlannedMerge manifest.now (files_taken other) place left right made result }
 {
     let (data_file, delta_file) = two_free(manifest, other);

@@ -23,6 +23,7 @@ use crate::jobs::jobs::Jobs;
 use crate::jobs::progress::Progress;
 use crate::limits::MAX_GENERATION;
 use crate::merge::late::end_merge;
+use crate::merge::merge_job::MergeJob;
 use crate::merge::merging::Merging;
 use crate::merge::planning::{live_count, neighbours, planned_merge};
 use crate::store::Store;
@@ -102,7 +103,7 @@ fn read_merge<D: Disk>(
 
 impl<D: Disk> Store<D> {
     // Why no merge begins, before memory and the disk are asked.
-    fn why_not_merge(&self, place: usize) -> Option<Refusal>
+    pub(crate) fn why_not_merge(&self, place: usize) -> Option<Refusal>
         ensures { result ≡ why_not_merge place self.now }
     {
         if self.down {
@@ -208,7 +209,7 @@ impl<D: Disk> Store<D> {
         if let Some(refusal) = self.why_not_merge_delta() {
             return Err(refusal);
         }
-        let Jobs::Beside(None, Some(merge)) = &self.jobs else {
+        let Jobs::Beside(None, Some(MergeJob::Running(merge))) = &self.jobs else {
             return Err(Refusal::NothingToDo);
         };
         match end_merge(self.alloc, &mut self.disk, &self.manifest, merge) {

@@ -6,7 +6,7 @@ use Rattle.mvo_pair.specs.Writing.{place_behind}
 use Rattle.mvo_store.specs.declared.merge.seen_pairs.SeenPairs.{SeenPairs}
 use Rattle.mvo_store.specs.Merging.{neighbours_at, AreLateNow, late_of}
 use Rattle.mvo_store.proofs.CameLate.{counted_start, first_there, second_there, late_few, looks_twice}
-use Rattle.mvo_store.proofs.Neighbours.{left_files, right_files}
+use Rattle.mvo_store.proofs.Neighbours.{still_now, left_files, right_files}
 use Rattle.mvo_store.proofs.merge.late.late_entries.Given as given
 use Rattle.mvo_store.proofs.merge.late.late_entries.Goals as goal
 use Rattle.mvo_store.proofs.merge.late.late_entries.Goals.{In-Some, After-renumber}
@@ -16,7 +16,7 @@ two : (g : given.Over) (c : goal.In-Some g) → neighbours_at c.args.merge.now.s
 two g c = ap (λ (k : SeenPairs). neighbours_at k.place c.args.manifest.now.pairs) (sym c.seen.view_is) ∙ ap (neighbours_at _) (sym c.pairs.ensures.value) ∙ sym c.neighbours.ensures ∙ c.in-Some.is
 
 pub late_numbers-requires-clause-file : goal.late_numbers-requires-clause-file
-late_numbers-requires-clause-file g c = (left_files c.args.manifest.now c.pairs.ensures.manifest _ _ _ (two g (goal.at.late_numbers-requires-clause-file g c).In-Some)).delta_file
+late_numbers-requires-clause-file g c = (left_files c.args.manifest.now c.pairs.ensures.manifest _ _ _ (still_now _ _ _ _ (two g (goal.at.late_numbers-requires-clause-file g c).In-Some))).delta_file
 
 pub late_numbers-requires-clause-counted : goal.late_numbers-requires-clause-counted
 late_numbers-requires-clause-counted g c = λ honest.
@@ -25,7 +25,7 @@ late_numbers-requires-clause-counted g c = λ honest.
     counted_start (g.D.Disk.content old) (g.D.Disk.may_leave old) c.args.manifest.now s.0 s.1.settled c.in-Some.left (first_there c.args.manifest.now _ _ _ (two g (goal.at.late_numbers-requires-clause-counted g c).In-Some))
 
 pub late_numbers-requires-2-clause-file : goal.late_numbers-requires-2-clause-file
-late_numbers-requires-2-clause-file g c = (right_files c.args.manifest.now c.pairs.ensures.manifest _ _ _ (two g (goal.at.late_numbers-requires-2-clause-file g c).In-Some)).delta_file
+late_numbers-requires-2-clause-file g c = (right_files c.args.manifest.now c.pairs.ensures.manifest _ _ _ (still_now _ _ _ _ (two g (goal.at.late_numbers-requires-2-clause-file g c).In-Some))).delta_file
 
 pub late_numbers-requires-2-clause-counted : goal.late_numbers-requires-2-clause-counted
 late_numbers-requires-2-clause-counted g c = λ honest.

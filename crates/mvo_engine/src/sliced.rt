@@ -1,0 +1,11 @@
+use crate::slice::Slice;
+
+/// How a call of the store is made of slices.
+pub(crate) enum Sliced {
+    /// They write a data file.
+    Written(Slice),
+    /// They put the places that are left, and the call is made behind them.
+    Placed,
+    /// They read the pair at this place and the one behind it.
+    Read(usize),
+}
