@@ -1,7 +1,8 @@
 -- What is left at keys: a map's look-up and insert, in the words of keys.
-use Rattle.std.proofs.Common.{◌≡◌, Bool, true, false, cond, ◌||◌, List, [], ◌∷◌, ◌++◌, Option, None, Some, suc, not, length, refl, sym, ap, ◌∙◌}
+use Rattle.std.proofs.Common.{◌≡◌, ◌<◌, ◌≤◌, Bool, true, false, cond, ◌||◌, List, [], ◌∷◌, ◌++◌, Option, None, Some, suc, not, length, refl, sym, ap, ◌∙◌}
 use Rattle.std.specs.Prelude.{◌&&◌, nat_le, is_some}
 use Rattle.std.specs.List.{list_any}
+use Rattle.std.proofs.lemmas.Bool.{lt-leb, le-leb}
 use Rattle.std.specs.FinMap as fin
 use Rattle.std.specs.Map.{lookup, keys_of}
 use Rattle.std.specs.Option.{option_map}
@@ -19,7 +20,8 @@ use Rattle.mvo_model.specs.History.{History, write_of, write_at, later, net_writ
 use Rattle.mvo_model.proofs.Serials.{get-after_history, net_write-append}
 use Rattle.mvo_types.specs.declared.limits.TheConstants.{MAX_WRITES}
 use Rattle.mvo_theory.specs.Causes.{is_write_too_many}
-use Rattle.mvo_theory.specs.Entries.{noted, written_keys}
+use Rattle.mvo_theory.specs.Entries.{noted, is_noted, written_keys}
+use Rattle.mvo_theory.proofs.OriginSteps.{and_false}
 use Rattle.mvo_theory.proofs.Written.{noted_written}
 use Rattle.mvo_theory.proofs.Footprints.{key_same}
 use Rattle.mvo_work.specs.History.{key_written}
@@ -106,6 +108,12 @@ write_new ts k f = ap (λ (b : Bool). not b && nat_le MAX_WRITES (length (writte
     go : (w : Option Effect) → option_map (row_left k) w ≡ None → is_some w ≡ false
     go None g = refl
     go (Some e) g = absurd (none_some (row_left k e) (sym g))
+
+pub write_few : (ts : History) (k : RowKey) → length (written_keys ts) < MAX_WRITES → false ≡ is_write_too_many ts k
+write_few ts k few = sym (and_false (not (is_noted (written_keys ts) k)) (nat_le MAX_WRITES (length (written_keys ts))) (lt-leb MAX_WRITES (length (written_keys ts)) few))
+
+pub write_full : (ts : History) (k : RowKey) → option_map (row_left k) (net_write k ts) ≡ None → MAX_WRITES ≤ length (written_keys ts) → true ≡ is_write_too_many ts k
+write_full ts k new full = sym (write_new ts k new ∙ le-leb MAX_WRITES (length (written_keys ts)) full)
 
 pub key_count : (es : List (RowKey × Option RowData)) → length es ≡ length (keys_of es)
 key_count [] = refl

@@ -1,5 +1,6 @@
 -- The works of transactions, by id.
 use Rattle.std.specs.Prelude.{◌≡◌, ◌<◌, ℕ, false, nat_eq, List, Option, None, Some}
+use Rattle.std.specs.List.{AllByRecursion}
 use Rattle.std.specs.Map.{lookup}
 use Rattle.mvo_types.specs.declared.op.Op.{Op}
 use Rattle.mvo_types.specs.RowData.{RowData}
@@ -26,6 +27,10 @@ work_if_there (Some d) = work_in d
 -- the work of each id: nothing done, where none lies there
 abbrev pub works_in : WorksData → WorksById
 works_in ws t = work_if_there (done_at ws t)
+
+-- nothing is done in any of these
+abbrev pub AreIdle : List DoneData → Type 0
+AreIdle ds = AllByRecursion (λ d. work_in d ≡ empty_work) ds
 
 -- what each has done stays
 abbrev pub HaveSameWorks : WorksData → WorksData → Type 0

@@ -128,6 +128,7 @@ impl WorkContent {
     }
 
     /// Whether as many entries are kept as may be, and this isn't one of them.
+    #[inline(always)]
     pub fn is_entry_too_many(&self, entry: Entry) -> bool
         ensures { result ≡ is_entry_too_many self.now.history entry }
     {
@@ -135,12 +136,16 @@ impl WorkContent {
     }
 
     /// Whether as many keys are written as may be, and this isn't one of them.
+    #[inline(always)]
     pub fn is_write_too_many(&self, key: RowKey) -> bool
         ensures { result ≡ is_write_too_many self.now.history key }
     {
+        if self.left.len() < MAX_WRITES {
+            return false;
+        }
         match left_at(&self.left, key) {
             Some(_) => false,
-            None => self.left.len() >= MAX_WRITES,
+            None => true,
         }
     }
 
@@ -188,6 +193,11 @@ impl WorkContent {
         clear_items(&mut self.operations);
     }
 
+    /// Whether it keeps memory for its entries, as one does that was told something.
+    pub(crate) fn has_memory(&self) -> bool {
+        self.looks.has_memory()
+    }
+
     /// What its type keeps. The call does nothing.
     pub fn laws(&self)
         ensures work { IsWork (work_in self.now) }
@@ -199,6 +209,7 @@ impl WorkContent {
     }
 
     /// The row at a key behind the own writes, where others show these there.
+    #[inline(always)]
     fn row_now<'a>(&'a self, key: RowKey, rows: &'a RowsShown) -> Option<&'a Row>
         requires { AreRowsOf (Key key) (rows_in rows.now) }
         ensures { option_copied result
@@ -211,6 +222,7 @@ impl WorkContent {
     }
 
     /// Whether a row stands at a key behind the own writes, where others show these there.
+    #[inline(always)]
     fn is_there(&self, key: RowKey, rows: &RowsShown) -> bool
         requires { AreRowsOf (Key key) (rows_in rows.now) }
         ensures { result ≡ map.contains_key
@@ -235,6 +247,7 @@ impl WorkContent {
     }
 
     /// What the operation is told behind the own writes, where others show these in its entry.
+    #[inline(always)]
     fn answer(&self, op: &Op, rows: &RowsShown) -> Result<Answer, AllocError>
         requires { AreRowsOf (entry_of op.now) (rows_in rows.now) }
         ensures { IfOk result (λ a. answer_data a ≡ answer_to op.now
@@ -260,6 +273,7 @@ impl WorkContent {
 
     /// What the operation is told: on the rows that its entry keeps, or on these where it keeps
     /// none yet.
+    #[inline(always)]
     fn next_answer(&self, op: &Op, others: &RowsShown) -> Result<Answer, AllocError>
         requires { AreRowsOf (entry_of op.now) (rows_in others.now) }
         ensures { IfOk result (λ a. answer_data a ≡ answer_kept
@@ -273,6 +287,7 @@ impl WorkContent {
     }
 
     /// Room for one operation more. Nothing else changes.
+    #[inline(always)]
     fn make_room(&mut self) -> Result<(), AllocError>
         ensures same { self.new ≡ record self.old { room = self.new.room } }
         ensures ok { OnOk result (0 < self.new.room) }
@@ -283,6 +298,7 @@ impl WorkContent {
     }
 
     /// Adds an operation with its answer, its look and what it wrote, where there is room.
+    #[inline(always)]
     fn add(
         &mut self,
         op: Op,
@@ -306,6 +322,7 @@ impl WorkContent {
 
     /// The operation with its answer where others show these rows in its entry, and room for it,
     /// so that telling it takes no memory. Until it is told, nothing is done.
+    #[inline(always)]
     pub fn prepare(&mut self, op: Op, others: RowsShown) -> Result<NextOperation, AllocError>
         requires { AreRowsOf (entry_of op) (rows_in others) }
         ensures next { IfOk result (IsPreparedFor self.old op (rows_in others)) }
@@ -320,6 +337,7 @@ impl WorkContent {
     }
 
     /// Does the operation that was prepared, and answers what it is answered. It takes no memory.
+    #[inline(always)]
     pub fn tell(&mut self, next: NextOperation) -> Answer
         requires room { 0 < self.old.room }
         requires limits { MayFollow self.old.history next.op next.answer }
@@ -359,6 +377,7 @@ impl WorkContent {
 }
 
 /// Adds an operation with its answer where there is room.
+#[inline(always)]
 fn push_reserved(operations: &mut Vec<(Op, Answer)>, op: Op, answer: Answer)
     requires { vec_len operations.old < vec_capacity operations.old }
     ensures { operations.new.items ≡ operations.old.items ++ (op, answer) ∷ [] }

@@ -6,6 +6,7 @@ use mvo_types::{Answer, Op, Row, RowKey};
 use std::alloc::{AllocError, Global};
 
 /// A copy of the row, if there is one.
+#[inline(always)]
 pub fn copy_of(row: Option<&Row>) -> Result<Option<Row>, AllocError>
     ensures { IfOk result (λ copy. copy ≡ option_copied row.entry) }
 {
@@ -28,6 +29,7 @@ pub fn copies_of(alloc: Global, rows: &[Row]) -> Result<Vec<Row>, AllocError>
 }
 
 /// A copy of the answer, whose rows share their bytes.
+#[inline(always)]
 pub fn answer_again(alloc: Global, answer: &Answer) -> Result<Answer, AllocError>
     ensures { IfOk result (λ copy. answer_data copy ≡ answer_data answer.now) }
 {
@@ -44,6 +46,7 @@ pub fn answer_again(alloc: Global, answer: &Answer) -> Result<Answer, AllocError
 }
 
 /// The key that the operation wrote, if it wrote, with a copy of the row that it left there.
+#[inline(always)]
 pub fn write_of(op: &Op, answer: &Answer) -> Result<Option<(RowKey, Option<Row>)>, AllocError>
     ensures { IfOk result (λ write. write ≡ write_left op.now (answer_data answer.now)) }
 {

@@ -86,6 +86,7 @@ impl Looks {
     }
 
     /// The rows that are kept for the entry, if it is kept.
+    #[inline(always)]
     pub fn rows(&self, entry: Entry) -> Option<&RowsShown>
         ensures there { is_some result ≡ has_entry (entries_in self.now.looked) entry }
         ensures rows { IfSome result (λ r. rows_in r.now ≡ rows_kept self.now.looked entry) }
@@ -100,6 +101,7 @@ impl Looks {
     }
 
     /// Whether the entry is kept.
+    #[inline(always)]
     pub fn contains(&self, entry: Entry) -> bool
         ensures { result ≡ has_entry (entries_in self.now.looked) entry }
     {
@@ -117,8 +119,14 @@ impl Looks {
         self.behind.len() < self.behind.capacity()
     }
 
+    /// Whether some memory is kept.
+    pub(crate) fn has_memory(&self) -> bool {
+        self.few.capacity() > 0
+    }
+
     /// Sees to it that one more can be kept. It takes memory where there is no room, and alone
     /// does.
+    #[inline(always)]
     pub fn make_room(&mut self) -> Result<(), AllocError>
         ensures same { self.new.looked ≡ self.old.looked }
         ensures ok { OnOk result (0 < self.new.room) }
@@ -133,6 +141,7 @@ impl Looks {
 
     /// Keeps the rows that others show in an entry, and answers whether it is a new one. What is
     /// kept for one that is there stays.
+    #[inline(always)]
     pub fn keep(&mut self, entry: Entry, rows: RowsShown) -> bool
         requires { 0 < self.old.room }
         ensures kept { self.new.looked ≡ with_looked self.old.looked entry (rows_in rows) }
@@ -174,6 +183,7 @@ fn few_at(few: &[(Entry, RowsShown)], place: usize) -> Option<(&Entry, &RowsShow
 }
 
 /// The rows that are kept for the entry among these, if it is kept.
+#[inline(always)]
 fn look_at(few: &[(Entry, RowsShown)], entry: Entry) -> Option<&RowsShown>
     ensures { option_copied result ≡ look_at few.now entry }
 {

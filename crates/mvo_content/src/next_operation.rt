@@ -39,6 +39,7 @@ impl Model for NextOperation {
 
 impl NextOperation {
     /// The operation with its answer, a copy of that, and what it writes.
+    #[inline(always)]
     pub(crate) fn new(
         op: Op,
         others: RowsShown,

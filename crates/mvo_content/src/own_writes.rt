@@ -18,9 +18,13 @@ const KEPT: usize = 128;
 pub type Left = IndexMap<RowKey, Option<Row>>;
 
 /// What is left at the key, if it was written.
+#[inline(always)]
 pub fn left_at(left: &Left, key: RowKey) -> Option<&Option<Row>>
     ensures { option_copied result ≡ left_at left.now.entries key }
 {
+    if left.len() == 0 {
+        return None;
+    }
     left.get(&key)
 }
 
@@ -37,6 +41,7 @@ pub fn keys_left(alloc: Global, left: &Left) -> Result<Vec<RowKey>, AllocError>
 }
 
 /// Notes what a write left, where there is room.
+#[inline(always)]
 pub fn note_left(left: &mut Left, write: Option<(RowKey, Option<Row>)>)
     requires { 0 < spare left.old }
     ensures keys { keys_of left.new.entries

@@ -71,6 +71,17 @@ impl TakenContent {
         self.content.entry_at(place)
     }
 
+    /// The content, for the memory that it has.
+    pub fn into_content(self) -> WorkContent
+        ensures { result ≡ self }
+    {
+        let TakenContent {
+            content,
+            written: _,
+        } = self;
+        content
+    }
+
     /// Moves the operations out, with the keys that they wrote. Nothing is left. It takes no
     /// memory.
     pub fn take_operations(&mut self) -> Operations

@@ -11,25 +11,36 @@ ghost use Rattle.mvo_content.specs.Works.{HaveSameWorks, HasWorkFor, IsPreparedA
 use crate::content::WorkContent;
 use crate::next_operation::NextOperation;
 use crate::rows_shown::RowsShown;
+use crate::taken::TakenContent;
 use indexmap::IndexMap;
 use mvo_types::{Answer, Op, TxId};
 use std::alloc::{AllocError, Global};
 use std::marker::Model;
 
+// As many as unfinished transactions are common at once.
+const MOST: usize = 64;
+
 /// The works of unfinished transactions, by id. Contracts see what lies in memory, and by it the
 /// work of each id: nothing done, where none lies there. Each call takes constant time, but for
 /// what it does in the work.
+///
+/// The memory of `MOST` works that are over is kept at most, for others: without it each would ask
+/// the system for the same few lists.
 #[derive(Drop)]
 pub struct Works {
     held: IndexMap<u64, WorkContent>,
+    // Nothing is done in any of them.
+    spare: Vec<WorkContent>,
 }
 
 impl Model for Works {
-    ghost use Rattle.mvo_content.specs.Works.{WorksData};
+    ghost use Rattle.mvo_content.specs.Works.{WorksData, AreIdle};
 
     ghost Value = { WorksData };
 
     ghost view = { λ w. w.held.entries };
+
+    ghost invariant = { λ w. AreIdle w.spare.items };
 }
 
 impl Works {
@@ -39,10 +50,12 @@ impl Works {
     {
         Works {
             held: IndexMap::new(alloc),
+            spare: Vec::new(alloc),
         }
     }
 
     /// The work of the transaction, if one lies there: else it has done nothing.
+    #[inline(always)]
     pub fn work(&self, id: TxId) -> Option<&WorkContent>
         ensures { work_if_there (option_copied result) ≡ works_in self.now id.0 }
     {
@@ -51,6 +64,7 @@ impl Works {
 
     /// The operation of the transaction with its answer where others show these rows in its entry,
     /// and room for it, so that telling it takes no memory. Until it is told, nothing is done.
+    #[inline(always)]
     pub fn prepare(
         &mut self,
         id: TxId,
@@ -61,6 +75,9 @@ impl Works {
         ensures same { HaveSameWorks self.old self.new }
         ensures next { IfOk result (IsPreparedAt self.new id.0 op (rows_in others)) }
     {
+        if let Some(content) = self.held.get_mut(&id.0) {
+            return content.prepare(op, others);
+        }
         self.make_work(id)?;
         match self.held.get_mut(&id.0) {
             Some(content) => content.prepare(op, others),
@@ -76,15 +93,49 @@ impl Works {
         if self.held.contains_key(&id.0) {
             return Ok(());
         }
-        let content = WorkContent::new(*self.held.allocator());
+        let content = self.idle_work();
         match self.held.insert(id.0, content) {
             Ok(_) => Ok(()),
             Err(_) => Err(AllocError),
         }
     }
 
+    /// A work in which nothing is done. It takes no memory.
+    fn idle_work(&mut self) -> WorkContent
+        ensures idle { work_in result ≡ empty_work }
+        ensures same { self.new ≡ self.old }
+    {
+        match self.spare.pop() {
+            Some(content) => content,
+            None => WorkContent::new(*self.held.allocator()),
+        }
+    }
+
+    /// Keeps the memory of a work that is over, unless enough are kept.
+    fn keep(&mut self, content: WorkContent)
+        ensures { self.new ≡ self.old }
+    {
+        let mut content = content;
+        if content.has_memory() && self.spare.len() < MOST {
+            content.clear();
+            let _ = self.spare.push(content);
+        }
+    }
+
+    /// Gives the memory of an empty list to the next work, if it has none for its operations.
+    pub fn give_list(&mut self, list: Vec<(Op, Answer)>)
+        requires { list.items ≡ [] }
+        ensures { self.new ≡ self.old }
+    {
+        if let Some(mut content) = self.spare.pop() {
+            content.keep_list(list);
+            let _ = self.spare.push(content);
+        }
+    }
+
     /// Does the operation that was prepared for the transaction, and answers what it is answered.
     /// It takes no memory.
+    #[inline(always)]
     pub fn tell(&mut self, id: TxId, next: NextOperation) -> Answer
         requires { MayBeTold self.old id.0 next }
         ensures told { HasWorkFor self.old self.new id.0
@@ -108,10 +159,13 @@ impl Works {
         }
     }
 
-    /// Forgets what the transaction did, with its memory.
-    pub fn forget(&mut self, id: TxId)
+    /// Forgets what the transaction did, out of which this was taken, and keeps the memory of both
+    /// for others.
+    pub fn forget(&mut self, id: TxId, taken: TakenContent)
         ensures { HasWorkFor self.old self.new id.0 empty_work }
     {
-        let _ = self.held.swap_remove(&id.0);
+        self.keep(taken.into_content());
+        let content = self.take(id);
+        self.keep(content);
     }
 }

@@ -7,8 +7,6 @@ use Rattle.std.proofs.lemmas.Cmp.{nat_cmp_total}
 use Rattle.std.specs.Ordering.{nat_cmp}
 use Rattle.std.specs.FinMap.{FinMap, get, insert, same_map, nat_cmp-IsAntisymmetric}
 use Rattle.mvo_types.specs.declared.ids.TxId.{TxId}
-use Rattle.mvo_types.specs.declared.op.Op.{Op}
-use Rattle.mvo_types.specs.AnswerData.{AnswerData}
 use Rattle.mvo_chain.specs.Slots.{Slots}
 use Rattle.mvo_word.specs.declared.held.Held.{Held}
 use Rattle.mvo_txn.specs.declared.table_seat.TableSeat.{TableSeat}
@@ -24,10 +22,9 @@ use Rattle.mvo_versions.specs.Data.{VersionsData}
 use Rattle.mvo_core.specs.declared.kept_transaction.KeptTransaction.{KeptTransaction}
 use Rattle.mvo_core.specs.Data.{own_of}
 use Rattle.mvo_core.specs.Standing.{words_in}
-use Rattle.mvo_core.specs.Keeping.{IsWritten, HasMadeRoom, IsTold, IsRecorded, with_own_at}
+use Rattle.mvo_core.specs.Keeping.{IsWritten, with_own_at}
 use Rattle.mvo_core.specs.Finishing.{from_own, HasPassed, IsFirstReplaced, IsOneReplaced}
 use Rattle.mvo_core.proofs.NoneLeft.{passed_none, none_node}
-use Rattle.mvo_core.proofs.Written.{written}
 
 -- ---- nobody depends on it
 same_node : (node : Node KeptTransaction) → node.dependencies.dependents ≡ [] → record node { dependencies = without_dependents node.dependencies } ≡ node
@@ -69,7 +66,7 @@ module _ (versions : VersionsData) (table : Txns (Node KeptTransaction)) (t : �
   pub no_next : None ≡ slice_get (words_in table t) 0
   no_next = sym (ap (λ ps. slice_get ps 0) (no_word (words_in table t) none))
 
--- ---- an answer is told
+-- ---- it is written twice
 pub inserted_twice : {X : Type 0} (m : FinMap nat_cmp X) (k : ℕ) (x y : X) → insert (insert m k x) k y ≡ insert m k y
 inserted_twice m k x y = same_map nat_cmp_total nat_cmp-IsAntisymmetric (insert (insert m k x) k y) (insert m k y) (λ q.
     ⊎_elim
@@ -110,20 +107,4 @@ written_again table t node one two change kept changed =
       was = ap (option_map (λ n. n.own)) now;
       is = sym (written_twice table t node first second (sym kept)) ∙ sym (ap (λ o. with_own_at o (table_after_write table t first) t two) now);
       changed = changed;
-    }
-
--- room for more, whatever there is
-abbrev roomy : KeptTransaction → KeptTransaction
-roomy own = record own { work = record own.work { room = 1 }; writes = record own.writes { room = 2 } }
-
--- one look records the answer as two would
-pub recorded_alone : (table : Txns (Node KeptTransaction)) (t : TxId) (node : Node KeptTransaction) (after : KeptTransaction) (op : Op) (answer : AnswerData)
-    → Some node ≡ kept_of table t.0 → IsTold op answer node.own after
-    → IsRecorded table (table_after_write table t.0 (record node { own = after })) t [] op answer
-recorded_alone table t node after op answer kept told =
-    record {
-      roomy = table_after_write table t.0 (record node { own = roomy node.own });
-      room = written table t.0 node (roomy node.own) HasMadeRoom kept (record { same = record { history = refl; taken = refl; words = refl; place = refl; checked = refl; valid = refl; kind = refl }; room = record { operation = omega arith; words = omega arith } });
-      told = written_again table t.0 node (roomy node.own) after (IsTold op answer) kept
-          (record { history = told.history; words = told.words; place = told.place; checked = told.checked; valid = told.valid; kind = told.kind });
     }

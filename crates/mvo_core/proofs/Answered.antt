@@ -1,7 +1,7 @@
 -- An operation is answered: what the core stands for then.
-use Rattle.std.proofs.Common.{◌≡◌, ◌≢◌, ℕ, false, cond, List, [], ◌∷◌, ◌++◌, Option, None, Some, refl, sym, ap, ◌∙◌, subst, ⊎_elim}
+use Rattle.std.proofs.Common.{◌≡◌, ◌≢◌, ℕ, false, List, [], ◌∷◌, ◌++◌, Option, None, Some, refl, sym, ap, ◌∙◌, subst, ⊎_elim}
 use Rattle.std.specs.List.{AllByRecursion}
-use Rattle.std.proofs.lemmas.Bool.{cases_eq, eq-eqb, ne_eqb}
+use Rattle.std.proofs.lemmas.Bool.{cases_eq}
 use Rattle.mvo_types.specs.declared.ids.TxId.{TxId}
 use Rattle.mvo_types.specs.declared.op.Op.{Op}
 use Rattle.mvo_types.specs.declared.op.Op.TheVariants.{Read, Scan, Insert, Update, Delete}
@@ -47,20 +47,18 @@ use Rattle.mvo_work.specs.declared.word_place.WordPlace.{WordPlace}
 use Rattle.mvo_core.specs.declared.kept_transaction.KeptTransaction.{KeptTransaction}
 use Rattle.mvo_core.specs.Data.{CoreData, own_of}
 use Rattle.mvo_core.specs.Standing.{HasWorks, IsKeptActive, IsKeptPreparing, words_in, StandsAmong}
-use Rattle.mvo_core.specs.Keeping.{HasDoneMore, IsTold, IsRecorded}
+use Rattle.mvo_core.specs.Keeping.{HasWrittenMore}
 use Rattle.mvo_core.specs.Readers.{Readers, reader_in, HasTalePlaces}
 use Rattle.mvo_core.specs.Steps.{LeadsAmong}
 use Rattle.mvo_core.proofs.Laws.{answer_in_table, call_keeps}
-use Rattle.mvo_core.proofs.Carried.{stands_roomy, some_own}
 use Rattle.mvo_content.specs.Works.{WorksData, works_in}
 use Rattle.mvo_standing.specs.Beside.{WasTold}
 use Rattle.mvo_standing.proofs.Beside.{told_beside}
-use Rattle.mvo_core.proofs.OwnChanged.{IsOwnChanged, own_registered_all, state_registered_all, own_changed, own_weaker, words_stay, words_registered}
+use Rattle.mvo_core.proofs.OwnChanged.{IsOwnChanged, own_registered_all, state_registered_all, words_registered}
 use Rattle.mvo_core.proofs.ReaderStages.{AreSameReaders, stages_same, same_reader, readers_but}
 
--- it has done one operation more, whatever words it has put
-pub record HasAnswered (op : Op) (a : AnswerData) (old new : KeptTransaction) : Type 0 where
-  pub history : new.work.history ≡ old.work.history ++ (op, a) ∷ []
+-- it may have put words
+pub record HasAnswered (old new : KeptTransaction) : Type 0 where
   pub place : new.place ≡ old.place
   pub checked : new.checked ≡ old.checked
   pub valid : new.valid ≡ old.valid
@@ -81,7 +79,7 @@ beside_taken (Some x) s active = (refl, refl, refl, refl, refl)
 
 -- ---- what each transaction has done
 module _ (rs : Readers) (opening : Map) (steps : List Step) (s : State) (c : CoreData) (h : StandsAmong rs opening steps s c) (t : TxId) (r : ActiveTx) (found : active_of t.0 s.active ≡ Some r) (op : Op) (a : AnswerData)
-    (ids : List TxId) (table : Txns (Node KeptTransaction)) (w : IsOwnChanged (after_register_all c.table t ids) table t.0 (HasAnswered op a)) where
+    (ids : List TxId) (table : Txns (Node KeptTransaction)) (w : IsOwnChanged (after_register_all c.table t ids) table t.0 HasAnswered) where
   was : own_of c.table t.0 ≡ Some w.before
   was = sym (own_registered_all c.table t ids t.0) ∙ w.was
 
@@ -96,15 +94,8 @@ module _ (rs : Readers) (opening : Map) (steps : List Step) (s : State) (c : Cor
   one q m =
       ⊎_elim
       (λ is.
-      let same : m.own ≡ w.before = some_own m.own w.before (sym m.kept ∙ ap (own_of c.table) is ∙ was) in record {
-        own = w.after;
-        kept = ap (own_of table) is ∙ w.is;
-        history = w.changed.history
-            ∙ ap (λ (o : KeptTransaction). o.work.history ++ (op, a) ∷ []) (sym same)
-            ∙ ap (λ ts. ts ++ (op, a) ∷ []) m.history
-            ∙ sym (ap (λ b. cond b (q.history ++ (op, a) ∷ []) q.history) (eq-eqb q.id t.0 is));
-      })
-      (λ ne. record { own = m.own; kept = others q.id ne ∙ m.kept; history = m.history ∙ sym (ap (λ b. cond b (q.history ++ (op, a) ∷ []) q.history) (ne_eqb q.id t.0 ne)) })
+      record { own = w.after; kept = ap (own_of table) is ∙ w.is })
+      (λ ne. record { own = m.own; kept = others q.id ne ∙ m.kept })
       (cases_eq q.id t.0)
 
   apart : AllByRecursion (λ x. x.id ≢ r.id) s.stamped
@@ -136,7 +127,7 @@ pub record IsAnswered (s : State) (c : CoreData) (t : TxId) (r : ActiveTx) (op :
   pub found : active_of t.0 s.active ≡ Some r
   pub may : why_not_do s t.0 op ≡ None
   pub on : AreDependencies s op r ids
-  pub told : IsOwnChanged (after_register_all c.table t ids) table t.0 (HasAnswered op (answer_in s t.0 op))
+  pub told : IsOwnChanged (after_register_all c.table t ids) table t.0 HasAnswered
   pub versions : IsAfterAnswer s (phase_in s) t.0 op (answer_in s t.0 op) (all_versions c.versions.slots) (all_versions v.slots)
   pub indexed : AreIndexed v
   pub order : AllStandInOrder s.start (state_of c.table) v.slots v.lists
@@ -212,18 +203,28 @@ same_versions s table t (Update row) a vs e = refl
 same_versions s table t (Delete k) Deleted vs e = absurd (some_write _ e)
 same_versions s table t (Delete k) a vs e = refl
 
-told_so : (op : Op) (a : AnswerData) (x y : KeptTransaction) → IsTold op a x y → HasAnswered op a x y
-told_so op a x y w = record { history = w.history; place = w.place; checked = w.checked; valid = w.valid; kind = w.kind }
+pub done_so : (put : List WordPlace) (x y : KeptTransaction) → HasWrittenMore put x y → HasAnswered x y
+done_so put x y w = record { place = w.place; checked = w.checked; valid = w.valid; kind = w.kind }
 
-pub done_so : (op : Op) (a : AnswerData) (put : List WordPlace) (x y : KeptTransaction) → HasDoneMore op a put x y → HasAnswered op a x y
-done_so op a put x y w = record { history = w.history; place = w.place; checked = w.checked; valid = w.valid; kind = w.kind }
+-- nothing is written of it
+unwritten_changed : (table : Txns (Node KeptTransaction)) (t : ℕ) (own : KeptTransaction) → own_of table t ≡ Some own → IsOwnChanged table table t HasAnswered
+unwritten_changed table t own kept = record {
+  before = own;
+  after = own;
+  was = kept;
+  is = kept;
+  changed = record { place = refl; checked = refl; valid = refl; kind = refl };
+  beside = λ u ne. refl;
+  states = λ u. refl;
+  dependencies = λ s h. h;
+}
 
 -- The same of an answer that writes nothing: the versions and the lists of words stay.
 pub record IsAnsweredOnly (s : State) (c : CoreData) (t : TxId) (r : ActiveTx) (op : Op) (ids : List TxId) (table : Txns (Node KeptTransaction)) : Type 0 where
   pub found : active_of t.0 s.active ≡ Some r
   pub may : why_not_do s t.0 op ≡ None
   pub on : AreDependencies s op r ids
-  pub told : IsOwnChanged (after_register_all c.table t ids) table t.0 (IsTold op (answer_in s t.0 op))
+  pub is : table ≡ after_register_all c.table t ids
   pub unwritten : write_of op (answer_in s t.0 op) ≡ None
 
 module _ (rs : Readers) (opening : Map) (steps : List Step) (s : State) (c : CoreData) (h : StandsAmong rs opening steps s c) (t : TxId) (r : ActiveTx) (op : Op) (ids : List TxId)
@@ -235,7 +236,13 @@ module _ (rs : Readers) (opening : Map) (steps : List Step) (s : State) (c : Cor
   id = id_of t.0 s.active r w.found
 
   lists : words_in table ≡ words_in c.table
-  lists = words_stay (after_register_all c.table t ids) table t.0 (IsTold op b) w.told w.told.changed.words ∙ words_registered c.table t ids
+  lists = ap (λ (x : Txns (Node KeptTransaction)). words_in x) w.is ∙ words_registered c.table t ids
+
+  told : IsOwnChanged (after_register_all c.table t ids) table t.0 HasAnswered
+  told =
+      let k = active_holds (IsKeptActive c.table) t.0 s.active r w.found h.works.active in
+      subst (λ x. IsOwnChanged (after_register_all c.table t ids) x t.0 HasAnswered) (sym w.is)
+      (unwritten_changed (after_register_all c.table t ids) t.0 k.0.own (own_registered_all c.table t ids t.0 ∙ ap (own_of c.table) (sym k.1) ∙ k.0.kept))
 
   words : HasWordLists (after_answer s t.0 op b) c.versions.slots (words_in table)
   words = subst (HasWordLists (after_answer s t.0 op b) c.versions.slots) (sym lists)
@@ -248,7 +255,7 @@ module _ (rs : Readers) (opening : Map) (steps : List Step) (s : State) (c : Cor
     found = w.found;
     may = w.may;
     on = w.on;
-    told = own_weaker (after_register_all c.table t ids) table t.0 (IsTold op b) (HasAnswered op b) (told_so op b) w.told;
+    told = told;
     versions = same_versions s (phase_in s) t.0 op b (all_versions c.versions.slots) w.unwritten;
     indexed = record { numbers = h.versions.numbers; order = h.versions.order };
     order = h.order;
@@ -261,13 +268,13 @@ module _ (rs : Readers) (opening : Map) (steps : List Step) (s : State) (c : Cor
 -- so it is where the answer is recorded
 module _ (rs : Readers) (opening : Map) (steps : List Step) (s : State) (c : CoreData) (h : StandsAmong rs opening steps s c) (t : TxId) (r : ActiveTx) (found : active_of t.0 s.active ≡ Some r) (op : Op) (a : AnswerData) where
   pub recorded_leads : why_not_do s t.0 op ≡ None → a ≡ answer_in s t.0 op → write_of op a ≡ None → (ids : List TxId) → AreDependencies s op r ids
-      → (table : Txns (Node KeptTransaction)) → IsRecorded c.table table t ids op a → (more : WorksData) → WasTold s (works_in c.works) t.0 op (works_in more)
+      → (table : Txns (Node KeptTransaction)) → table ≡ after_register_all c.table t ids → (more : WorksData) → WasTold s (works_in c.works) t.0 op (works_in more)
       → LeadsAmong rs opening steps s (Do t.0 op) Accepted (record c { table = table; works = more })
   recorded_leads may is unwritten ids on table w more was_told =
-      answer_only_leads rs opening steps s (record c { table = w.roomy }) (stands_roomy rs opening steps s c h t.0 w.roomy w.room) t r op ids table (record {
+      answer_only_leads rs opening steps s c h t r op ids table (record {
         found = found;
         may = may;
         on = on;
-        told = subst (λ x. IsOwnChanged (after_register_all w.roomy t ids) table t.0 (IsTold op x)) is (own_changed (after_register_all w.roomy t ids) table t.0 (IsTold op a) w.told);
+        is = w;
         unwritten = subst (λ x. write_of op x ≡ None) is unwritten;
       }) more was_told

@@ -78,7 +78,7 @@ module _ (rs : Readers) (opening : Map) (steps : List Step) (s : State) (c : Cor
   pub fresh_own : own_of c.table (c.table.clock + 1) ≡ None
   fresh_own = ap (λ o. option_map (λ n. n.own) (option_map (λ x. x.kept) o)) fresh
 
-  module _ (node : Node KeptTransaction) (none : node.dependencies ≡ no_dependencies) (told : node.own.work.history ≡ []) (wordless : node.own.writes.words ≡ []) (other : node.own.kind ≡ Other) where
+  module _ (node : Node KeptTransaction) (none : node.dependencies ≡ no_dependencies) (wordless : node.own.writes.words ≡ []) (other : node.own.kind ≡ Other) where
     begun : Txns (Node KeptTransaction)
     begun = table_after_begin c.table node
 
@@ -116,7 +116,7 @@ module _ (rs : Readers) (opening : Map) (steps : List Step) (s : State) (c : Cor
     deps = begin_in_table opening s c.table node h.versions.kept h.dependencies none
 
     new_one : IsKeptActive (table_after_begin c.table node) (new_active (s.clock + 1))
-    new_one = record { own = node.own; kept = ap (own_of (table_after_begin c.table node)) (sym clock) ∙ own_begun; history = told }
+    new_one = record { own = node.own; kept = ap (own_of (table_after_begin c.table node)) (sym clock) ∙ own_begun }
 
     works : HasWorks (changes.after_begin s (s.clock + 1)) (table_after_begin c.table node) c.tale
     works = let w = works_carried s c.table (table_after_begin c.table node) c.tale says_begun h.works in record {

@@ -163,7 +163,7 @@ still (Some Aborted) ended q = cc
 works_of_others : (s : State) (old new : Txns (Node KeptTransaction)) (tale : List TalePlace) (t : ℕ) (u : EndedTx) → IsSingle s → ended_of t s.ended ≡ Some u → ((v : ℕ) → v ≢ t → own_of new v ≡ own_of old v) → HasWorks s old tale → HasWorks s new tale
 works_of_others s old new tale t u single e others h = record {
   active = each_both (λ r. r.id ≢ t) (IsKeptActive old) (IsKeptActive new)
-      (λ r d w. record { own = w.own; kept = others r.id d ∙ w.kept; history = w.history }) s.active (ended_not_active s t u single e) h.active;
+      (λ r d w. record { own = w.own; kept = others r.id d ∙ w.kept }) s.active (ended_not_active s t u single e) h.active;
   preparing = each_both (λ x. x.settled ≡ false → x.id ≢ t) (λ x. x.settled ≡ false → IsKeptPreparing old tale x) (λ x. x.settled ≡ false → IsKeptPreparing new tale x)
       (λ x d w o. let p = w o in record {
         own = p.own;

@@ -22,7 +22,7 @@ use Rattle.mvo_core.specs.Readers.{Readers, reader_in}
 use Rattle.mvo_core.specs.declared.kept_transaction.KeptTransaction.{KeptTransaction}
 use Rattle.mvo_core.specs.Data.{CoreData, own_of}
 use Rattle.mvo_core.specs.Standing.{HasWorks, IsKeptActive, IsKeptPreparing, own_words_of, words_in, StandsAmong}
-use Rattle.mvo_core.specs.Keeping.{IsWritten, HasDoneAsMuch, HasMadeRoom, with_own_at}
+use Rattle.mvo_core.specs.Keeping.{IsWritten, HasWrittenAsMuch, HasMadeRoom, with_own_at}
 use Rattle.mvo_core.proofs.Laws.{write_in_table}
 use Rattle.mvo_core.proofs.ReaderStages.{AreSameReaders, stages_same, same_reader, readers_but}
 use Rattle.mvo_core.proofs.WrittenThen.{none_own}
@@ -30,15 +30,15 @@ use Rattle.mvo_core.proofs.WrittenThen.{none_own}
 -- what is kept of each says as much in the other table
 abbrev pub SaysAsMuch : Txns (Node KeptTransaction) → Txns (Node KeptTransaction) → Type 0
 SaysAsMuch old new = (u : ℕ) (own : KeptTransaction) → own_of old u ≡ Some own
-    → (after : KeptTransaction) × (own_of new u ≡ Some after) × HasDoneAsMuch own after
+    → (after : KeptTransaction) × (own_of new u ≡ Some after) × HasWrittenAsMuch own after
 
-pub as_much : (own : KeptTransaction) → HasDoneAsMuch own own
-as_much own = record { history = refl; taken = refl; words = refl; place = refl; checked = refl; valid = refl; kind = refl }
+pub as_much : (own : KeptTransaction) → HasWrittenAsMuch own own
+as_much own = record { taken = refl; words = refl; place = refl; checked = refl; valid = refl; kind = refl }
 
 pub works_carried : (s : State) (old new : Txns (Node KeptTransaction)) (tale : List TalePlace) → SaysAsMuch old new → HasWorks s old tale → HasWorks s new tale
 works_carried s old new tale says h = record {
   active = each_weaker (IsKeptActive old) (IsKeptActive new)
-      (λ r w. let m = says r.id w.own w.kept in record { own = m.0; kept = m.1; history = m.2.history ∙ w.history }) s.active h.active;
+      (λ r w. let m = says r.id w.own w.kept in record { own = m.0; kept = m.1 }) s.active h.active;
   preparing = each_weaker (λ x. x.settled ≡ false → IsKeptPreparing old tale x) (λ x. x.settled ≡ false → IsKeptPreparing new tale x)
       (λ x w open'. let p = w open' in let m = says x.id p.own p.kept in record {
         own = m.0;
@@ -77,17 +77,17 @@ module _ (table : Txns (Node KeptTransaction)) (t : ℕ) (node new : Node KeptTr
   pub own_beside : (u : ℕ) → u ≢ t → own_of (table_after_write table t new) u ≡ own_of table u
   own_beside u ne = beside_at (get table.seats t) u ne
 
-  pub says_written : HasDoneAsMuch node.own new.own → SaysAsMuch table (table_after_write table t new)
+  pub says_written : HasWrittenAsMuch node.own new.own → SaysAsMuch table (table_after_write table t new)
   says_written same u own w =
       ⊎_elim
       (λ is.
       let now : own_of (table_after_write table t new) u ≡ Some new.own = ap (own_of (table_after_write table t new)) is ∙ own_here in
       let one : node.own ≡ own = some_own node.own own (sym (ap (option_map (λ n. n.own)) was) ∙ ap (own_of table) (sym is) ∙ w) in
-      (new.own, now, subst (λ o. HasDoneAsMuch o new.own) one same))
+      (new.own, now, subst (λ o. HasWrittenAsMuch o new.own) one same))
       (λ ne. (own, own_beside u ne ∙ w, as_much own))
       (cases_eq u t)
 
-  pub readers_written : HasDoneAsMuch node.own new.own → AreSameReaders table (table_after_write table t new)
+  pub readers_written : HasWrittenAsMuch node.own new.own → AreSameReaders table (table_after_write table t new)
   readers_written same = readers_but table (table_after_write table t new) t own_beside
       (ap reader_in own_here ∙ same_reader node.own new.own same.kind same.place same.checked same.valid ∙ sym (ap (λ o. reader_in (option_map (λ n. n.own) o)) was))
 
@@ -103,7 +103,7 @@ module _ (table : Txns (Node KeptTransaction)) (t : ℕ) (node new : Node KeptTr
           (cases_eq u t)
 
 module _ (rs : Readers) (opening : Map) (steps : List Step) (s : State) (c : CoreData) (h : StandsAmong rs opening steps s c) (t : ℕ) where
-  pub stands_written : (node new : Node KeptTransaction) → kept_of c.table t ≡ Some node → new.dependencies ≡ node.dependencies → HasDoneAsMuch node.own new.own
+  pub stands_written : (node new : Node KeptTransaction) → kept_of c.table t ≡ Some node → new.dependencies ≡ node.dependencies → HasWrittenAsMuch node.own new.own
       → StandsAmong rs opening steps s (record c { table = table_after_write c.table t new })
   stands_written node new was same much = record {
     kept = h.kept;
@@ -125,14 +125,14 @@ module _ (rs : Readers) (opening : Map) (steps : List Step) (s : State) (c : Cor
     states = λ i u. sym (written_state c.table t node new was same u) i
 
   -- as much is done, whatever room there is
-  pub stands_as_much : (table : Txns (Node KeptTransaction)) → IsWritten c.table table t HasDoneAsMuch → StandsAmong rs opening steps s (record c { table = table })
+  pub stands_as_much : (table : Txns (Node KeptTransaction)) → IsWritten c.table table t HasWrittenAsMuch → StandsAmong rs opening steps s (record c { table = table })
   stands_as_much table w = go (kept_of c.table t) refl w.was
     where
       go : (o : Option (Node KeptTransaction)) → kept_of c.table t ≡ o → option_map (λ n. n.own) o ≡ Some w.before → StandsAmong rs opening steps s (record c { table = table })
       go None k e = absurd (none_own w.before e)
       go (Some node) k e =
           subst (λ x. StandsAmong rs opening steps s (record c { table = x })) (sym (w.is ∙ ap (λ o. with_own_at o c.table t w.after) k))
-          (stands_written node (record node { own = w.after }) k refl (subst (λ o. HasDoneAsMuch o w.after) (sym (some_own node.own w.before e)) w.changed))
+          (stands_written node (record node { own = w.after }) k refl (subst (λ o. HasWrittenAsMuch o w.after) (sym (some_own node.own w.before e)) w.changed))
 
   pub stands_roomy : (table : Txns (Node KeptTransaction)) → IsWritten c.table table t HasMadeRoom → StandsAmong rs opening steps s (record c { table = table })
   stands_roomy table w = stands_as_much table (record { before = w.before; after = w.after; was = w.was; is = w.is; changed = w.changed.same })

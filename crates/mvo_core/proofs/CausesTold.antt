@@ -137,7 +137,6 @@ looks_as tale t (Some own) p flag h m = looks_at tale t own.kind own.place own.c
 pub record IsOwnOfActive (s : State) (c : CoreData) (t : ℕ) : Type 0 where
   pub own : KeptTransaction
   pub kept : own_of c.table t ≡ Some own
-  pub history : own.work.history ≡ history_of_active t s.active
 
 module _ (rs : Readers) (opening : Map) (steps : List Step) (s : State) (c : CoreData) (h : StandsAmong rs opening steps s c) (t : ℕ) where
   -- ---- of another
@@ -173,7 +172,6 @@ module _ (rs : Readers) (opening : Map) (steps : List Step) (s : State) (c : Cor
       record {
         own = w.0.own;
         kept = ap (own_of c.table) (sym w.1) ∙ w.0.kept;
-        history = w.0.history ∙ sym (found_is t s.active found.0 found.1).1;
       }
 
   own_if_none : why_not_active c.table t ≡ None → IsOwnOfActive s c t

@@ -48,7 +48,7 @@ use Rattle.mvo_core.specs.declared.answers.Settlement.TheVariants as settlement
 use Rattle.mvo_core.specs.Data.{CoreData, own_of}
 use Rattle.mvo_core.specs.Own.{is_own_valid, own_place, own_history}
 use Rattle.mvo_core.specs.Standing.{IsKeptActive, IsKeptPreparing, HasWorks, words_in, StandsAmong}
-use Rattle.mvo_core.specs.Causes.{why_not_preparing, flag_of}
+use Rattle.mvo_core.specs.Causes.{why_not_preparing}
 use Rattle.mvo_core.specs.Aborting.{IsGivenUp}
 use Rattle.mvo_core.specs.Keeping.{IsWrittenThen, HasHandedOver}
 use Rattle.mvo_core.specs.Steps.{settled_as, LeadsAmong}
@@ -188,7 +188,7 @@ module _ (rs : Readers) (opening : Map) (steps : List Step) (s : State) (c : Cor
 
       works_after : HasWorks (after_commit s t.0 x.end) table (slice_set c.tale place (Settled entry))
       works_after = record {
-        active = each_both (λ r. r.id ≢ t.0) (IsKeptActive c.table) (IsKeptActive table) (λ r ne w. record { own = w.own; kept = beside r.id ne ∙ w.kept; history = w.history }) s.active active_beside h.works.active;
+        active = each_both (λ r. r.id ≢ t.0) (IsKeptActive c.table) (IsKeptActive table) (λ r ne w. record { own = w.own; kept = beside r.id ne ∙ w.kept }) s.active active_beside h.works.active;
         preparing = each_map (with_settled x.end) (λ y. (y.settled ≡ false → (y.id == t.0) ≡ (y.end == x.end)) × (y.settled ≡ false → IsKeptPreparing c.table c.tale y)) (λ y. y.settled ≡ false → IsKeptPreparing table (slice_set c.tale place (Settled entry)) y)
             (λ y p o.
             let parts = or_parts y.settled (y.end == x.end) o in

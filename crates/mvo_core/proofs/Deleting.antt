@@ -1,6 +1,6 @@
 -- A delete: what the core stands for then.
 use Rattle.std.proofs.Common.{◌≡◌, ℕ, cond, List, [], ◌∷◌, ◌++◌, Option, None, Some, refl, sym, ap, ◌∙◌, subst}
-use Rattle.std.specs.Prelude.{IsSome, IfSome}
+use Rattle.std.specs.Prelude.{IsSome}
 use Rattle.std.specs.Option.{is_some, option_to_list}
 use Rattle.mvo_types.specs.declared.entry.Entry.TheVariants.{Key}
 use Rattle.mvo_types.specs.declared.ids.TxId.{TxId}
@@ -9,7 +9,6 @@ use Rattle.mvo_types.specs.declared.op.Op.TheVariants.{Delete}
 use Rattle.mvo_types.specs.declared.refusal.Refusal.{Refusal}
 use Rattle.mvo_types.specs.declared.refusal.Refusal.TheVariants.{OutOfMemory, WriteConflict}
 use Rattle.mvo_types.specs.declared.row.RowKey.{RowKey}
-use Rattle.mvo_types.specs.AnswerData.{AnswerData}
 use Rattle.mvo_types.specs.AnswerData.AnswerData.{Deleted, Absent}
 use Rattle.mvo_types.specs.RowData.{RowData}
 use Rattle.mvo_types.specs.Keys.{Map}
@@ -37,14 +36,13 @@ use Rattle.mvo_representation.specs.Steps.{ended_by}
 use Rattle.mvo_versions.specs.Data.{VersionsData}
 use Rattle.mvo_versions.specs.Changes.{IsReworded}
 use Rattle.mvo_readonly.specs.Whole.{stage_of}
-use Rattle.mvo_work.specs.Limits.{MayFollow}
 use Rattle.mvo_core.specs.Readers.{Readers}
 use Rattle.mvo_core.specs.declared.kept_transaction.KeptTransaction.{KeptTransaction}
 use Rattle.mvo_core.specs.Causes.{why_not_remove}
 use Rattle.mvo_core.specs.Own.{done_in}
-use Rattle.mvo_core.specs.Data.{CoreData, own_of}
+use Rattle.mvo_core.specs.Data.{CoreData}
 use Rattle.mvo_core.specs.Ending.{IsRemoved}
-use Rattle.mvo_core.specs.Keeping.{IsWritten, HasDoneAsMuch, HasMadeRoom, HasDoneMore, IsRecorded}
+use Rattle.mvo_core.specs.Keeping.{IsWritten, HasWrittenAsMuch, HasMadeRoom, HasWrittenMore}
 use Rattle.mvo_core.specs.Looking.{cause_at, row_shown}
 use Rattle.mvo_core.specs.Standing.{StandsAmong}
 use Rattle.mvo_core.specs.Steps.{LeadsAmong}
@@ -60,7 +58,7 @@ use Rattle.mvo_core.proofs.Looked.{IsActiveHere, active_here, shown_in, versions
 use Rattle.mvo_core.proofs.OwnChanged.{IsOwnChanged, own_changed}
 use Rattle.mvo_core.proofs.Refused.{refused_leads, spent_leads}
 use Rattle.mvo_core.proofs.Removed.{deleted}
-use Rattle.mvo_core.proofs.WorksHeld.{own_may_follow, IsNextTold, may_be_told, key_fits, key_told}
+use Rattle.mvo_core.proofs.WorksHeld.{IsNextTold, may_be_told, key_fits, key_told}
 
 module _ (rs : Readers) (opening : Map) (steps : List Step) (s : State) (c : CoreData) (h : StandsAmong rs opening steps s c) (t : TxId) (k : RowKey) (other : stage_of t.0 rs.unfinished ≡ None) where
   pub delete_refused : (r : Refusal) → why_not_remove c.table (done_in c.works t.0) t.0 k ≡ Some r → (new : CoreData) → StandsAmong rs opening (steps ++ steps_of_refusal t.0 r) (after_refusal s t.0 r) new
@@ -109,19 +107,17 @@ module _ (rs : Readers) (opening : Map) (steps : List Step) (s : State) (c : Cor
         pub delete_starved : LeadsAmong rs opening steps s (Do t.0 (Delete k)) (Refused OutOfMemory) c
         delete_starved = spent_leads rs opening steps s t.0 (Delete k) c may h
 
-        pub delete_spent : (table : Txns (Node KeptTransaction)) → IsWritten c.table table t.0 HasDoneAsMuch → LeadsAmong rs opening steps s (Do t.0 (Delete k)) (Refused OutOfMemory) (record c { table = table })
-        delete_spent table w = spent_leads rs opening steps s t.0 (Delete k) (record c { table = table }) may (stands_as_much rs opening steps s c h t.0 table w)
+        pub delete_spent : (table : Txns (Node KeptTransaction)) → table ≡ c.table → LeadsAmong rs opening steps s (Do t.0 (Delete k)) (Refused OutOfMemory) (record c { table = table })
+        delete_spent table same = subst (λ (x : Txns (Node KeptTransaction)). LeadsAmong rs opening steps s (Do t.0 (Delete k)) (Refused OutOfMemory) (record c { table = x })) (sym same) delete_starved
 
-        pub delete_left : (versions : VersionsData) → versions ≡ c.versions → (table : Txns (Node KeptTransaction)) → IsWritten c.table table t.0 HasDoneAsMuch
+        pub delete_left : (versions : VersionsData) → versions ≡ c.versions → (table : Txns (Node KeptTransaction)) → IsWritten c.table table t.0 HasWrittenAsMuch
             → LeadsAmong rs opening steps s (Do t.0 (Delete k)) (Refused OutOfMemory) (record c { versions = versions; table = table })
-        delete_left versions same table w = subst (λ (v : VersionsData). LeadsAmong rs opening steps s (Do t.0 (Delete k)) (Refused OutOfMemory) (record c { versions = v; table = table })) (sym same) (delete_spent table w)
+        delete_left versions same table w = subst (λ (v : VersionsData). LeadsAmong rs opening steps s (Do t.0 (Delete k)) (Refused OutOfMemory) (record c { versions = v; table = table })) (sym same)
+            (spent_leads rs opening steps s t.0 (Delete k) (record c { table = table }) may (stands_as_much rs opening steps s c h t.0 table w))
 
         -- its work may be told
         pub delete_may_be_told : (rows : List RowData) (n : NextData) → IsPreparedAt c.works t.0 (Delete k) rows n → MayBeTold c.works t.0 n
         delete_may_be_told rows n p = may_be_told rs opening steps s c h t.0 (Delete k) may rows n p
-
-        pub delete_may_follow : (a : AnswerData) → IfSome (own_of c.table t.0) (λ own. MayFollow own.work.history (Delete k) a)
-        delete_may_follow a = own_may_follow rs opening steps s c h t.0 (Delete k) may a
 
         pub delete_fits : AreRowsOf (Key k) (option_to_list (row_shown c.versions.slots found.version))
         delete_fits = key_fits rs opening steps s c h t.0 here k found is
@@ -130,7 +126,7 @@ module _ (rs : Readers) (opening : Map) (steps : List Step) (s : State) (c : Cor
         pub absent_answers : found.version ≡ None → Absent ≡ answer_in s t.0 (Delete k)
         absent_answers e = sym (answer_is ∙ ap (λ (o : Option VersionNo). cond (is_some o) Deleted Absent) e)
 
-        pub absent_leads : found.version ≡ None → (table : Txns (Node KeptTransaction)) → IsRecorded c.table table t (option_to_list found.depends_on) (Delete k) Absent
+        pub absent_leads : found.version ≡ None → (table : Txns (Node KeptTransaction)) → table ≡ after_register_all c.table t (option_to_list found.depends_on)
             → (more : WorksData) → IsNextTold c.works t.0 (Delete k) (option_to_list (row_shown c.versions.slots found.version)) more → LeadsAmong rs opening steps s (Do t.0 (Delete k)) Accepted (record c { table = table; works = more })
         absent_leads e table w more next = recorded_leads rs opening steps s c h t here.tx here.found (Delete k) Absent may (absent_answers e) refl (option_to_list found.depends_on) on table w more (key_told rs opening steps s c h t.0 here k found is (Delete k) refl may more next)
 
@@ -143,20 +139,20 @@ module _ (rs : Readers) (opening : Map) (steps : List Step) (s : State) (c : Cor
           pub deleted_live : IsSome (version_at c.versions.slots n)
           deleted_live = ap is_some (shown_there rs opening steps s c h t.0 here.tx here.found k n (ap (λ (x : Shown). x.version) (sym shown) ∙ e)).at
 
-          module _ (versions : VersionsData) (table : Txns (Node KeptTransaction)) (w : IsRemoved c.versions versions c.table table t (option_to_list found.depends_on) n k) where
+          module _ (versions : VersionsData) (table : Txns (Node KeptTransaction)) (w : IsRemoved c.versions versions c.table table t (option_to_list found.depends_on) n) where
             states : state_of c.table ≡ state_of w.recorded.roomy
             states = λ i u. sym ((own_changed c.table w.recorded.roomy t.0 HasMadeRoom w.recorded.room).states u) i
 
             stands : StandsAmong rs opening steps s (record c { table = w.recorded.roomy })
             stands = stands_roomy rs opening steps s c h t.0 w.recorded.roomy w.recorded.room
 
-            told : IsOwnChanged (after_register_all w.recorded.roomy t (option_to_list found.depends_on)) table t.0 (HasDoneMore (Delete k) Deleted (End n ∷ []))
-            told = own_changed (after_register_all w.recorded.roomy t (option_to_list found.depends_on)) table t.0 (HasDoneMore (Delete k) Deleted (End n ∷ [])) w.recorded.done
+            told : IsOwnChanged (after_register_all w.recorded.roomy t (option_to_list found.depends_on)) table t.0 (HasWrittenMore (End n ∷ []))
+            told = own_changed (after_register_all w.recorded.roomy t (option_to_list found.depends_on)) table t.0 (HasWrittenMore (End n ∷ [])) w.recorded.done
 
             abbrev Claim : ℕ → Type 0
             Claim i = (shown_to (state_of w.recorded.roomy) i i (versions_at c.versions.slots c.versions.lists k)).version ≡ Some n → cause_at (state_of w.recorded.roomy) c.versions.slots i (Some n) ≡ None
                 → IsReworded c.versions versions n (ended_by i)
-                → IsOwnChanged (after_register_all w.recorded.roomy (tx_id i) (option_to_list found.depends_on)) table i (HasDoneMore (Delete k) Deleted (End n ∷ []))
+                → IsOwnChanged (after_register_all w.recorded.roomy (tx_id i) (option_to_list found.depends_on)) table i (HasWrittenMore (End n ∷ []))
                 → why_not_do s i (Delete k) ≡ None
                 → IsAnswered s (record c { table = w.recorded.roomy }) (tx_id i) here.tx (Delete k) (option_to_list found.depends_on) versions table
 

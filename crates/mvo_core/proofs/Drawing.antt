@@ -191,7 +191,7 @@ module _ (rs : Readers) (opening : Map) (steps : List Step) (s : State) (c : Cor
       works : HasWorks (after_prepare s r (s.clock + 1)) table tale
       works = record {
         active = each_filter (λ q. not (q.id == r.id)) (IsKeptActive c.table) (IsKeptActive table)
-            (λ q e w. record { own = w.own; kept = beside q.id (λ is. not_true (q.id == r.id) e (eq-eqb q.id r.id (is ∙ sym its_id))) ∙ w.kept; history = w.history }) s.active h.works.active;
+            (λ q e w. record { own = w.own; kept = beside q.id (λ is. not_true (q.id == r.id) e (eq-eqb q.id r.id (is ∙ sym its_id))) ∙ w.kept }) s.active h.works.active;
         preparing = each_append (λ y. y.settled ≡ false → IsKeptPreparing table tale y) s.stamped (to_stamped (s.clock + 1) r ∷ [])
             (each_both (λ y. y.id ≢ t.0) (λ y. y.settled ≡ false → IsKeptPreparing c.table c.tale y) (λ y. y.settled ≡ false → IsKeptPreparing table tale y)
             (λ y ne w o. let p = w o in record {

@@ -37,7 +37,7 @@ use Rattle.mvo_core.specs.Readers.{Readers}
 use Rattle.mvo_core.specs.declared.kept_transaction.KeptTransaction.{KeptTransaction}
 use Rattle.mvo_core.specs.Data.{CoreData}
 use Rattle.mvo_core.specs.Inserting.{IsInserted}
-use Rattle.mvo_core.specs.Keeping.{HasDoneMore}
+use Rattle.mvo_core.specs.Keeping.{HasWrittenMore}
 use Rattle.mvo_core.specs.Standing.{words_in, StandsAmong}
 use Rattle.mvo_core.specs.Steps.{LeadsAmong}
 use Rattle.mvo_content.specs.Works.{WorksData, works_in}
@@ -87,7 +87,7 @@ module _ (rs : Readers) (opening : Map) (steps : List Step) (s : State) (c : Cor
   registered = after_register_all w.recorded.roomy t ids
 
   abbrev Done : KeptTransaction → KeptTransaction → Type 0
-  Done = HasDoneMore (Insert row) Inserted (Begin w.number ∷ [])
+  Done = HasWrittenMore (Begin w.number ∷ [])
 
   changed : IsOwnChanged (after_register_all w.recorded.roomy t ids) table t.0 Done
   changed = own_changed (after_register_all w.recorded.roomy t ids) table t.0 Done w.recorded.done
@@ -121,8 +121,7 @@ module _ (rs : Readers) (opening : Map) (steps : List Step) (s : State) (c : Cor
     found = here.found;
     may = may;
     on = on;
-    told = subst (λ a. IsOwnChanged (after_register_all w.recorded.roomy t ids) table t.0 (HasAnswered (Insert row) a)) insert_answers
-        (own_weaker (after_register_all w.recorded.roomy t ids) table t.0 Done (HasAnswered (Insert row) Inserted) (done_so (Insert row) Inserted (Begin w.number ∷ [])) changed);
+    told = own_weaker (after_register_all w.recorded.roomy t ids) table t.0 Done HasAnswered (done_so (Begin w.number ∷ [])) changed;
     versions = subst (λ a. IsAfterAnswer s (phase_in s) t.0 (Insert row) a (all_versions c.versions.slots) (all_versions new.slots)) insert_answers one_more;
     indexed = indexed;
     order = in_order;

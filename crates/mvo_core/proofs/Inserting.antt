@@ -1,6 +1,5 @@
 -- A call that inserts a row: what it comes to.
 use Rattle.std.proofs.Common.{◌≡◌, true, false, cond, List, ◌++◌, Option, None, Some, refl, sym, ap, ◌∙◌, subst}
-use Rattle.std.specs.Prelude.{IfSome}
 use Rattle.std.specs.Option.{option_to_list, is_some}
 use Rattle.std.proofs.lemmas.Bool.{false≢true}
 use Rattle.mvo_types.specs.declared.entry.Entry.TheVariants.{Key}
@@ -8,7 +7,6 @@ use Rattle.mvo_types.specs.declared.ids.TxId.{TxId}
 use Rattle.mvo_types.specs.declared.op.Op.TheVariants.{Insert}
 use Rattle.mvo_types.specs.declared.refusal.Refusal.{Refusal}
 use Rattle.mvo_types.specs.declared.refusal.Refusal.TheVariants.{OutOfMemory}
-use Rattle.mvo_types.specs.AnswerData.{AnswerData}
 use Rattle.mvo_types.specs.AnswerData.AnswerData.{Inserted, Exists}
 use Rattle.mvo_types.specs.RowData.{RowData}
 use Rattle.mvo_types.specs.Keys.{Map}
@@ -22,20 +20,20 @@ use Rattle.mvo_theory.specs.Calls.Result.{Accepted, Refused}
 use Rattle.mvo_chain.specs.declared.version.VersionNo.{VersionNo}
 use Rattle.mvo_txn.specs.Txns.{Txns, state_of}
 use Rattle.mvo_deps.specs.declared.node.Node.{Node}
+use Rattle.mvo_deps.specs.Nodes.{after_register_all}
 use Rattle.mvo_visible.specs.declared.outcome.Shown.{Shown}
 use Rattle.mvo_visible.specs.Versions.{versions_at}
 use Rattle.mvo_visible.specs.Shown.{AreVersionsInOrder}
 use Rattle.mvo_versions.specs.Data.{VersionsData, AreIndexed}
 use Rattle.mvo_representation.specs.Dependencies.{AreDependencies}
 use Rattle.mvo_readonly.specs.Whole.{stage_of}
-use Rattle.mvo_work.specs.Limits.{MayFollow}
 use Rattle.mvo_core.specs.Readers.{Readers}
 use Rattle.mvo_core.specs.declared.kept_transaction.KeptTransaction.{KeptTransaction}
 use Rattle.mvo_core.specs.Causes.{why_not_put}
 use Rattle.mvo_core.specs.Own.{done_in}
-use Rattle.mvo_core.specs.Data.{CoreData, own_of}
+use Rattle.mvo_core.specs.Data.{CoreData}
 use Rattle.mvo_core.specs.Inserting.{IsInserted}
-use Rattle.mvo_core.specs.Keeping.{IsWritten, HasDoneAsMuch, IsRecorded}
+use Rattle.mvo_core.specs.Keeping.{IsWritten, HasWrittenAsMuch}
 use Rattle.mvo_core.specs.Looking.{HasSameVersions, row_shown}
 use Rattle.mvo_core.specs.Standing.{StandsAmong}
 use Rattle.mvo_core.specs.Steps.{LeadsAmong}
@@ -50,7 +48,7 @@ use Rattle.mvo_core.proofs.Inserted.{inserted_leads}
 use Rattle.mvo_core.proofs.Looked.{IsActiveHere, active_here, shown_in, versions_in_order, key_is, names_just}
 use Rattle.mvo_core.proofs.Refused.{refused_leads, spent_leads}
 use Rattle.mvo_core.proofs.SameVersions.{stands_same_versions}
-use Rattle.mvo_core.proofs.WorksHeld.{own_may_follow, IsNextTold, may_be_told, key_fits, key_told}
+use Rattle.mvo_core.proofs.WorksHeld.{IsNextTold, may_be_told, key_fits, key_told}
 
 none_shown : (o : Option VersionNo) → is_some o ≡ false → o ≡ None
 none_shown None e = refl
@@ -72,10 +70,10 @@ module _ (rs : Readers) (opening : Map) (steps : List Step) (s : State) (c : Cor
     pub insert_starved : LeadsAmong rs opening steps s (Do t.0 (Insert row)) (Refused OutOfMemory) c
     insert_starved = spent_leads rs opening steps s t.0 (Insert row) c may h
 
-    pub insert_spent : (table : Txns (Node KeptTransaction)) → IsWritten c.table table t.0 HasDoneAsMuch → LeadsAmong rs opening steps s (Do t.0 (Insert row)) (Refused OutOfMemory) (record c { table = table })
-    insert_spent table w = spent_leads rs opening steps s t.0 (Insert row) (record c { table = table }) may (stands_as_much rs opening steps s c h t.0 table w)
+    pub insert_spent : (table : Txns (Node KeptTransaction)) → table ≡ c.table → LeadsAmong rs opening steps s (Do t.0 (Insert row)) (Refused OutOfMemory) (record c { table = table })
+    insert_spent table same = subst (λ (x : Txns (Node KeptTransaction)). LeadsAmong rs opening steps s (Do t.0 (Insert row)) (Refused OutOfMemory) (record c { table = x })) (sym same) insert_starved
 
-    pub insert_spent_same : (new : VersionsData) → HasSameVersions c.versions new → (AreIndexed c.versions → AreIndexed new) → (table : Txns (Node KeptTransaction)) → IsWritten c.table table t.0 HasDoneAsMuch
+    pub insert_spent_same : (new : VersionsData) → HasSameVersions c.versions new → (AreIndexed c.versions → AreIndexed new) → (table : Txns (Node KeptTransaction)) → IsWritten c.table table t.0 HasWrittenAsMuch
         → LeadsAmong rs opening steps s (Do t.0 (Insert row)) (Refused OutOfMemory) (record c { versions = new; table = table })
     insert_spent_same new same indexed table w =
         spent_leads rs opening steps s t.0 (Insert row) (record c { versions = new; table = table }) may
@@ -84,9 +82,6 @@ module _ (rs : Readers) (opening : Map) (steps : List Step) (s : State) (c : Cor
     -- its work may be told
     pub insert_may_be_told : (rows : List RowData) (n : NextData) → IsPreparedAt c.works t.0 (Insert row) rows n → MayBeTold c.works t.0 n
     insert_may_be_told rows n p = may_be_told rs opening steps s c h t.0 (Insert row) may rows n p
-
-    pub insert_may_follow : (a : AnswerData) → IfSome (own_of c.table t.0) (λ own. MayFollow own.work.history (Insert row) a)
-    insert_may_follow a = own_may_follow rs opening steps s c h t.0 (Insert row) may a
 
     pub insert_fits : (found : Shown) → (AreVersionsInOrder (state_of c.table) t.0 t.0 (versions_at c.versions.slots c.versions.lists row.key) → found ≡ shown_in c t.0 row.key) → AreRowsOf (Key row.key) (option_to_list (row_shown c.versions.slots found.version))
     insert_fits found is = key_fits rs opening steps s c h t.0 here row.key found is
@@ -104,7 +99,7 @@ module _ (rs : Readers) (opening : Map) (steps : List Step) (s : State) (c : Cor
       pub exists_answers : is_some found.version ≡ true → Exists ≡ answer_in s t.0 (Insert row)
       exists_answers seen = sym (ap (λ b. cond b Exists Inserted) (key_is rs opening steps s c h t.0 here.tx here.found row.key ∙ ap (λ (x : Shown). is_some x.version) (sym shown) ∙ seen))
 
-      pub exists_leads : is_some found.version ≡ true → (table : Txns (Node KeptTransaction)) → IsRecorded c.table table t (option_to_list found.depends_on) (Insert row) Exists
+      pub exists_leads : is_some found.version ≡ true → (table : Txns (Node KeptTransaction)) → table ≡ after_register_all c.table t (option_to_list found.depends_on)
           → (more : WorksData) → IsNextTold c.works t.0 (Insert row) (option_to_list (row_shown c.versions.slots found.version)) more → LeadsAmong rs opening steps s (Do t.0 (Insert row)) Accepted (record c { table = table; works = more })
       exists_leads seen table w more next = recorded_leads rs opening steps s c h t here.tx here.found (Insert row) Exists may (exists_answers seen) refl (option_to_list found.depends_on) on table w more (key_told rs opening steps s c h t.0 here row.key found is (Insert row) refl may more next)
 

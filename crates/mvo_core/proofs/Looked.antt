@@ -27,7 +27,7 @@ use Rattle.mvo_representation.proofs.Proved.{shows_snapshot, shown_is_there}
 use Rattle.mvo_representation.proofs.Tabled.{active_is}
 use Rattle.mvo_core.specs.Readers.{Readers}
 use Rattle.mvo_core.specs.declared.kept_transaction.KeptTransaction.{KeptTransaction}
-use Rattle.mvo_core.specs.Causes.{why_not_active, flag_of}
+use Rattle.mvo_core.specs.Causes.{why_not_active}
 use Rattle.mvo_core.specs.Data.{CoreData, own_of}
 use Rattle.mvo_core.specs.Looking.{row_shown}
 use Rattle.mvo_core.specs.Standing.{IsKeptActive, StandsAmong}
@@ -40,7 +40,6 @@ pub record IsActiveHere (s : State) (c : CoreData) (t : ℕ) : Type 0 where
   pub state : state_of c.table t ≡ Some Active
   pub own : KeptTransaction
   pub kept : own_of c.table t ≡ Some own
-  pub history : own.work.history ≡ tx.history
 
 pub active_here : (rs : Readers) (opening : Map) (steps : List Step) (s : State) (c : CoreData) → StandsAmong rs opening steps s c → (t : ℕ) → why_not_active c.table t ≡ None → IsActiveHere s c t
 active_here rs opening steps s c h t none =
@@ -53,7 +52,6 @@ active_here rs opening steps s c h t none =
       state = was;
       own = w.0.own;
       kept = ap (own_of c.table) (sym w.1) ∙ w.0.kept;
-      history = w.0.history;
     }
 
 -- ---- what it is shown

@@ -57,7 +57,6 @@ module _ (table : Txns (Node KeptTransaction)) (t : ℕ) where
             was = was;
             is = sym (ap (λ o. with_own_at o table t node.own) k ∙ write_kept node k);
             changed = record {
-              history = refl;
               words = empty ∙ sym (ap (from_own slots t) empty);
               place = refl;
               checked = refl;

@@ -42,11 +42,11 @@ module _ (old new : VersionsData) (table : Txns (Node KeptTransaction)) (t : ℕ
             between = table_with [];
             next = record {
               between = table_with [];
-              passed = written table t node (with_words []) (HasPassed old.slots t) kept (record { history = refl; words = sym e; place = refl; checked = refl; valid = refl; kind = refl });
+              passed = written table t node (with_words []) (HasPassed old.slots t) kept (record { words = sym e; place = refl; checked = refl; valid = refl; kind = refl });
               first = subst (IsFirstReplaced old new (table_with []) (table_with []) t w) (sym (first_with [])) (same, refl);
             };
             passed = written_again table t node (with_words []) after (HasPassed new.slots t) kept
-                (record { history = refl; words = words ∙ ap (λ qs. from_own new.slots t (drop 1 qs)) e; place = refl; checked = refl; valid = refl; kind = refl });
+                (record { words = words ∙ ap (λ qs. from_own new.slots t (drop 1 qs)) e; place = refl; checked = refl; valid = refl; kind = refl });
           }
       go (p ∷ ps) e =
           let reworded = subst (λ q. IsRewordedAt old new q w) (first ∙ ap (λ qs. slice_get qs 0) e) replaced in
@@ -54,10 +54,10 @@ module _ (old new : VersionsData) (table : Txns (Node KeptTransaction)) (t : ℕ
             between = table_with ps;
             next = record {
               between = table_with (p ∷ ps);
-              passed = written table t node (with_words (p ∷ ps)) (HasPassed old.slots t) kept (record { history = refl; words = sym e; place = refl; checked = refl; valid = refl; kind = refl });
+              passed = written table t node (with_words (p ∷ ps)) (HasPassed old.slots t) kept (record { words = sym e; place = refl; checked = refl; valid = refl; kind = refl });
               first = subst (IsFirstReplaced old new (table_with (p ∷ ps)) (table_with ps) t w) (sym (first_with (p ∷ ps)))
-                  (reworded, written_again table t node (with_words (p ∷ ps)) (with_words ps) HasDropped kept (record { history = refl; words = refl; place = refl; checked = refl; valid = refl; kind = refl }));
+                  (reworded, written_again table t node (with_words (p ∷ ps)) (with_words ps) HasDropped kept (record { words = refl; place = refl; checked = refl; valid = refl; kind = refl }));
             };
             passed = written_again table t node (with_words ps) after (HasPassed new.slots t) kept
-                (record { history = refl; words = words ∙ ap (λ qs. from_own new.slots t (drop 1 qs)) e; place = refl; checked = refl; valid = refl; kind = refl });
+                (record { words = words ∙ ap (λ qs. from_own new.slots t (drop 1 qs)) e; place = refl; checked = refl; valid = refl; kind = refl });
           }

@@ -42,7 +42,7 @@ use Rattle.mvo_core.specs.Keeping.{IsWritten, HasEndedAs, HasEndedIf}
 use Rattle.mvo_core.specs.Own.{own_place}
 use Rattle.mvo_core.specs.Readers.{Readers, reader_in, kind_at, HasStage, HaveStages, HasTalePlaces}
 use Rattle.mvo_core.specs.Standing.{StandsAmong, words_in}
-use Rattle.mvo_core.specs.WholeStanding.{HasSameWork}
+use Rattle.mvo_core.specs.WholeStanding.{HasSameWordList}
 use Rattle.mvo_core.proofs.CausesTold.{kind_is, may_write}
 use Rattle.mvo_core.proofs.OwnChanged.{IsOwnChanged, own_changed}
 use Rattle.mvo_core.proofs.ReaderOwn.{IsOwnOfReader, reader_own, kind_unended, stages_moved}
@@ -150,13 +150,13 @@ module _ (rs : Readers) (opening : Map) (steps : List Step) (s : State) (c : Cor
     change : IsOwnChanged table last t.0 (HasEndedAs KindAborted)
     change = own_changed table last t.0 (HasEndedAs KindAborted) written
 
-    same_work : IsWritten table last t.0 HasSameWork
+    same_work : IsWritten table last t.0 HasSameWordList
     same_work = record {
       before = written.before;
       after = written.after;
       was = written.was;
       is = written.is;
-      changed = record { history = ap (λ w. w.history) written.changed.work; words = ap (λ w. w.words) written.changed.writes };
+      changed = record { words = ap (λ w. w.words) written.changed.writes };
     }
 
     apart : AllByRecursion (λ x. x.settled ≡ false → x.id ≢ t.0) then'.stamped

@@ -1,14 +1,14 @@
 -- A read-only transaction begins: what the core stands for then.
-use Rattle.std.proofs.Common.{◌≡◌, ◌≢◌, ℕ, ◌+◌, ◌<◌, ◌≤◌, Bool, true, false, cond, List, [], ◌∷◌, ◌++◌, append-nil, length, Option, None, Some, refl, sym, ap, ◌∙◌, subst, arith, ⊎_elim}
+use Rattle.std.proofs.Common.{◌≡◌, ◌≢◌, ℕ, ◌+◌, ◌≤◌, Bool, true, false, cond, List, [], ◌∷◌, ◌++◌, length, Option, None, Some, refl, sym, ap, ◌∙◌, subst, arith, ⊎_elim}
 use Rattle.std.specs.Prelude.{◌==◌}
 use Rattle.std.specs.List.{AllByRecursion}
-use Rattle.std.specs.FinMap.{get, insert}
+use Rattle.std.specs.FinMap.{get}
 use Rattle.std.specs.Option.{option_map}
-use Rattle.std.proofs.lemmas.Bool.{cases_eq, eq-eqb, ne_eqb, true≢false}
+use Rattle.std.proofs.lemmas.Bool.{cases_eq, eq-eqb, ne_eqb}
 use Rattle.mvo_types.specs.declared.ids.Stamp.{Stamp}
 use Rattle.mvo_types.specs.Keys.{Map}
 use Rattle.mvo_model.specs.Trace.{Step}
-use Rattle.mvo_theory.specs.State.{State, StampedTx}
+use Rattle.mvo_theory.specs.State.{State}
 use Rattle.mvo_theory.specs.Sound.{IsPlaced}
 use Rattle.mvo_theory.specs.Changes as changes
 use Rattle.mvo_theory.specs.Calls.{MayCome, steps_of}
@@ -23,7 +23,7 @@ use Rattle.mvo_readonly.proofs.WholeRuns.{whole_after_call}
 use Rattle.mvo_txn.specs.declared.state.TxState.TheVariants.{Active}
 use Rattle.mvo_txn.specs.declared.table_seat.TableSeat.{TableSeat}
 use Rattle.mvo_txn.specs.Seats.{SeatMap, with_kept_at}
-use Rattle.mvo_txn.specs.Txns.{Txns, table_after_begin, table_after_write, kept_of}
+use Rattle.mvo_txn.specs.Txns.{Txns, table_after_begin, table_after_write}
 use Rattle.mvo_txn.proofs.Stamps.{get_inserted, get_beside}
 use Rattle.mvo_deps.specs.declared.node.Node.{Node}
 use Rattle.mvo_deps.specs.Data.{no_dependencies}
@@ -39,9 +39,9 @@ use Rattle.mvo_core.specs.declared.kept_transaction.KeptTransaction.{KeptTransac
 use Rattle.mvo_core.specs.declared.kept_transaction.TransactionKind.TheVariants.{Other, Reading}
 use Rattle.mvo_core.specs.Data.{CoreData, own_of}
 use Rattle.mvo_core.specs.Keeping.{IsWritten, with_own_at}
-use Rattle.mvo_core.specs.Readers.{Readers, KeptReader, reader_by, reader_in, HasStage, HaveStages, HasTalePlaces}
+use Rattle.mvo_core.specs.Readers.{KeptReader, reader_by, reader_in, HasStage, HaveStages}
 use Rattle.mvo_core.specs.Standing.{StandsAmong}
-use Rattle.mvo_core.specs.WholeStanding.{readers_of, StandsWhole, LeadsWhole, HasSameWork, ReaderBegins}
+use Rattle.mvo_core.specs.WholeStanding.{readers_of, HasSameWordList, ReaderBegins}
 use Rattle.mvo_core.proofs.Alone.{inserted_twice}
 use Rattle.mvo_core.proofs.Begun.{fresh_own, own_begun, stands_begun}
 use Rattle.mvo_core.proofs.ReadersMoved.{readers_moved}
@@ -70,7 +70,7 @@ none_among tale t None h = refl
 none_among tale t (Some p) h = absurd h
 
 module _ (opening : Map) (own : List Step) (w : WholeState) (c : CoreData) (node : Node KeptTransaction) (h : StandsAmong (readers_of w) opening own w.core c) (none : node.dependencies ≡ no_dependencies)
-    (told : node.own.work.history ≡ []) (wordless : node.own.writes.words ≡ []) (kind : node.own.kind ≡ Reading) (place : node.own.place ≡ length c.tale) (may : MayCome w.core Begin Accepted) where
+    (wordless : node.own.writes.words ≡ []) (kind : node.own.kind ≡ Reading) (place : node.own.place ≡ length c.tale) (may : MayCome w.core Begin Accepted) where
   abbrev s : State
   s = w.core
 
@@ -97,7 +97,7 @@ module _ (opening : Map) (own : List Step) (w : WholeState) (c : CoreData) (node
   old = record c { table = before }
 
   began : StandsAmong (readers_of w) opening (own ++ steps_of s Begin Accepted) (changes.after_begin s (s.clock + 1)) old
-  began = stands_begun (readers_of w) opening own s c h first none told wordless refl may
+  began = stands_begun (readers_of w) opening own s c h first none wordless refl may
 
   seat : get before.seats t ≡ Some (record { state = Active; kept = first })
   seat = get_inserted c.table.seats t (record { state = Active; kept = first })
@@ -107,13 +107,13 @@ module _ (opening : Map) (own : List Step) (w : WholeState) (c : CoreData) (node
       ap (λ (seats : SeatMap (Node KeptTransaction)). record { clock = c.table.clock + 1; seats = seats })
       (sym (ap (λ (o : Option (TableSeat (Node KeptTransaction))). with_kept_at o before.seats t node) seat ∙ inserted_twice c.table.seats t (record { state = Active; kept = first }) (record { state = Active; kept = node })))
 
-  written : IsWritten before after t HasSameWork
+  written : IsWritten before after t HasSameWordList
   written = record {
     before = first.own;
     after = node.own;
-    was = own_begun (readers_of w) opening own s c h first none told wordless refl;
+    was = own_begun (readers_of w) opening own s c h first none wordless refl;
     is = rewritten ∙ sym (ap (λ (o : Option (TableSeat (Node KeptTransaction))). with_own_at (option_map (λ x. x.kept) o) before t node.own) seat);
-    changed = record { history = refl; words = refl };
+    changed = record { words = refl };
   }
 
   apart : AllByRecursion (λ x. x.settled ≡ false → x.id ≢ t) s.stamped
@@ -175,10 +175,10 @@ module _ (opening : Map) (own : List Step) (w : WholeState) (c : CoreData) (node
       began apart written (λ q d e. open_behind c.tale (PlaceReading b) q d e) whole.others (record { drawn = drawn; readers = whole.readers }) stages (grouped_begun c.tale c.grouped c.closed b h.grouped)
 
 pub reader_begins : ReaderBegins
-reader_begins opening steps own w c node h none told wordless kind place may = record {
+reader_begins opening steps own w c node h none wordless kind place may = record {
   may = may;
   stands = record {
-    core = begins opening own w c node h.core none told wordless kind place may;
+    core = begins opening own w c node h.core none wordless kind place may;
     kept = whole_after_call opening steps own w BeginReadOnly Accepted may h.kept;
   };
 }

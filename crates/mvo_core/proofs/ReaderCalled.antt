@@ -11,7 +11,6 @@ use Rattle.mvo_types.specs.Keys.{Map}
 use Rattle.mvo_model.specs.Trace.{Step, Phase, phase_of}
 use Rattle.mvo_model.specs.Trace.Step.{Aborts}
 use Rattle.mvo_model.specs.Trace.Phase.{Active as ActivePhase, Aborted as AbortedPhase}
-use Rattle.mvo_theory.specs.State.{State}
 use Rattle.mvo_theory.specs.Causes.{flagged, is_failure}
 use Rattle.mvo_theory.specs.Phases.{is_active, is_preparing, is_ended}
 use Rattle.mvo_theory.specs.Steps.{after_abort}
@@ -23,7 +22,7 @@ use Rattle.mvo_readonly.specs.Whole.{ReaderStage, WholeState, stage_of, id_named
 use Rattle.mvo_readonly.specs.Whole.ReaderStage.{Reading as IsReading, Preparing as IsPreparing, Committed as IsCommitted, Aborted as IsAborted}
 use Rattle.mvo_readonly.specs.WholeCauses.{MayComeWhole, MayComeAtStage, flag_of_reader, unless_reading, unless_prepared, why_not_reader, is_valid_stage}
 use Rattle.mvo_readonly.specs.WholeCauses.WholeCall.{CoreCall}
-use Rattle.mvo_readonly.specs.WholeCalls.{rolled_back, core_failed, core_refused, core_at_stage, core_calls, with_stage, readers_failed, readers_refused, readers_at_stage, readers_after, committed_at_stage, committed_after, after_whole_call}
+use Rattle.mvo_readonly.specs.WholeCalls.{rolled_back, core_failed, core_refused, core_at_stage, core_calls, with_stage, readers_failed, readers_refused, readers_at_stage, readers_after, committed_at_stage, committed_after}
 use Rattle.mvo_readonly.specs.WholeKept.{core_phase, IsUnfinishedReader}
 use Rattle.mvo_readonly.proofs.ReaderCalls.{in_core}
 use Rattle.mvo_readonly.proofs.Stages.{core_stands, may_prepare, may_fail_precommit, may_fail_validate, may_fail_settle}
@@ -41,10 +40,9 @@ use Rattle.mvo_core.specs.Aborting.{IsReaderGivenUp}
 use Rattle.mvo_core.specs.Causes.{kind_kept, flag_of, unless_active_as, unless_preparing_as, why_not_active, why_not_preparing}
 use Rattle.mvo_core.specs.Data.{CoreData, own_of}
 use Rattle.mvo_core.specs.Keeping.{IsWritten, HasStartedChecks}
-use Rattle.mvo_core.specs.Own.{own_place}
 use Rattle.mvo_core.specs.Readers.{kind_at, HaveStages}
 use Rattle.mvo_core.specs.Standing.{StandsAmong}
-use Rattle.mvo_core.specs.WholeStanding.{readers_of, StandsWhole, LeadsWhole, HasSameWork}
+use Rattle.mvo_core.specs.WholeStanding.{readers_of, StandsWhole, LeadsWhole, HasSameWordList}
 use Rattle.mvo_core.proofs.Carried.{some_own}
 use Rattle.mvo_core.proofs.CausesTold.{flag_same, first_append, stands_active}
 use Rattle.mvo_core.proofs.Laws.{flag_of_active_told}
@@ -184,13 +182,13 @@ module _ (opening : Map) (steps own : List Step) (w : WholeState) (c : CoreData)
     change : IsOwnChanged c.table table t HasStartedChecks
     change = own_changed c.table table t HasStartedChecks written
 
-    same_work : IsWritten c.table table t HasSameWork
+    same_work : IsWritten c.table table t HasSameWordList
     same_work = record {
       before = written.before;
       after = written.after;
       was = written.was;
       is = written.is;
-      changed = record { history = ap (λ x. x.history) written.changed.work; words = ap (λ x. x.words) written.changed.writes };
+      changed = record { words = ap (λ x. x.words) written.changed.writes };
     }
 
     free : why_not_reader w.core p (Precommit t) ≡ None

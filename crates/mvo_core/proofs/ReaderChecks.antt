@@ -1,5 +1,5 @@
 -- A check of a read-only transaction: one more of its entries is counted, or nothing changes.
-use Rattle.std.proofs.Common.{◌≡◌, ◌∙◌, ℕ, ◌+◌, Bool, true, false, cond, List, [], ◌++◌, length, Option, None, Some, refl, sym, ap, subst}
+use Rattle.std.proofs.Common.{◌≡◌, ◌∙◌, ℕ, ◌+◌, Bool, true, false, cond, List, [], length, Option, None, Some, refl, sym, ap, subst}
 use Rattle.std.specs.Prelude.{nat_le}
 use Rattle.mvo_types.specs.declared.refusal.Refusal.{Refusal}
 use Rattle.mvo_types.specs.Keys.{Map}
@@ -29,7 +29,7 @@ use Rattle.mvo_core.specs.Keeping.{IsWritten, IsCounted}
 use Rattle.mvo_core.specs.Own.{done_in, is_own_valid, is_last_check, checked_as, own_check}
 use Rattle.mvo_core.specs.Readers.{HaveStages}
 use Rattle.mvo_core.specs.Standing.{StandsAmong}
-use Rattle.mvo_core.specs.WholeStanding.{readers_of, StandsWhole, LeadsWhole, HasSameWork}
+use Rattle.mvo_core.specs.WholeStanding.{readers_of, StandsWhole, LeadsWhole, HasSameWordList}
 use Rattle.mvo_core.proofs.Carried.{some_own}
 use Rattle.mvo_core.proofs.CausesTold.{done_of_active}
 use Rattle.mvo_core.proofs.OwnChanged.{IsOwnChanged, own_changed}
@@ -146,13 +146,13 @@ module _ (opening : Map) (steps own : List Step) (w : WholeState) (c : CoreData)
           before_is : change.before ≡ here.own
           before_is = some_own change.before here.own (sym change.was ∙ here.kept)
 
-          same_work : IsWritten c.table table t HasSameWork
+          same_work : IsWritten c.table table t HasSameWordList
           same_work = record {
             before = written.before;
             after = written.after;
             was = written.was;
             is = written.is;
-            changed = record { history = ap (λ x. x.history) written.changed.work; words = ap (λ x. x.words) written.changed.writes };
+            changed = record { words = ap (λ x. x.words) written.changed.writes };
           }
 
           moved : IsOwnOfReader c.tale t (own_of table t) (IsPreparing (n + 1) last)

@@ -92,7 +92,7 @@ module _ (before : Readers) (opening : Map) (steps : List Step) (s : State) (c :
   states = λ i u. sym (change.states u) i
 
   one : (r : ActiveTx) → r.id ≢ t → IsKeptActive c.table r → IsKeptActive table r
-  one r ne w = record { own = w.own; kept = change.beside r.id ne ∙ w.kept; history = w.history }
+  one r ne w = record { own = w.own; kept = change.beside r.id ne ∙ w.kept }
 
   still : (x : StampedTx) → (x.settled ≡ false → x.id ≢ t) → (x.settled ≡ false → IsKeptPreparing c.table c.tale x) → x.settled ≡ false → IsKeptPreparing table tale x
   still x ne w open' = let p = w open' in record {

@@ -22,14 +22,13 @@ use Rattle.mvo_core.specs.Data.{CoreData, own_of}
 use Rattle.mvo_core.specs.Keeping.{IsWritten}
 use Rattle.mvo_core.specs.Readers.{Readers}
 use Rattle.mvo_core.specs.Standing.{StandsAmong, HasWorks, IsKeptActive, IsKeptPreparing}
-use Rattle.mvo_core.specs.WholeStanding.{readers_of, HasSameWork, ReadersMove, ReaderGoesOn}
-use Rattle.mvo_core.proofs.Carried.{some_own}
+use Rattle.mvo_core.specs.WholeStanding.{readers_of, HasSameWordList, ReadersMove, ReaderGoesOn}
 use Rattle.mvo_core.proofs.OwnChanged.{IsOwnChanged, own_changed, words_stay}
 
 module _ (before : Readers) (opening : Map) (steps : List Step) (s : State) (c : CoreData) (h : StandsAmong before opening steps s c) (t : ℕ) (table : Txns (Node KeptTransaction)) (tale : List TalePlace)
-    (apart : AllByRecursion (λ x. x.settled ≡ false → x.id ≢ t) s.stamped) (written : IsWritten c.table table t HasSameWork) (opens : (q d : ℕ) → open_end_at c.tale q ≡ Some d → open_end_at tale q ≡ Some d) where
-  change : IsOwnChanged c.table table t HasSameWork
-  change = own_changed c.table table t HasSameWork written
+    (apart : AllByRecursion (λ x. x.settled ≡ false → x.id ≢ t) s.stamped) (written : IsWritten c.table table t HasSameWordList) (opens : (q d : ℕ) → open_end_at c.tale q ≡ Some d → open_end_at tale q ≡ Some d) where
+  change : IsOwnChanged c.table table t HasSameWordList
+  change = own_changed c.table table t HasSameWordList written
 
   states : state_of c.table ≡ state_of table
   states = λ i u. sym (change.states u) i
@@ -38,12 +37,8 @@ module _ (before : Readers) (opening : Map) (steps : List Step) (s : State) (c :
   one r w =
       ⊎_elim
       (λ is.
-      let same : change.before ≡ w.own = some_own change.before w.own (sym change.was ∙ ap (own_of c.table) (sym is) ∙ w.kept) in record {
-        own = change.after;
-        kept = ap (own_of table) is ∙ change.is;
-        history = change.changed.history ∙ ap (λ (o : KeptTransaction). o.work.history) same ∙ w.history;
-      })
-      (λ ne. record { own = w.own; kept = change.beside r.id ne ∙ w.kept; history = w.history })
+      record { own = change.after; kept = ap (own_of table) is ∙ change.is })
+      (λ ne. record { own = w.own; kept = change.beside r.id ne ∙ w.kept })
       (cases_eq r.id t)
 
   still : (x : StampedTx) → (x.settled ≡ false → x.id ≢ t) → (x.settled ≡ false → IsKeptPreparing c.table c.tale x) → x.settled ≡ false → IsKeptPreparing table tale x
@@ -70,7 +65,7 @@ readers_moved before after opening steps s c t table tale h apart written opens 
   order = subst (λ st. AllStandInOrder s.start st c.versions.slots c.versions.lists) (states before opening steps s c h t table tale apart written opens) h.order;
   works = works before opening steps s c h t table tale apart written opens;
   words = subst (HasWordLists s c.versions.slots)
-      (sym (words_stay c.table table t HasSameWork (change before opening steps s c h t table tale apart written opens) (change before opening steps s c h t table tale apart written opens).changed.words)) h.words;
+      (sym (words_stay c.table table t HasSameWordList (change before opening steps s c h t table tale apart written opens) (change before opening steps s c h t table tale apart written opens).changed.words)) h.words;
   tale = has;
   places = places;
   stages = stages;

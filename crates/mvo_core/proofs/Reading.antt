@@ -1,6 +1,5 @@
 -- A row is read: what the core stands for then.
-use Rattle.std.proofs.Common.{◌≡◌, List, ◌++◌, Option, None, Some, refl, sym, ap, ◌∙◌, subst}
-use Rattle.std.specs.Prelude.{IfSome}
+use Rattle.std.proofs.Common.{◌≡◌, List, ◌++◌, None, Some, refl, sym, ap, ◌∙◌, subst}
 use Rattle.std.specs.Option.{option_to_list}
 use Rattle.mvo_types.specs.declared.ids.TxId.{TxId}
 use Rattle.mvo_types.specs.declared.op.Op.TheVariants.{Read}
@@ -21,17 +20,16 @@ use Rattle.mvo_theory.specs.Calls.Call.{Do}
 use Rattle.mvo_theory.specs.Calls.Result.{Accepted, Refused}
 use Rattle.mvo_txn.specs.Txns.{Txns, state_of}
 use Rattle.mvo_deps.specs.declared.node.Node.{Node}
+use Rattle.mvo_deps.specs.Nodes.{after_register_all}
 use Rattle.mvo_visible.specs.declared.outcome.Shown.{Shown}
 use Rattle.mvo_visible.specs.Versions.{versions_at}
 use Rattle.mvo_visible.specs.Shown.{AreVersionsInOrder}
 use Rattle.mvo_readonly.specs.Whole.{stage_of}
-use Rattle.mvo_work.specs.Limits.{MayFollow}
 use Rattle.mvo_core.specs.Readers.{Readers}
 use Rattle.mvo_core.specs.declared.kept_transaction.KeptTransaction.{KeptTransaction}
 use Rattle.mvo_core.specs.Causes.{why_not_look}
 use Rattle.mvo_core.specs.Own.{done_in}
-use Rattle.mvo_core.specs.Data.{CoreData, own_of}
-use Rattle.mvo_core.specs.Keeping.{IsWritten, HasDoneAsMuch, IsRecorded}
+use Rattle.mvo_core.specs.Data.{CoreData}
 use Rattle.mvo_core.specs.Looking.{row_shown}
 use Rattle.mvo_core.specs.Standing.{StandsAmong}
 use Rattle.mvo_core.specs.Steps.{LeadsAmong}
@@ -41,11 +39,10 @@ use Rattle.mvo_content.specs.Next.{NextData}
 use Rattle.mvo_content.specs.Works.{WorksData, IsPreparedAt, MayBeTold}
 use Rattle.mvo_core.proofs.Answered.{recorded_leads}
 use Rattle.mvo_core.proofs.Asked.{active_if_looked}
-use Rattle.mvo_core.proofs.Carried.{stands_as_much}
 use Rattle.mvo_core.proofs.CausesTold.{not_read_is, MayLook}
 use Rattle.mvo_core.proofs.Looked.{IsActiveHere, active_here, shown_in, versions_in_order, row_is, names_just}
 use Rattle.mvo_core.proofs.Refused.{refused_leads, spent_leads}
-use Rattle.mvo_core.proofs.WorksHeld.{own_may_follow, IsNextTold, may_be_told, key_fits, key_answer, key_told}
+use Rattle.mvo_core.proofs.WorksHeld.{IsNextTold, may_be_told, key_fits, key_answer, key_told}
 
 module _ (rs : Readers) (opening : Map) (steps : List Step) (s : State) (c : CoreData) (h : StandsAmong rs opening steps s c) (t : TxId) (k : RowKey) (looks : MayLook (stage_of t.0 rs.unfinished)) where
   pub read_refused : (r : Refusal) → why_not_look c.table (done_in c.works t.0) t.0 k.table (Key k) ≡ Some r → (new : CoreData) → StandsAmong rs opening (steps ++ steps_of_refusal t.0 r) (after_refusal s t.0 r) new
@@ -63,15 +60,12 @@ module _ (rs : Readers) (opening : Map) (steps : List Step) (s : State) (c : Cor
     pub read_spent : LeadsAmong rs opening steps s (Do t.0 (Read k)) (Refused OutOfMemory) c
     read_spent = spent_leads rs opening steps s t.0 (Read k) c may h
 
-    pub read_spent_roomy : (table : Txns (Node KeptTransaction)) → IsWritten c.table table t.0 HasDoneAsMuch → LeadsAmong rs opening steps s (Do t.0 (Read k)) (Refused OutOfMemory) (record c { table = table })
-    read_spent_roomy table w = spent_leads rs opening steps s t.0 (Read k) (record c { table = table }) may (stands_as_much rs opening steps s c h t.0 table w)
+    pub read_spent_roomy : (table : Txns (Node KeptTransaction)) → table ≡ c.table → LeadsAmong rs opening steps s (Do t.0 (Read k)) (Refused OutOfMemory) (record c { table = table })
+    read_spent_roomy table same = subst (λ (x : Txns (Node KeptTransaction)). LeadsAmong rs opening steps s (Do t.0 (Read k)) (Refused OutOfMemory) (record c { table = x })) (sym same) read_spent
 
     -- its work may be told
     pub read_may_be_told : (rows : List RowData) (n : NextData) → IsPreparedAt c.works t.0 (Read k) rows n → MayBeTold c.works t.0 n
     read_may_be_told rows n p = may_be_told rs opening steps s c h t.0 (Read k) may rows n p
-
-    pub read_may_follow : (a : AnswerData) → IfSome (own_of c.table t.0) (λ own. MayFollow own.work.history (Read k) a)
-    read_may_follow a = own_may_follow rs opening steps s c h t.0 (Read k) may a
 
     pub read_fits : (found : Shown) → (AreVersionsInOrder (state_of c.table) t.0 t.0 (versions_at c.versions.slots c.versions.lists k) → found ≡ shown_in c t.0 k) → AreRowsOf (Key k) (option_to_list (row_shown c.versions.slots found.version))
     read_fits found is = key_fits rs opening steps s c h t.0 here k found is
@@ -81,21 +75,20 @@ module _ (rs : Readers) (opening : Map) (steps : List Step) (s : State) (c : Cor
         → (a : AnswerData) → a ≡ n.answer → a ≡ answer_in s t.0 (Read k)
     read_answers found is n p a told = told ∙ key_answer rs opening steps s c h t.0 here k found is (Read k) refl may n p
 
-    -- recorded
-    module _ (found : Shown) (is : AreVersionsInOrder (state_of c.table) t.0 t.0 (versions_at c.versions.slots c.versions.lists k) → found ≡ shown_in c t.0 k) (row : Option RowData)
-        (told : row ≡ row_shown c.versions.slots found.version) where
+    -- and that is told it
+    module _ (found : Shown) (is : AreVersionsInOrder (state_of c.table) t.0 t.0 (versions_at c.versions.slots c.versions.lists k) → found ≡ shown_in c t.0 k) where
       shown : found ≡ shown_in c t.0 k
       shown = is (versions_in_order rs opening steps s c h t.0 here.state k)
 
-      row_there : row ≡ row_at (snapshot s t.0) k
-      row_there = told ∙ ap (λ (x : Shown). row_shown c.versions.slots x.version) shown ∙ row_is rs opening steps s c h t.0 here.tx here.found k
+      row_there : row_shown c.versions.slots found.version ≡ row_at (snapshot s t.0) k
+      row_there = ap (λ (x : Shown). row_shown c.versions.slots x.version) shown ∙ row_is rs opening steps s c h t.0 here.tx here.found k
 
-      row_answers : Found row ≡ answer_in s t.0 (Read k)
+      row_answers : Found (row_shown c.versions.slots found.version) ≡ answer_in s t.0 (Read k)
       row_answers = ap Found row_there
 
-      pub read_leads : (table : Txns (Node KeptTransaction)) → IsRecorded c.table table t (option_to_list found.depends_on) (Read k) (Found row)
+      pub read_leads : (table : Txns (Node KeptTransaction)) → table ≡ after_register_all c.table t (option_to_list found.depends_on)
           → (more : WorksData) → IsNextTold c.works t.0 (Read k) (option_to_list (row_shown c.versions.slots found.version)) more → LeadsAmong rs opening steps s (Do t.0 (Read k)) Accepted (record c { table = table; works = more })
       read_leads table w more next =
-          recorded_leads rs opening steps s c h t here.tx here.found (Read k) (Found row) may row_answers refl (option_to_list found.depends_on)
+          recorded_leads rs opening steps s c h t here.tx here.found (Read k) (Found (row_shown c.versions.slots found.version)) may row_answers refl (option_to_list found.depends_on)
           (subst (λ (x : Shown). AreDependencies s (Read k) here.tx (option_to_list x.depends_on)) (sym shown) (names_just rs opening steps s c h t.0 here.tx here.found k (Read k) refl)) table w more
           (key_told rs opening steps s c h t.0 here k found is (Read k) refl may more next)

@@ -1,23 +1,17 @@
--- Room is made for an operation, and those are registered on whom it lets the transaction depend.
-use Rattle.std.proofs.Common.{◌≡◌, ◌<◌, ℕ, List, Some, sym, ap, ◌∙◌, subst}
+-- Room is made for words, and those are registered on whom it lets the transaction depend.
+use Rattle.std.proofs.Common.{◌≡◌, ◌≤◌, List, Some, ap, ◌∙◌}
 use Rattle.std.specs.Prelude.{IsSome, IfSome}
 use Rattle.std.specs.Option.{is_some}
 use Rattle.mvo_types.specs.declared.ids.TxId.{TxId}
-use Rattle.mvo_model.specs.History.{History}
 use Rattle.mvo_txn.specs.Txns.{Txns}
 use Rattle.mvo_deps.specs.declared.node.Node.{Node}
 use Rattle.mvo_deps.specs.Nodes.{after_register_all}
 use Rattle.mvo_deps.specs.Graph.{IsUnfinished}
-use Rattle.mvo_work.specs.Writes.{HasRoom}
 use Rattle.mvo_core.specs.declared.kept_transaction.KeptTransaction.{KeptTransaction}
 use Rattle.mvo_core.specs.Data.{own_of}
 use Rattle.mvo_core.specs.Keeping.{IsWritten, HasMadeRoom}
 use Rattle.mvo_core.proofs.Asked.{unfinished_if_own, if_own}
 use Rattle.mvo_core.proofs.OwnChanged.{IsOwnChanged, own_changed, own_registered_all}
-
--- what is so of one that is there
-of_own : (table : Txns (Node KeptTransaction)) (t : ℕ) (own : KeptTransaction) (P : KeptTransaction → Type 0) → own_of table t ≡ Some own → IfSome (own_of table t) P → P own
-of_own table t own P e h = subst (λ o. IfSome o P) e h
 
 module _ (old roomy : Txns (Node KeptTransaction)) (t : TxId) (room : IsWritten old roomy t.0 HasMadeRoom) where
   changed : IsOwnChanged old roomy t.0 HasMadeRoom
@@ -36,13 +30,5 @@ module _ (old roomy : Txns (Node KeptTransaction)) (t : TxId) (room : IsWritten 
     pub there_then : IsSome (own_of table t.0)
     there_then = ap is_some own_then
 
-    pub room_then : IfSome (own_of table t.0) (λ own. 0 < own.work.room)
-    room_then = if_own (own_of table t.0) changed.after (λ own. 0 < own.work.room) own_then changed.changed.room.operation
-
-    pub all_room_then : IfSome (own_of table t.0) (λ own. HasRoom own.work own.writes)
-    all_room_then = if_own (own_of table t.0) changed.after (λ own. HasRoom own.work own.writes) own_then changed.changed.room
-
-    -- what is so of its history before
-    pub history_then : (P : History → Type 0) → IfSome (own_of old t.0) (λ own. P own.work.history) → IfSome (own_of table t.0) (λ own. P own.work.history)
-    history_then P h = if_own (own_of table t.0) changed.after (λ own. P own.work.history) own_then
-        (subst P (sym changed.changed.same.history) (of_own old t.0 changed.before (λ own. P own.work.history) changed.was h))
+    pub room_then : IfSome (own_of table t.0) (λ own. 2 ≤ own.writes.room)
+    room_then = if_own (own_of table t.0) changed.after (λ own. 2 ≤ own.writes.room) own_then changed.changed.room

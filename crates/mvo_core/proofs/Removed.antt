@@ -6,7 +6,6 @@ use Rattle.std.proofs.lemmas.Bool.{cases_eq, false≢true}
 use Rattle.std.proofs.lemmas.List.{append_assoc}
 use Rattle.mvo_types.specs.declared.ids.TxId.{TxId}
 use Rattle.mvo_types.specs.declared.row.RowKey.{RowKey}
-use Rattle.mvo_types.specs.declared.op.Op.{Op}
 use Rattle.mvo_types.specs.declared.op.Op.TheVariants.{Update, Delete}
 use Rattle.mvo_types.specs.AnswerData.{AnswerData}
 use Rattle.mvo_types.specs.AnswerData.AnswerData.{Updated, Deleted, Absent}
@@ -43,7 +42,7 @@ use Rattle.mvo_representation.proofs.WordsWritten.{delete_keeps_lists, update_ke
 use Rattle.mvo_core.specs.Readers.{Readers}
 use Rattle.mvo_core.specs.declared.kept_transaction.KeptTransaction.{KeptTransaction}
 use Rattle.mvo_core.specs.Data.{CoreData}
-use Rattle.mvo_core.specs.Keeping.{HasDoneMore}
+use Rattle.mvo_core.specs.Keeping.{HasWrittenMore}
 use Rattle.mvo_core.specs.Looking.{cause_at}
 use Rattle.mvo_core.specs.Standing.{words_in, StandsAmong}
 use Rattle.mvo_core.proofs.OwnChanged.{IsOwnChanged, own_weaker, words_beside, words_here, words_before, words_registered}
@@ -61,13 +60,13 @@ set_swap (o ∷ ss) (suc i) (suc j) x y ne = ap (λ rest. o ∷ rest) (set_swap 
 
 -- ---- what is kept of one transaction
 -- its list is this then
-list_now : (table : Txns (Node KeptTransaction)) (t : TxId) (ids : List TxId) (new : Txns (Node KeptTransaction)) (op : Op) (a : AnswerData) (put : List WordPlace)
-    → IsOwnChanged (after_register_all table t ids) new t.0 (HasDoneMore op a put) → HaveListNow (words_in table) (words_in new) t.0 (words_in table t.0 ++ put)
-list_now table t ids new op a put w = record {
-  others = λ u ne. words_beside (after_register_all table t ids) new t.0 (HasDoneMore op a put) w u ne ∙ ap (λ (f : ℕ → List WordPlace). f u) (words_registered table t ids);
-  here = words_here (after_register_all table t ids) new t.0 (HasDoneMore op a put) w
+list_now : (table : Txns (Node KeptTransaction)) (t : TxId) (ids : List TxId) (new : Txns (Node KeptTransaction)) (put : List WordPlace)
+    → IsOwnChanged (after_register_all table t ids) new t.0 (HasWrittenMore put) → HaveListNow (words_in table) (words_in new) t.0 (words_in table t.0 ++ put)
+list_now table t ids new put w = record {
+  others = λ u ne. words_beside (after_register_all table t ids) new t.0 (HasWrittenMore put) w u ne ∙ ap (λ (f : ℕ → List WordPlace). f u) (words_registered table t ids);
+  here = words_here (after_register_all table t ids) new t.0 (HasWrittenMore put) w
       ∙ w.changed.words
-      ∙ ap (λ ws. ws ++ put) (sym (words_before (after_register_all table t ids) new t.0 (HasDoneMore op a put) w) ∙ ap (λ (f : ℕ → List WordPlace). f t.0) (words_registered table t ids));
+      ∙ ap (λ ws. ws ++ put) (sym (words_before (after_register_all table t ids) new t.0 (HasWrittenMore put) w) ∙ ap (λ (f : ℕ → List WordPlace). f t.0) (words_registered table t ids));
 }
 
 -- ---- a version is ended
@@ -105,7 +104,7 @@ module _ (rs : Readers) (opening : Map) (steps : List Step) (s : State) (c : Cor
   deleted_is = ap (λ (o : Option ContentData). cond (is_some o) Deleted Absent) (row_there rs opening steps s c h r f k n e)
 
   module _ (ids : List TxId) (versions : VersionsData) (table : Table) (w : IsReworded c.versions versions n (ended_by r.id))
-      (told : IsOwnChanged (after_register_all c.table (tx_id r.id) ids) table r.id (HasDoneMore (Delete k) Deleted (End n ∷ []))) where
+      (told : IsOwnChanged (after_register_all c.table (tx_id r.id) ids) table r.id (HasWrittenMore (End n ∷ []))) where
     less_one : IsAfterAnswer s (phases_of (state_of c.table)) r.id (Delete k) Deleted (all_versions c.versions.slots) (all_versions versions.slots)
     less_one = (
       v,
@@ -127,15 +126,14 @@ module _ (rs : Readers) (opening : Map) (steps : List Step) (s : State) (c : Cor
     deleted_in_lists = subst (λ (q : RowKey). HasWordLists (after_answer s r.id (Delete q) Deleted) versions.slots (words_in table)) there.key
         (delete_keeps_lists opening s (state_of c.table) c.versions.slots versions.slots c.versions.lists c.versions.places (words_in c.table) (words_in table) r v n.0 h.versions f there.at may
         (subst (λ ss. HaveNow c.versions.slots ss n.0 (ended_by r.id v)) (sym w.slots) ended_now)
-        (list_now c.table (tx_id r.id) ids table (Delete k) Deleted (End n ∷ []) told) h.words)
+        (list_now c.table (tx_id r.id) ids table (End n ∷ []) told) h.words)
 
     pub deleted : AreDependencies s (Delete k) r ids → why_not_do s r.id (Delete k) ≡ None → IsAnswered s c (tx_id r.id) r (Delete k) ids versions table
     deleted on why = record {
       found = f;
       may = why;
       on = on;
-      told = subst (λ (a : AnswerData). IsOwnChanged (after_register_all c.table (tx_id r.id) ids) table r.id (HasAnswered (Delete k) a)) (sym deleted_is)
-          (own_weaker (after_register_all c.table (tx_id r.id) ids) table r.id (HasDoneMore (Delete k) Deleted (End n ∷ [])) (HasAnswered (Delete k) Deleted) (done_so (Delete k) Deleted (End n ∷ [])) told);
+      told = own_weaker (after_register_all c.table (tx_id r.id) ids) table r.id (HasWrittenMore (End n ∷ [])) HasAnswered (done_so (End n ∷ [])) told;
       versions = subst (λ (a : AnswerData). IsAfterAnswer s (phase_in s) r.id (Delete k) a (all_versions c.versions.slots) (all_versions versions.slots)) (sym deleted_is)
           (subst (λ p. IsAfterAnswer s p r.id (Delete k) Deleted (all_versions c.versions.slots) (all_versions versions.slots)) phases less_one);
       indexed = still_indexed c.versions versions n r.id w stood;
@@ -146,7 +144,7 @@ module _ (rs : Readers) (opening : Map) (steps : List Step) (s : State) (c : Cor
   -- ---- an update
   module _ (row : RowData) (key : row.key ≡ k) (m : VersionNo) (between versions : VersionsData) (p : IsPut c.versions between row r.id m) (sound : AreIndexed between)
       (w : IsReworded between versions n (ended_by r.id)) (ids : List TxId) (table : Table)
-      (told : IsOwnChanged (after_register_all c.table (tx_id r.id) ids) table r.id (HasDoneMore (Update row) Updated (End n ∷ Begin m ∷ []))) where
+      (told : IsOwnChanged (after_register_all c.table (tx_id r.id) ids) table r.id (HasWrittenMore (End n ∷ Begin m ∷ []))) where
     added : (version_at c.versions.slots m ≡ None) × HaveNow c.versions.slots (with_slot (with_room c.versions.slots) m (Some (fresh r.id row))) m.0 (fresh r.id row)
     added = added_is_now c.versions.slots m (fresh r.id row) p.hole
 
@@ -210,7 +208,7 @@ module _ (rs : Readers) (opening : Map) (steps : List Step) (s : State) (c : Cor
     updated_in_lists = update_keeps_lists opening s (state_of c.table) c.versions.slots ended_slots versions.slots c.versions.lists c.versions.places (words_in c.table) (words_in table) r v row n.0 m.0
         h.versions f there.at same_key may ended_now hole now
         (subst (HaveListNow (words_in c.table) (words_in table) r.id) (sym (append_assoc (words_in c.table r.id) (End n ∷ []) (Begin m ∷ [])))
-        (list_now c.table (tx_id r.id) ids table (Update row) Updated (End n ∷ Begin m ∷ []) told)) h.words
+        (list_now c.table (tx_id r.id) ids table (End n ∷ Begin m ∷ []) told)) h.words
 
     updated_is : answer_in s r.id (Update row) ≡ Updated
     updated_is = ap (λ (q : RowKey). answer_in s r.id (Update (record row { key = q }))) key ∙ ap (λ (o : Option ContentData). cond (is_some o) Updated Absent) (row_there rs opening steps s c h r f k n e)
@@ -220,8 +218,7 @@ module _ (rs : Readers) (opening : Map) (steps : List Step) (s : State) (c : Cor
       found = f;
       may = why;
       on = on;
-      told = subst (λ (a : AnswerData). IsOwnChanged (after_register_all c.table (tx_id r.id) ids) table r.id (HasAnswered (Update row) a)) (sym updated_is)
-          (own_weaker (after_register_all c.table (tx_id r.id) ids) table r.id (HasDoneMore (Update row) Updated (End n ∷ Begin m ∷ [])) (HasAnswered (Update row) Updated) (done_so (Update row) Updated (End n ∷ Begin m ∷ [])) told);
+      told = own_weaker (after_register_all c.table (tx_id r.id) ids) table r.id (HasWrittenMore (End n ∷ Begin m ∷ [])) HasAnswered (done_so (End n ∷ Begin m ∷ [])) told;
       versions = subst (λ (a : AnswerData). IsAfterAnswer s (phase_in s) r.id (Update row) a (all_versions c.versions.slots) (all_versions versions.slots)) (sym updated_is)
           (subst (λ q. IsAfterAnswer s q r.id (Update row) Updated (all_versions c.versions.slots) (all_versions versions.slots)) phases replaced);
       indexed = still_indexed between versions n r.id w sound;

@@ -1,6 +1,5 @@
 -- A range is scanned: what the core stands for then.
 use Rattle.std.proofs.Common.{◌≡◌, ℕ, List, None, refl, sym, ap, ◌∙◌, subst}
-use Rattle.std.specs.Prelude.{IfSome}
 use Rattle.mvo_types.specs.declared.ids.TxId.{TxId}
 use Rattle.mvo_types.specs.declared.op.Op.TheVariants.{Scan}
 use Rattle.mvo_types.specs.AnswerData.{AnswerData}
@@ -17,15 +16,14 @@ use Rattle.mvo_types.specs.declared.entry.Entry.TheVariants.{Range}
 use Rattle.mvo_theory.specs.State.{State, snapshot}
 use Rattle.mvo_txn.specs.Txns.{Txns, state_of}
 use Rattle.mvo_deps.specs.declared.node.Node.{Node}
+use Rattle.mvo_deps.specs.Nodes.{after_register_all}
 use Rattle.mvo_readonly.specs.Whole.{stage_of}
 use Rattle.mvo_core.proofs.CausesTold.{MayLook}
-use Rattle.mvo_work.specs.Limits.{MayFollow}
 use Rattle.mvo_core.specs.Readers.{Readers}
 use Rattle.mvo_core.specs.declared.kept_transaction.KeptTransaction.{KeptTransaction}
 use Rattle.mvo_core.specs.Causes.{why_not_look}
 use Rattle.mvo_core.specs.Own.{done_in}
-use Rattle.mvo_core.specs.Data.{CoreData, own_of}
-use Rattle.mvo_core.specs.Keeping.{IsRecorded}
+use Rattle.mvo_core.specs.Data.{CoreData}
 use Rattle.mvo_core.specs.Scanning.{IsSeen, IsScanned}
 use Rattle.mvo_core.specs.Others.{AreOthersShown}
 use Rattle.mvo_core.specs.Standing.{StandsAmong}
@@ -40,7 +38,7 @@ use Rattle.mvo_core.proofs.ScanDepends.{scan_seen, scan_depends}
 use Rattle.mvo_core.proofs.ScanRefused.{may_scan}
 use Rattle.mvo_core.proofs.ScanSame.{rows_are_scan}
 use Rattle.mvo_core.proofs.OthersShown.{others_are, others_fit}
-use Rattle.mvo_core.proofs.WorksHeld.{own_may_follow, IsNextTold, may_be_told, told_answer, was_told}
+use Rattle.mvo_core.proofs.WorksHeld.{IsNextTold, may_be_told, told_answer, was_told}
 
 module _ (rs : Readers) (opening : Map) (steps : List Step) (s : State) (c : CoreData) (h : StandsAmong rs opening steps s c) (t : TxId) (of lo hi : ℕ) (none : why_not_look c.table (done_in c.works t.0) t.0 of (Range of lo hi) ≡ None) (looks : MayLook (stage_of t.0 rs.unfinished)) where
   here : IsActiveHere s c t.0
@@ -49,9 +47,6 @@ module _ (rs : Readers) (opening : Map) (steps : List Step) (s : State) (c : Cor
   -- its work may be told
   pub scan_may_be_told : (others : List RowData) (n : NextData) → IsPreparedAt c.works t.0 (Scan of lo hi) others n → MayBeTold c.works t.0 n
   scan_may_be_told others n p = may_be_told rs opening steps s c h t.0 (Scan of lo hi) (may_scan rs opening steps s c h t of lo hi looks none) others n p
-
-  pub scan_may_follow : (a : AnswerData) → IfSome (own_of c.table t.0) (λ own. MayFollow own.work.history (Scan of lo hi) a)
-  scan_may_follow a = own_may_follow rs opening steps s c h t.0 (Scan of lo hi) (may_scan rs opening steps s c h t of lo hi looks none) a
 
   module _ (rows : List RowData) (on : List TxId) (w : IsScanned (state_of c.table) c.versions c.start t.0 of lo hi rows on) where
     seen : IsSeen (state_of c.table) c.versions s.start t.0 of lo hi rows on
@@ -70,10 +65,10 @@ module _ (rs : Readers) (opening : Map) (steps : List Step) (s : State) (c : Cor
     scan_fits ts same others o = others_fit rs opening steps s c h t.0 here of lo hi ts same rows others rows_there o
 
     -- with these ids, and these rows
-    pub scan_leads : (ids : List TxId) → ids ≡ on → (table : Txns (Node KeptTransaction)) → IsRecorded c.table table t ids (Scan of lo hi) (Rows rows)
+    pub scan_leads : (ids : List TxId) → ids ≡ on → (table : Txns (Node KeptTransaction)) → table ≡ after_register_all c.table t ids
         → (ts : History) → ts ≡ done_in c.works t.0 → (others : List RowData) → AreOthersShown ts c.table c.versions t.0 of lo hi rows others → (more : WorksData) → IsNextTold c.works t.0 (Scan of lo hi) others more → LeadsAmong rs opening steps s (Do t.0 (Scan of lo hi)) Accepted (record c { table = table; works = more })
     scan_leads ids all table k ts same others o more next =
         recorded_leads rs opening steps s c h t here.tx here.found (Scan of lo hi) (Rows rows) (may_scan rs opening steps s c h t of lo hi looks none) (ap Rows rows_there) refl on
         (scan_depends rs opening steps s c h t.0 of lo hi rows on here.tx here.found seen) table
-        (subst (λ (xs : List TxId). IsRecorded c.table table t xs (Scan of lo hi) (Rows rows)) all k) more
+        (subst (λ (xs : List TxId). table ≡ after_register_all c.table t xs) all k) more
         (was_told rs opening steps s c h t.0 (Scan of lo hi) (may_scan rs opening steps s c h t of lo hi looks none) others (λ new. others_are rs opening steps s c h t.0 here of lo hi ts same rows others rows_there o) more next)

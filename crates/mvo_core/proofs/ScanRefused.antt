@@ -1,5 +1,5 @@
 -- A scan is refused: what the core stands for then.
-use Rattle.std.proofs.Common.{◌≡◌, ℕ, List, ◌++◌, None, Some, sym, ◌∙◌}
+use Rattle.std.proofs.Common.{◌≡◌, ℕ, List, ◌++◌, None, Some, sym, ◌∙◌, subst}
 use Rattle.mvo_types.specs.declared.ids.TxId.{TxId}
 use Rattle.mvo_types.specs.declared.op.Op.TheVariants.{Scan}
 use Rattle.mvo_types.specs.declared.refusal.Refusal.{Refusal}
@@ -20,10 +20,8 @@ use Rattle.mvo_core.specs.declared.kept_transaction.KeptTransaction.{KeptTransac
 use Rattle.mvo_core.specs.Causes.{why_not_look}
 use Rattle.mvo_core.specs.Own.{done_in}
 use Rattle.mvo_core.specs.Data.{CoreData}
-use Rattle.mvo_core.specs.Keeping.{IsWritten, HasDoneAsMuch}
 use Rattle.mvo_core.specs.Standing.{StandsAmong}
 use Rattle.mvo_core.specs.Steps.{LeadsAmong}
-use Rattle.mvo_core.proofs.Carried.{stands_as_much}
 use Rattle.mvo_core.proofs.CausesTold.{not_scanned_is, MayLook}
 use Rattle.mvo_core.proofs.Refused.{refused_leads, spent_leads}
 
@@ -40,5 +38,5 @@ module _ (rs : Readers) (opening : Map) (steps : List Step) (s : State) (c : Cor
     pub scan_spent : LeadsAmong rs opening steps s (Do t.0 (Scan of lo hi)) (Refused OutOfMemory) c
     scan_spent = spent_leads rs opening steps s t.0 (Scan of lo hi) c may_scan h
 
-    pub scan_spent_roomy : (table : Txns (Node KeptTransaction)) → IsWritten c.table table t.0 HasDoneAsMuch → LeadsAmong rs opening steps s (Do t.0 (Scan of lo hi)) (Refused OutOfMemory) (record c { table = table })
-    scan_spent_roomy table w = spent_leads rs opening steps s t.0 (Scan of lo hi) (record c { table = table }) may_scan (stands_as_much rs opening steps s c h t.0 table w)
+    pub scan_spent_roomy : (table : Txns (Node KeptTransaction)) → table ≡ c.table → LeadsAmong rs opening steps s (Do t.0 (Scan of lo hi)) (Refused OutOfMemory) (record c { table = table })
+    scan_spent_roomy table same = subst (λ (x : Txns (Node KeptTransaction)). LeadsAmong rs opening steps s (Do t.0 (Scan of lo hi)) (Refused OutOfMemory) (record c { table = x })) (sym same) scan_spent

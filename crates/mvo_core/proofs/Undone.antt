@@ -140,7 +140,7 @@ module _ (rs : Readers) (opening : Map) (steps : List Step) (s : State) (c : Cor
     rest_of_preparing : (e : Stamp) (x : StampedTx) → preparing_of t s.stamped ≡ Some x → HasRest rs (after_abort_of s t (Some x)) table (tale_left (Some (Preparing e)) Other c.tale place) c
     rest_of_preparing e x f = record {
       works = record {
-        active = each_map (active_with_flag t x.end) (IsKeptActive table) (IsKeptActive table) (λ r p. record { own = p.own; kept = p.kept; history = p.history }) s.active w.active;
+        active = each_map (active_with_flag t x.end) (IsKeptActive table) (IsKeptActive table) (λ r p. record { own = p.own; kept = p.kept }) s.active w.active;
         preparing = each_map (with_flag t x.end) (λ y. y.settled ≡ false → IsKeptPreparing table left y) (λ y. y.settled ≡ false → IsKeptPreparing table left y)
             (λ y p open'. let q = p open' in record { own = q.own; kept = q.kept; history = q.history; checked = q.checked; valid = q.valid; place = q.place })
             (filter (not_at x.end) s.stamped)

@@ -1,6 +1,6 @@
 -- An update: what the core stands for then.
 use Rattle.std.proofs.Common.{◌≡◌, ℕ, cond, List, [], ◌∷◌, ◌++◌, Option, None, Some, refl, sym, ap, ◌∙◌, subst}
-use Rattle.std.specs.Prelude.{IsSome, IfSome}
+use Rattle.std.specs.Prelude.{IsSome}
 use Rattle.std.specs.Option.{is_some, option_to_list}
 use Rattle.mvo_types.specs.declared.entry.Entry.TheVariants.{Key}
 use Rattle.mvo_types.specs.declared.ids.TxId.{TxId}
@@ -9,7 +9,6 @@ use Rattle.mvo_types.specs.declared.op.Op.TheVariants.{Update}
 use Rattle.mvo_types.specs.declared.refusal.Refusal.{Refusal}
 use Rattle.mvo_types.specs.declared.refusal.Refusal.TheVariants.{OutOfMemory, WriteConflict}
 use Rattle.mvo_types.specs.RowData.{RowData}
-use Rattle.mvo_types.specs.AnswerData.{AnswerData}
 use Rattle.mvo_types.specs.AnswerData.AnswerData.{Updated, Absent}
 use Rattle.mvo_types.specs.Keys.{Map}
 use Rattle.mvo_model.specs.Trace.{Step}
@@ -36,14 +35,13 @@ use Rattle.mvo_representation.specs.Steps.{ended_by}
 use Rattle.mvo_versions.specs.Data.{VersionsData}
 use Rattle.mvo_versions.specs.Changes.{IsPut, IsReworded}
 use Rattle.mvo_readonly.specs.Whole.{stage_of}
-use Rattle.mvo_work.specs.Limits.{MayFollow}
 use Rattle.mvo_core.specs.Readers.{Readers}
 use Rattle.mvo_core.specs.declared.kept_transaction.KeptTransaction.{KeptTransaction}
 use Rattle.mvo_core.specs.Causes.{why_not_put}
 use Rattle.mvo_core.specs.Own.{done_in}
-use Rattle.mvo_core.specs.Data.{CoreData, own_of}
+use Rattle.mvo_core.specs.Data.{CoreData}
 use Rattle.mvo_core.specs.Ending.{IsReplaced, IsLeft}
-use Rattle.mvo_core.specs.Keeping.{IsWritten, HasDoneAsMuch, HasMadeRoom, HasDoneMore, IsRecorded}
+use Rattle.mvo_core.specs.Keeping.{HasMadeRoom, HasWrittenMore}
 use Rattle.mvo_core.specs.Looking.{cause_at, row_shown}
 use Rattle.mvo_core.specs.Standing.{StandsAmong}
 use Rattle.mvo_core.specs.Steps.{LeadsAmong}
@@ -60,7 +58,7 @@ use Rattle.mvo_core.proofs.OwnChanged.{IsOwnChanged, own_changed}
 use Rattle.mvo_core.proofs.Refused.{refused_leads, spent_leads}
 use Rattle.mvo_core.proofs.Removed.{updated}
 use Rattle.mvo_core.proofs.SameVersions.{stands_same_versions}
-use Rattle.mvo_core.proofs.WorksHeld.{own_may_follow, IsNextTold, may_be_told, key_fits, key_told}
+use Rattle.mvo_core.proofs.WorksHeld.{IsNextTold, may_be_told, key_fits, key_told}
 
 module _ (rs : Readers) (opening : Map) (steps : List Step) (s : State) (c : CoreData) (h : StandsAmong rs opening steps s c) (t : TxId) (row : RowData) (other : stage_of t.0 rs.unfinished ≡ None) where
   pub update_refused : (r : Refusal) → why_not_put c.table (done_in c.works t.0) t.0 row ≡ Some r → (new : CoreData) → StandsAmong rs opening (steps ++ steps_of_refusal t.0 r) (after_refusal s t.0 r) new
@@ -109,8 +107,8 @@ module _ (rs : Readers) (opening : Map) (steps : List Step) (s : State) (c : Cor
         pub update_starved : LeadsAmong rs opening steps s (Do t.0 (Update row)) (Refused OutOfMemory) c
         update_starved = spent_leads rs opening steps s t.0 (Update row) c may h
 
-        pub update_spent : (table : Txns (Node KeptTransaction)) → IsWritten c.table table t.0 HasDoneAsMuch → LeadsAmong rs opening steps s (Do t.0 (Update row)) (Refused OutOfMemory) (record c { table = table })
-        update_spent table w = spent_leads rs opening steps s t.0 (Update row) (record c { table = table }) may (stands_as_much rs opening steps s c h t.0 table w)
+        pub update_spent : (table : Txns (Node KeptTransaction)) → table ≡ c.table → LeadsAmong rs opening steps s (Do t.0 (Update row)) (Refused OutOfMemory) (record c { table = table })
+        update_spent table same = subst (λ (x : Txns (Node KeptTransaction)). LeadsAmong rs opening steps s (Do t.0 (Update row)) (Refused OutOfMemory) (record c { table = x })) (sym same) update_starved
 
         pub update_left : (versions : VersionsData) (table : Txns (Node KeptTransaction)) → IsLeft c.versions versions c.table table t
             → LeadsAmong rs opening steps s (Do t.0 (Update row)) (Refused OutOfMemory) (record c { versions = versions; table = table })
@@ -122,9 +120,6 @@ module _ (rs : Readers) (opening : Map) (steps : List Step) (s : State) (c : Cor
         pub update_may_be_told : (rows : List RowData) (n : NextData) → IsPreparedAt c.works t.0 (Update row) rows n → MayBeTold c.works t.0 n
         update_may_be_told rows n p = may_be_told rs opening steps s c h t.0 (Update row) may rows n p
 
-        pub update_may_follow : (a : AnswerData) → IfSome (own_of c.table t.0) (λ own. MayFollow own.work.history (Update row) a)
-        update_may_follow a = own_may_follow rs opening steps s c h t.0 (Update row) may a
-
         pub update_fits : AreRowsOf (Key row.key) (option_to_list (row_shown c.versions.slots found.version))
         update_fits = key_fits rs opening steps s c h t.0 here row.key found is
 
@@ -132,7 +127,7 @@ module _ (rs : Readers) (opening : Map) (steps : List Step) (s : State) (c : Cor
         pub absent_answers : found.version ≡ None → Absent ≡ answer_in s t.0 (Update row)
         absent_answers e = sym (answer_is ∙ ap (λ (o : Option VersionNo). cond (is_some o) Updated Absent) e)
 
-        pub absent_leads : found.version ≡ None → (table : Txns (Node KeptTransaction)) → IsRecorded c.table table t (option_to_list found.depends_on) (Update row) Absent
+        pub absent_leads : found.version ≡ None → (table : Txns (Node KeptTransaction)) → table ≡ after_register_all c.table t (option_to_list found.depends_on)
             → (more : WorksData) → IsNextTold c.works t.0 (Update row) (option_to_list (row_shown c.versions.slots found.version)) more → LeadsAmong rs opening steps s (Do t.0 (Update row)) Accepted (record c { table = table; works = more })
         absent_leads e table w more next = recorded_leads rs opening steps s c h t here.tx here.found (Update row) Absent may (absent_answers e) refl (option_to_list found.depends_on) on table w more (key_told rs opening steps s c h t.0 here row.key found is (Update row) refl may more next)
 
@@ -152,13 +147,13 @@ module _ (rs : Readers) (opening : Map) (steps : List Step) (s : State) (c : Cor
             stands : StandsAmong rs opening steps s (record c { table = w.recorded.roomy })
             stands = stands_roomy rs opening steps s c h t.0 w.recorded.roomy w.recorded.room
 
-            told : IsOwnChanged (after_register_all w.recorded.roomy t (option_to_list found.depends_on)) table t.0 (HasDoneMore (Update row) Updated (End n ∷ Begin w.place ∷ []))
-            told = own_changed (after_register_all w.recorded.roomy t (option_to_list found.depends_on)) table t.0 (HasDoneMore (Update row) Updated (End n ∷ Begin w.place ∷ [])) w.recorded.done
+            told : IsOwnChanged (after_register_all w.recorded.roomy t (option_to_list found.depends_on)) table t.0 (HasWrittenMore (End n ∷ Begin w.place ∷ []))
+            told = own_changed (after_register_all w.recorded.roomy t (option_to_list found.depends_on)) table t.0 (HasWrittenMore (End n ∷ Begin w.place ∷ [])) w.recorded.done
 
             abbrev Claim : ℕ → Type 0
             Claim i = (shown_to (state_of w.recorded.roomy) i i (versions_at c.versions.slots c.versions.lists row.key)).version ≡ Some n → cause_at (state_of w.recorded.roomy) c.versions.slots i (Some n) ≡ None
                 → IsPut c.versions w.between row i w.place → IsReworded w.between versions n (ended_by i)
-                → IsOwnChanged (after_register_all w.recorded.roomy (tx_id i) (option_to_list found.depends_on)) table i (HasDoneMore (Update row) Updated (End n ∷ Begin w.place ∷ []))
+                → IsOwnChanged (after_register_all w.recorded.roomy (tx_id i) (option_to_list found.depends_on)) table i (HasWrittenMore (End n ∷ Begin w.place ∷ []))
                 → why_not_do s i (Update row) ≡ None
                 → IsAnswered s (record c { table = w.recorded.roomy }) (tx_id i) here.tx (Update row) (option_to_list found.depends_on) versions table
 

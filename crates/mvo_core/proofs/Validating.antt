@@ -242,7 +242,7 @@ module _ (rs : Readers) (opening : Map) (steps : List Step) (s : State) (c : Cor
         rest_checked : HasRest rs (after_check s x.end last) table c.tale c
         rest_checked = record {
           works = record {
-            active = each_both (λ r. r.id ≢ t) (IsKeptActive c.table) (IsKeptActive table) (λ r ne w. record { own = w.own; kept = change.beside r.id ne ∙ w.kept; history = w.history }) s.active active_beside h.works.active;
+            active = each_both (λ r. r.id ≢ t) (IsKeptActive c.table) (IsKeptActive table) (λ r ne w. record { own = w.own; kept = change.beside r.id ne ∙ w.kept }) s.active active_beside h.works.active;
             preparing = each_map (with_check x.end last) (λ y. Alone y × (y.settled ≡ false → IsKeptPreparing c.table c.tale y)) (λ y. y.settled ≡ false → IsKeptPreparing table c.tale y) (λ y p o. one_checked y p.0 p.1 o) s.stamped
                 (each_both Alone (λ y. y.settled ≡ false → IsKeptPreparing c.table c.tale y) (λ y. Alone y × (y.settled ≡ false → IsKeptPreparing c.table c.tale y)) (λ y a b. (a, b)) s.stamped
                 (each_both (λ y. y.settled ≡ false → (y.id == t) ≡ (y.end == x.end)) (λ y. y.settled ≡ false → preparing_of y.id s.stamped ≡ Some y) Alone (λ y a b. (a, b)) s.stamped

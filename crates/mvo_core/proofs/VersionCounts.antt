@@ -10,7 +10,6 @@ use Rattle.mvo_types.specs.declared.refusal.Refusal.TheVariants.{OutOfMemory}
 use Rattle.mvo_types.specs.RowData.{RowData}
 use Rattle.mvo_types.specs.Keys.{Map}
 use Rattle.mvo_types.specs.declared.ids.TxId.{TxId}
-use Rattle.mvo_types.specs.declared.row.RowKey.{RowKey}
 use Rattle.mvo_theory.specs.Ranges.{Row}
 use Rattle.mvo_word.specs.declared.held.Held.{Held}
 use Rattle.mvo_chain.specs.declared.version.Version.{Version}
@@ -117,8 +116,8 @@ module _ (old new : VersionsData) (table after : Txns (Node KeptTransaction)) (t
   pub inserted_counts : (row : RowData) → IsInserted old new table after t ids row → length (all_versions new.slots) ≡ length (all_versions old.slots) + 1
   inserted_counts row w = put_counts old new row t.0 w.number w.put
 
-  pub removed_counts : (n : VersionNo) (key : RowKey) → IsRemoved old new table after t ids n key → length (all_versions new.slots) ≡ length (all_versions old.slots)
-  removed_counts n key w = reworded_counts old new n _ w.ended
+  pub removed_counts : (n : VersionNo) → IsRemoved old new table after t ids n → length (all_versions new.slots) ≡ length (all_versions old.slots)
+  removed_counts n w = reworded_counts old new n _ w.ended
 
   pub replaced_counts : (n : VersionNo) (row : RowData) → IsReplaced old new table after t ids n row → length (all_versions new.slots) ≡ length (all_versions old.slots) + 1
   replaced_counts n row w = reworded_counts w.between new n _ w.ended ∙ put_counts old w.between row t.0 w.place w.put

@@ -6,8 +6,6 @@ use Rattle.std.specs.Option.{option_map}
 use Rattle.std.specs.List.{AllByRecursion}
 use Rattle.std.proofs.lemmas.Bool.{cases_eq, false≢true}
 use Rattle.mvo_types.specs.declared.ids.TxId.{TxId}
-use Rattle.mvo_types.specs.declared.op.Op.{Op}
-use Rattle.mvo_types.specs.AnswerData.{AnswerData}
 use Rattle.mvo_types.specs.RowData.{RowData}
 use Rattle.mvo_word.specs.declared.held.Held.{Held}
 use Rattle.mvo_chain.specs.declared.version.Version.{Version}
@@ -46,7 +44,7 @@ use Rattle.mvo_core.specs.Collecting.{is_open_end, is_open_end_at, counted_off}
 use Rattle.mvo_core.specs.Ending.{IsRemoved, IsReplaced}
 use Rattle.mvo_core.specs.Finishing.{IsFinalWord, HasPassed, from_own, IsFirstReplaced, IsNextReplaced}
 use Rattle.mvo_core.specs.Inserting.{IsInserted}
-use Rattle.mvo_core.specs.Keeping.{IsWritten, HasDoneAsMuch, HasMadeRoom, HasDoneMore, IsTold, HasDropped, IsRecorded, IsRecordedWith}
+use Rattle.mvo_core.specs.Keeping.{IsWritten, HasWrittenAsMuch, HasMadeRoom, HasWrittenMore, HasDropped, IsRecordedWith}
 use Rattle.mvo_core.specs.Looking.{HasSameVersions}
 use Rattle.mvo_core.specs.Standing.{words_in}
 use Rattle.mvo_core.proofs.BesideWords.{list_written, list_was}
@@ -105,15 +103,16 @@ clock_registered_all table t (on ∷ ons) = clock_registered_all (after_register
 pub alike_registered : (table : Txns (Node KeptTransaction)) (t : TxId) (ids : List TxId) → AreAlike table (after_register_all table t ids)
 alike_registered table t ids = record { clock = clock_registered_all table t ids; states = state_registered_all table t ids }
 
-pub alike_recorded : (old new : Txns (Node KeptTransaction)) (t : TxId) (ids : List TxId) (op : Op) (answer : AnswerData) → IsRecorded old new t ids op answer → AreAlike old new
-alike_recorded old new t ids op answer w =
-    alike_twice old w.roomy new (alike_written old w.roomy t.0 HasMadeRoom w.room)
-    (alike_twice w.roomy (after_register_all w.roomy t ids) new (alike_registered w.roomy t ids) (alike_written (after_register_all w.roomy t ids) new t.0 (IsTold op answer) w.told))
+pub alike_depending : (old new : Txns (Node KeptTransaction)) (t : TxId) (ids : List TxId) → new ≡ after_register_all old t ids → AreAlike old new
+alike_depending old new t ids is = subst (λ (x : Txns (Node KeptTransaction)). AreAlike old x) (sym is) (alike_registered old t ids)
 
-pub alike_recorded_with : (old new : Txns (Node KeptTransaction)) (t : TxId) (ids : List TxId) (op : Op) (answer : AnswerData) (put : List WordPlace) → IsRecordedWith old new t ids op answer put → AreAlike old new
-alike_recorded_with old new t ids op answer put w =
+pub alike_same : (old new : Txns (Node KeptTransaction)) → new ≡ old → AreAlike old new
+alike_same old new is = subst (λ (x : Txns (Node KeptTransaction)). AreAlike old x) (sym is) (record { clock = refl; states = λ u. refl })
+
+pub alike_recorded_with : (old new : Txns (Node KeptTransaction)) (t : TxId) (ids : List TxId) (put : List WordPlace) → IsRecordedWith old new t ids put → AreAlike old new
+alike_recorded_with old new t ids put w =
     alike_twice old w.roomy new (alike_written old w.roomy t.0 HasMadeRoom w.room)
-    (alike_twice w.roomy (after_register_all w.roomy t ids) new (alike_registered w.roomy t ids) (alike_written (after_register_all w.roomy t ids) new t.0 (HasDoneMore op answer put) w.done))
+    (alike_twice w.roomy (after_register_all w.roomy t ids) new (alike_registered w.roomy t ids) (alike_written (after_register_all w.roomy t ids) new t.0 (HasWrittenMore put) w.done))
 
 pub waits_alike : (old new : Txns (Node KeptTransaction)) (slots : Slots) (w : WaitingData) → AreAlike old new → AreWaiting old.clock (state_of old) slots w → AreWaiting new.clock (state_of new) slots w
 waits_alike old new slots w a h = table_keeps_waiting old.clock new.clock (state_of old) (state_of new) slots w (let c = a.clock in omega (arith, c))
@@ -188,16 +187,16 @@ module _ (old new : VersionsData) (table after : Txns (Node KeptTransaction)) (t
       → AreWaiting table.clock (state_of table) old.slots w → AreWaiting after.clock (state_of after) new.slots last
   waits_inserted row last p is h =
       waits_alike table after new.slots last
-      (alike_recorded_with table after t ids _ _ _ p.recorded)
+      (alike_recorded_with table after t ids _ p.recorded)
       (waits_put table.clock (state_of table) old new row t.0 p.number roomy last p.put is (waits_roomy table.clock (state_of table) old.slots w roomy roomy.room room h))
 
   -- ---- a delete
-  pub waits_removed : (n : VersionNo) (key : Rattle.mvo_types.specs.declared.row.RowKey.RowKey) (b : Bool) (last : WaitingData) → state_of table t.0 ≡ Some Active → IsSome (version_at old.slots n) → IsRemoved old new table after t ids n key
+  pub waits_removed : (n : VersionNo) (b : Bool) (last : WaitingData) → state_of table t.0 ≡ Some Active → IsSome (version_at old.slots n) → IsRemoved old new table after t ids n
       → b ≡ is_open_end_at old.slots n → last ≡ with_owed roomy (roomy.owed + cond b 0 1) last.room
       → AreWaiting table.clock (state_of table) old.slots w → AreWaiting after.clock (state_of after) new.slots last
-  waits_removed n key b last active there p test is h =
+  waits_removed n b last active there p test is h =
       waits_alike table after new.slots last
-      (alike_recorded_with table after t ids _ _ _ p.recorded)
+      (alike_recorded_with table after t ids _ p.recorded)
       (waits_ended table.clock (state_of table) old new t.0 n b roomy last active there p.ended test is (waits_roomy table.clock (state_of table) old.slots w roomy roomy.room room h))
 
   -- ---- an update
@@ -217,7 +216,7 @@ module _ (old new : VersionsData) (table after : Txns (Node KeptTransaction)) (t
   waits_replaced n row b owed last active there p test one is h =
       let same = still_there p.between row p.place n p.put there in
       waits_alike table after new.slots last
-      (alike_recorded_with table after t ids _ _ _ p.recorded)
+      (alike_recorded_with table after t ids _ p.recorded)
       (waits_ended table.clock (state_of table) p.between new t.0 n b owed last active (subst IsSome (sym same) there) p.ended (test ∙ ap is_open_end (sym same)) is
       (waits_put table.clock (state_of table) old p.between row t.0 p.place roomy owed p.put one (waits_roomy table.clock (state_of table) old.slots w roomy roomy.room room h)))
 
@@ -263,10 +262,10 @@ module _ (old new : VersionsData) (table table' end : Txns (Node KeptTransaction
       waits_alike table end new.slots w' (alike_twice table r.between end alike_passed (alike_last o q)) (by_place w w' o at q is h)
 
 -- ---- a write for which memory is wanting
-pub waits_spent : (table after : Txns (Node KeptTransaction)) (t : ℕ) (old new : VersionsData) (w roomy : WaitingData) → roomy ≡ record w { room = roomy.room } → HasSameVersions old new → IsWritten table after t HasDoneAsMuch
+pub waits_spent : (table after : Txns (Node KeptTransaction)) (t : ℕ) (old new : VersionsData) (w roomy : WaitingData) → roomy ≡ record w { room = roomy.room } → HasSameVersions old new → IsWritten table after t HasWrittenAsMuch
     → AreWaiting table.clock (state_of table) old.slots w → AreWaiting after.clock (state_of after) new.slots roomy
 waits_spent table after t old new w roomy room same much h =
-    waits_alike table after new.slots roomy (alike_written table after t HasDoneAsMuch much)
+    waits_alike table after new.slots roomy (alike_written table after t HasWrittenAsMuch much)
     (waits_same table.clock (state_of table) old new roomy same (waits_roomy table.clock (state_of table) old.slots w roomy roomy.room room h))
 
 -- ---- a begin, whatever it comes to

@@ -1,7 +1,6 @@
 -- A read-only transaction begins, or doesn't: what that leads to in the whole state.
-use Rattle.std.proofs.Common.{◌≡◌, ◌∙◌, ℕ, ◌+◌, ◌<◌, List, [], ◌∷◌, ◌++◌, append-nil, length, Option, None, Some, refl, sym, ap, subst}
+use Rattle.std.proofs.Common.{◌≡◌, ◌∙◌, ℕ, ◌+◌, List, [], ◌∷◌, ◌++◌, append-nil, length, None, sym, ap, subst}
 use Rattle.std.specs.Prelude.{slice_set}
-use Rattle.std.specs.List.{AllByRecursion}
 use Rattle.mvo_types.specs.declared.ids.Stamp.{Stamp}
 use Rattle.mvo_types.specs.declared.refusal.Refusal.{Refusal}
 use Rattle.mvo_types.specs.Keys.{Map}
@@ -51,10 +50,10 @@ module _ (opening : Map) (steps own : List Step) (w : WholeState) (c : CoreData)
       (reader_not_begun opening steps own w c h rising)
 
   -- ---- it does
-  pub begins_whole : (node : Node KeptTransaction) → node.dependencies ≡ no_dependencies → node.own.work.history ≡ [] → node.own.writes.words ≡ [] → node.own.kind ≡ Reading → node.own.place ≡ length c.tale → (n : ℕ) → n ≡ c.table.clock
+  pub begins_whole : (node : Node KeptTransaction) → node.dependencies ≡ no_dependencies → node.own.writes.words ≡ [] → node.own.kind ≡ Reading → node.own.place ≡ length c.tale → (n : ℕ) → n ≡ c.table.clock
       → why_not_begun c.table ≡ None → (table : Txns (Node KeptTransaction)) → table ≡ table_after_begin c.table node → (tale : List TalePlace) → tale ≡ c.tale ++ PlaceReading (record { 0 = n + 1 }) ∷ []
       → LeadsWhole opening steps own w BeginReadOnly Accepted (record c { table = table; tale = tale })
-  begins_whole node none told wordless kind place n at why table table_is tale tale_is =
+  begins_whole node none wordless kind place n at why table table_is tale tale_is =
       subst (λ (xs : List TalePlace). LeadsWhole opening steps own w BeginReadOnly Accepted (record c { table = table; tale = xs })) (sym (tale_is ∙ ap (λ (b : Stamp). c.tale ++ PlaceReading b ∷ []) (begin_is n at)))
       (subst (λ (x : Txns (Node KeptTransaction)). LeadsWhole opening steps own w BeginReadOnly Accepted (record c { table = x; tale = c.tale ++ PlaceReading (record { 0 = w.core.clock + 1 }) ∷ [] })) (sym table_is)
-      (reader_begins opening steps own w c node h none told wordless kind place (sym (why_not_begun_told opening w.core c.table h.core.versions.kept h.core.dependencies.stands) ∙ why, tt)))
+      (reader_begins opening steps own w c node h none wordless kind place (sym (why_not_begun_told opening w.core c.table h.core.versions.kept h.core.dependencies.stands) ∙ why, tt)))

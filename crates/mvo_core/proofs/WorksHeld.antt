@@ -1,7 +1,7 @@
 -- What a core stands for where its works stay, where that of one that is over is forgotten, and where
 -- one is told an operation.
-use Rattle.std.proofs.Common.{◌≡◌, ◌≢◌, ℕ, ◌++◌, Bool, true, false, cond, List, Option, None, Some, refl, sym, ap, ◌∙◌, subst}
-use Rattle.std.specs.Prelude.{nat_lt, length, IfSome}
+use Rattle.std.proofs.Common.{◌≡◌, ◌≢◌, ℕ, Bool, true, false, List, Option, None, Some, refl, sym, ap, ◌∙◌, subst}
+use Rattle.std.specs.Prelude.{nat_lt, length}
 use Rattle.std.specs.Option.{option_to_list}
 use Rattle.std.specs.List.{AllByRecursion}
 use Rattle.std.proofs.lemmas.Bool.{ltb-false}
@@ -25,7 +25,7 @@ use Rattle.mvo_theory.specs.Calls.{answer_in}
 use Rattle.mvo_theory.specs.Entries.{entry_of}
 use Rattle.mvo_theory.specs.State.{State, ActiveTx, active_of, snapshot, seen_by}
 use Rattle.mvo_theory.proofs.Cases.{if_stands, not_op}
-use Rattle.mvo_theory.proofs.Who.{active_done, active_holds}
+use Rattle.mvo_theory.proofs.Who.{active_done}
 use Rattle.mvo_theory.proofs.Each.{each_weaker}
 use Rattle.mvo_shared.specs.Kept.{rows_shown, entries_in, with_looked, answer_kept, after_op}
 use Rattle.mvo_shared.specs.Held.{empty_work}
@@ -51,10 +51,9 @@ use Rattle.mvo_standing.proofs.Telling.{holds_history, tells_answer, shows_other
 use Rattle.mvo_standing.proofs.Beside.{forgotten_beside}
 use Rattle.mvo_readonly.specs.Whole.{WholeState}
 use Rattle.mvo_core.specs.Readers.{Readers}
-use Rattle.mvo_core.specs.declared.kept_transaction.KeptTransaction.{KeptTransaction}
-use Rattle.mvo_core.specs.Data.{CoreData, own_of}
+use Rattle.mvo_core.specs.Data.{CoreData}
 use Rattle.mvo_core.specs.Looking.{row_shown}
-use Rattle.mvo_core.specs.Standing.{IsKeptActive, StandsAmong}
+use Rattle.mvo_core.specs.Standing.{StandsAmong}
 use Rattle.mvo_core.specs.WholeStanding.{readers_of, StandsWhole}
 use Rattle.mvo_core.proofs.CausesTold.{some_none}
 use Rattle.mvo_core.proofs.GoesBeside.{same_beside}
@@ -147,14 +146,6 @@ module _ (rs : Readers) (opening : Map) (steps : List Step) (s : State) (c : Cor
   -- the work of an Active one holds its operations
   pub work_held : (t : ℕ) (r : ActiveTx) → active_of t s.active ≡ Some r → IsWorkOf r.history (works_in c.works t)
   work_held t r f = holds_history opening steps s h.beside.given (works_in c.works) h.beside.together t r f
-
-  -- what is kept of it may be told an operation that may come
-  pub own_may_follow : (t : ℕ) (op : Op) → why_not_do s t op ≡ None → (a : AnswerData) → IfSome (own_of c.table t) (λ own. MayFollow own.work.history op a)
-  own_may_follow t op may a =
-      let found = active_done s t op may in
-      let w = active_holds (IsKeptActive c.table) t s.active found.0 found.1 h.works.active in
-      subst (λ (o : Option KeptTransaction). IfSome o (λ own. MayFollow own.work.history op a)) (sym (ap (own_of c.table) (sym w.1) ∙ w.0.kept))
-      (subst (λ (ts : History). MayFollow ts op a) (sym w.0.history) (op_is_fit s op found.0 a found.3).limits)
 
   -- ---- an operation that may come
   module _ (t : ℕ) (op : Op) (may : why_not_do s t op ≡ None) (rows : List RowData) where

@@ -49,7 +49,6 @@ from_own slots t (p ∷ ps) = if names_at slots t p then p ∷ ps else from_own 
 
 -- the words in front that others took over are taken off
 pub record HasPassed (slots : Slots) (t : ℕ) (old new : KeptTransaction) : Type 0 where
-  pub history : new.work.history ≡ old.work.history
   pub words : new.writes.words ≡ from_own slots t old.writes.words
   pub place : new.place ≡ old.place
   pub checked : new.checked ≡ old.checked

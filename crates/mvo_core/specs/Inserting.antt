@@ -1,9 +1,7 @@
 -- What is written as a transaction inserts a row.
 use Rattle.std.specs.Prelude.{List, [], ◌∷◌}
 use Rattle.mvo_types.specs.declared.ids.TxId.{TxId}
-use Rattle.mvo_types.specs.declared.op.Op.TheVariants.{Insert}
 use Rattle.mvo_types.specs.RowData.{RowData}
-use Rattle.mvo_types.specs.AnswerData.AnswerData.{Inserted}
 use Rattle.mvo_chain.specs.declared.version.VersionNo.{VersionNo}
 use Rattle.mvo_txn.specs.Txns.{Txns}
 use Rattle.mvo_deps.specs.declared.node.Node.{Node}
@@ -18,5 +16,4 @@ pub record IsInserted (old new : VersionsData) (table after : Txns (Node KeptTra
     (t : TxId) (ids : List TxId) (row : RowData) : Type 0 where
   pub number : VersionNo
   pub put : IsPut old new row t.0 number
-  pub recorded :
-      IsRecordedWith table after t ids (Insert row) Inserted (Begin number ∷ [])
+  pub recorded : IsRecordedWith table after t ids (Begin number ∷ [])

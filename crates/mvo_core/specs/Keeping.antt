@@ -1,13 +1,10 @@
 -- What is written of one transaction.
-use Rattle.std.specs.Prelude.{ℕ, ◌≡◌, ◌+◌, ◌++◌, List, [], ◌∷◌, Bool, true, false, drop, if◌then◌else◌, Option, None, Some}
+use Rattle.std.specs.Prelude.{ℕ, ◌≡◌, ◌+◌, ◌++◌, ◌≤◌, List, [], Bool, true, false, drop, if◌then◌else◌, Option, None, Some}
 use Rattle.mvo_types.specs.declared.ids.TxId.{TxId}
-use Rattle.mvo_types.specs.declared.op.Op.{Op}
-use Rattle.mvo_types.specs.AnswerData.{AnswerData}
 use Rattle.mvo_txn.specs.Txns.{Txns, kept_of, table_after_write}
 use Rattle.mvo_deps.specs.declared.node.Node.{Node}
 use Rattle.mvo_deps.specs.Nodes.{after_register_all}
 use Rattle.mvo_work.specs.declared.word_place.WordPlace.{WordPlace}
-use Rattle.mvo_work.specs.Writes.{HasRoom}
 use Rattle.mvo_content.specs.Done.{DoneData}
 use Rattle.mvo_core.specs.declared.kept_transaction.KeptTransaction.{KeptTransaction}
 use Rattle.mvo_core.specs.declared.kept_transaction.TransactionKind.{TransactionKind}
@@ -42,9 +39,8 @@ pub record IsWrittenThen (old new : Txns (Node KeptTransaction)) (t : ℕ)
   pub written : IsWritten old between t change
   pub is : new ≡ next between
 
--- as much is done
-pub record HasDoneAsMuch (old new : KeptTransaction) : Type 0 where
-  pub history : new.work.history ≡ old.work.history
+-- as much is written
+pub record HasWrittenAsMuch (old new : KeptTransaction) : Type 0 where
   pub taken : new.taken.history ≡ old.taken.history
   pub words : new.writes.words ≡ old.writes.words
   pub place : new.place ≡ old.place
@@ -54,22 +50,11 @@ pub record HasDoneAsMuch (old new : KeptTransaction) : Type 0 where
 
 -- the same, with room for more
 pub record HasMadeRoom (old new : KeptTransaction) : Type 0 where
-  pub same : HasDoneAsMuch old new
-  pub room : HasRoom new.work new.writes
+  pub same : HasWrittenAsMuch old new
+  pub room : 2 ≤ new.writes.room
 
--- it has done one operation more
-pub record IsTold (op : Op) (answer : AnswerData) (old new : KeptTransaction) : Type 0 where
-  pub history : new.work.history ≡ old.work.history ++ (op, answer) ∷ []
-  pub words : new.writes.words ≡ old.writes.words
-  pub place : new.place ≡ old.place
-  pub checked : new.checked ≡ old.checked
-  pub valid : new.valid ≡ old.valid
-  pub kind : new.kind ≡ old.kind
-
--- it has done one operation more, which put these words
-pub record HasDoneMore (op : Op) (answer : AnswerData) (put : List WordPlace)
-    (old new : KeptTransaction) : Type 0 where
-  pub history : new.work.history ≡ old.work.history ++ (op, answer) ∷ []
+-- it has put these words
+pub record HasWrittenMore (put : List WordPlace) (old new : KeptTransaction) : Type 0 where
   pub words : new.writes.words ≡ old.writes.words ++ put
   pub place : new.place ≡ old.place
   pub checked : new.checked ≡ old.checked
@@ -78,7 +63,6 @@ pub record HasDoneMore (op : Op) (answer : AnswerData) (put : List WordPlace)
 
 -- its first word is taken off
 pub record HasDropped (old new : KeptTransaction) : Type 0 where
-  pub history : new.work.history ≡ old.work.history
   pub words : new.writes.words ≡ drop 1 old.writes.words
   pub place : new.place ≡ old.place
   pub checked : new.checked ≡ old.checked
@@ -105,7 +89,6 @@ pub record IsPlacedInTale (place : ℕ) (taken : DoneData) (old new : KeptTransa
 
 -- it is read-only, and its checks begin: none of its entries is checked
 pub record HasStartedChecks (old new : KeptTransaction) : Type 0 where
-  pub work : new.work ≡ old.work
   pub writes : new.writes ≡ old.writes
   pub place : new.place ≡ old.place
   pub checked : new.checked ≡ 0
@@ -114,7 +97,6 @@ pub record HasStartedChecks (old new : KeptTransaction) : Type 0 where
 
 -- one more of so many entries is checked. The last one isn't counted: it is valid then
 pub record IsCounted (count : ℕ) (old new : KeptTransaction) : Type 0 where
-  pub work : new.work ≡ old.work
   pub taken : new.taken ≡ old.taken
   pub writes : new.writes ≡ old.writes
   pub place : new.place ≡ old.place
@@ -125,7 +107,6 @@ pub record IsCounted (count : ℕ) (old new : KeptTransaction) : Type 0 where
 
 -- it is read-only, and has ended so
 pub record HasEndedAs (end : TransactionKind) (old new : KeptTransaction) : Type 0 where
-  pub work : new.work ≡ old.work
   pub writes : new.writes ≡ old.writes
   pub place : new.place ≡ old.place
   pub checked : new.checked ≡ old.checked
@@ -138,16 +119,9 @@ abbrev pub HasEndedIf : Bool → TransactionKind → Txns (Node KeptTransaction)
 HasEndedIf true end old new t = IsWritten old new t (HasEndedAs end)
 HasEndedIf false end old new t = new ≡ old
 
--- with room made for it, it depends on these, and has done one operation more
-pub record IsRecorded (old new : Txns (Node KeptTransaction)) (t : TxId) (ids : List TxId) (op : Op)
-    (answer : AnswerData) : Type 0 where
-  pub roomy : Txns (Node KeptTransaction)
-  pub room : IsWritten old roomy t.0 HasMadeRoom
-  pub told : IsWritten (after_register_all roomy t ids) new t.0 (IsTold op answer)
-
--- the same of an operation that put these words
+-- with room made for them, it depends on these, and has put these words
 pub record IsRecordedWith (old new : Txns (Node KeptTransaction)) (t : TxId) (ids : List TxId)
-    (op : Op) (answer : AnswerData) (put : List WordPlace) : Type 0 where
+    (put : List WordPlace) : Type 0 where
   pub roomy : Txns (Node KeptTransaction)
   pub room : IsWritten old roomy t.0 HasMadeRoom
-  pub done : IsWritten (after_register_all roomy t ids) new t.0 (HasDoneMore op answer put)
+  pub done : IsWritten (after_register_all roomy t ids) new t.0 (HasWrittenMore put)

@@ -1,12 +1,7 @@
 -- The memory of transactions that are over.
 use Rattle.std.specs.Prelude.{◌≡◌, List, []}
 use Rattle.std.specs.List.{AllByRecursion}
-use Rattle.mvo_work.specs.Work.{WorkData}
 use Rattle.mvo_work.specs.Writes.{WritesData}
-
--- nothing is done in them
-abbrev pub AreIdle : List WorkData → Type 0
-AreIdle works = AllByRecursion (λ w. w.history ≡ []) works
 
 -- nothing is written in them
 abbrev pub AreUnwritten : List WritesData → Type 0

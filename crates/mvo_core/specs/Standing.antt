@@ -25,11 +25,10 @@ use Rattle.mvo_core.specs.Readers.{Readers, no_readers, HaveStages, HasTalePlace
 use Rattle.mvo_standing.specs.Beside.{WorksGoBeside}
 use Rattle.mvo_content.specs.Works.{works_in}
 
--- ---- what is kept of each transaction is what the state has of it
+-- ---- something is kept of each Active transaction, and of a Preparing one what the state has
 pub record IsKeptActive (table : Txns (Node KeptTransaction)) (r : ActiveTx) : Type 0 where
   pub own : KeptTransaction
   pub kept : own_of table r.id ≡ Some own
-  pub history : own.work.history ≡ r.history
 
 pub record IsKeptPreparing (table : Txns (Node KeptTransaction)) (tale : List TalePlace)
     (x : StampedTx) : Type 0 where

@@ -74,9 +74,8 @@ IsReadOnlyBegin old result new = (opening : Map) (steps own : List Step) (w : Wh
     → LeadsWhole opening steps own w BeginReadOnly (came result) new
 
 -- ---- laws
--- its operations and its words stay, whatever else is kept of it
-pub record HasSameWork (old new : KeptTransaction) : Type 0 where
-  pub history : new.work.history ≡ old.work.history
+-- its words stay, whatever else is kept of it
+pub record HasSameWordList (old new : KeptTransaction) : Type 0 where
   pub words : new.writes.words ≡ old.writes.words
 
 -- Where what is kept of one that isn't Preparing for the core, its place in the tale, and the
@@ -87,7 +86,7 @@ ReadersMove = (before after : Readers) (opening : Map) (steps : List Step) (s : 
     (c : CoreData) (t : ℕ) (table : Txns (Node KeptTransaction)) (tale : List TalePlace)
     → StandsAmong before opening steps s c
     → AllByRecursion (λ x. x.settled ≡ false → x.id ≢ t) s.stamped
-    → IsWritten c.table table t HasSameWork
+    → IsWritten c.table table t HasSameWordList
     → ((q d : ℕ) → open_end_at c.tale q ≡ Some d → open_end_at tale q ≡ Some d)
     → HasTale s (others_places tale) → HasTalePlaces after s.start s.clock tale
     → HaveStages after.unfinished table tale → AreGroupedTo tale c.grouped c.closed
@@ -107,13 +106,13 @@ OthersLeadWhole = (opening : Map) (steps own : List Step) (w : WholeState) (call
     → LeadsAmong (readers_of w) opening own w.core call r new
     → LeadsWhole opening steps own w (CoreCall call) r new
 
--- A read-only transaction begins: nothing is done in what is kept of it, which has its place in the
--- tale, behind all others.
+-- A read-only transaction begins: it has written nothing, and its place in the tale is behind all
+-- others.
 abbrev pub ReaderBegins : Type 0
 ReaderBegins = (opening : Map) (steps own : List Step) (w : WholeState) (c : CoreData)
     (node : Node KeptTransaction) → StandsWhole opening steps own w c
-    → node.dependencies ≡ no_dependencies → node.own.work.history ≡ []
-    → node.own.writes.words ≡ [] → node.own.kind ≡ Reading → node.own.place ≡ length c.tale
+    → node.dependencies ≡ no_dependencies → node.own.writes.words ≡ [] → node.own.kind ≡ Reading
+    → node.own.place ≡ length c.tale
     → MayComeWhole w BeginReadOnly Accepted
     → LeadsWhole opening steps own w BeginReadOnly Accepted (record c {
       table = table_after_begin c.table node;
@@ -121,14 +120,14 @@ ReaderBegins = (opening : Map) (steps own : List Step) (w : WholeState) (c : Cor
     })
 
 -- A call of a read-only transaction that is none of the core's, as its precommit and its checks: it
--- is written what is kept of it, its operations and words stay, and so do the places.
+-- is written what is kept of it, its words stay, and so do the places.
 abbrev pub ReaderGoesOn : Type 0
 ReaderGoesOn = (opening : Map) (steps own : List Step) (w : WholeState) (c : CoreData)
     (call : Call) (r : Result) (t : ℕ) (table : Txns (Node KeptTransaction))
     → StandsWhole opening steps own w c → core_calls w (CoreCall call) r ≡ []
     → MayComeWhole w (CoreCall call) r
     → AllByRecursion (λ x. x.settled ≡ false → x.id ≢ t) w.core.stamped
-    → IsWritten c.table table t HasSameWork
+    → IsWritten c.table table t HasSameWordList
     → HasReaders w.core.start (readers_after w (CoreCall call) r)
     (committed_after w (CoreCall call) r) c.tale
     → HaveStages (readers_after w (CoreCall call) r) table c.tale

@@ -167,10 +167,9 @@ impl Core {
             return Err(refusal);
         }
         let alloc = self.alloc;
-        let mut work = self.spares.take()?;
-        give_list(&mut self.tale, &mut work);
-        let writes = self.spares.take_writes();
-        self.table.begin(begun(alloc, work, writes))
+        give_list(&mut self.tale, &mut self.works);
+        let writes = self.spares.take();
+        self.table.begin(begun(alloc, writes))
     }
 
     /// Begins a read-only transaction. Its id is its begin timestamp, which is its end too: its
@@ -187,12 +186,11 @@ impl Core {
         // A look at the places: from it the proof knows that their ends rise.
         let _ = self.tale.len();
         let alloc = self.alloc;
-        let mut work = self.spares.take()?;
-        give_list(&mut self.tale, &mut work);
+        give_list(&mut self.tale, &mut self.works);
         let clock = self.table.clock().0;
         let place = self.tale.open_reading(Stamp(clock + 1))?;
-        let writes = self.spares.take_writes();
-        match self.table.begin(begun_reading(alloc, work, writes, place)) {
+        let writes = self.spares.take();
+        match self.table.begin(begun_reading(alloc, writes, place)) {
             Ok(id) => Ok(id),
             Err(refusal) => {
                 self.tale.leave(place);

@@ -54,10 +54,9 @@ impl Core {
             return Ok(Finishing::More);
         }
         let node = self.table.terminate(tx);
-        let (work, writes) = node.own.into_parts();
-        self.spares.keep(work);
-        self.spares.keep_writes(writes);
-        self.works.forget(tx.id);
+        let (taken, writes) = node.own.into_parts();
+        self.spares.keep(writes);
+        self.works.forget(tx.id, taken);
         Ok(Finishing::Done)
     }
 }

@@ -5,8 +5,7 @@ use crate::answers::Validation;
 use mvo_content::TakenContent;
 use mvo_deps::{Dependencies, Node};
 use mvo_txn::TxnTable;
-use mvo_types::{Answer, Op};
-use mvo_work::{WordPlace, Work, Writes};
+use mvo_work::{WordPlace, Writes};
 use std::alloc::{AllocError, Global};
 
 /// The unfinished transactions.
@@ -31,8 +30,6 @@ pub enum TransactionKind {
 /// What the core keeps of an unfinished transaction, beside where it stands and on whom it depends.
 #[derive(Drop)]
 pub struct KeptTransaction {
-    /// What it has done.
-    pub work: Work,
     /// What its precommit took out of its work, if it isn't read-only: nothing before.
     pub taken: TakenContent,
     /// What it has written: the words that name it.
@@ -48,14 +45,11 @@ pub struct KeptTransaction {
 }
 
 impl KeptTransaction {
-    ghost use Rattle.std.specs.Prelude.{◌≡◌, ◌∷◌, OnOk, OnErr};
+    ghost use Rattle.std.specs.Prelude.{◌≡◌, ◌∷◌, ◌≤◌, OnOk, OnErr};
     ghost use Rattle.std.specs.Option.{option_to_list};
-    ghost use Rattle.mvo_types.specs.AnswerData.{answer_data};
-    ghost use Rattle.mvo_work.specs.Limits.{MayFollow};
-    ghost use Rattle.mvo_work.specs.Writes.{HasRoom};
     ghost use Rattle.mvo_core.specs.Own.{is_last_check, checked_as};
-    ghost use Rattle.mvo_core.specs.Keeping.{IsPlacedInTale, IsCounted, IsTold};
-    ghost use Rattle.mvo_core.specs.Keeping.{HasDoneAsMuch, HasMadeRoom, HasDoneMore};
+    ghost use Rattle.mvo_core.specs.Keeping.{IsPlacedInTale, IsCounted};
+    ghost use Rattle.mvo_core.specs.Keeping.{HasWrittenAsMuch, HasMadeRoom, HasWrittenMore};
     ghost use Rattle.mvo_core.specs.Keeping.{HasEndedAs, HasStartedChecks};
 
     /// It has this place in the tale, this is taken out of its work, and none of its entries is
@@ -85,55 +79,38 @@ impl KeptTransaction {
         self.kind = kind;
     }
 
-    /// Room for one more operation, and for the words that it may put.
+    /// Room for the words that a write may put.
     #[inline(always)]
     pub fn make_room(&mut self) -> Result<(), AllocError>
         ensures ok { OnOk result (HasMadeRoom self.old self.new) }
-        ensures err { OnErr result (HasDoneAsMuch self.old self.new) }
+        ensures err { OnErr result (HasWrittenAsMuch self.old self.new) }
     {
-        self.writes.make_room()?;
-        self.work.make_room()
+        self.writes.make_room()
     }
 
-    /// It is told the answer to its operation, or there is no more of it than before.
+    /// It has put this word, and the other, if there is one.
     #[inline(always)]
-    pub fn record(&mut self, op: Op, answer: Answer) -> Result<(), AllocError>
-        requires { MayFollow self.old.work.history op (answer_data answer) }
-        ensures ok { OnOk result (IsTold op (answer_data answer) self.old self.new) }
-        ensures err { OnErr result (HasDoneAsMuch self.old self.new) }
-    {
-        self.work.make_room()?;
-        self.work.tell(op, answer);
-        Ok(())
-    }
-
-    /// It is told the answer to a write that put this word, and the other, if there is one.
-    #[inline(always)]
-    pub fn write(&mut self, op: Op, answer: Answer, word: WordPlace, other: Option<WordPlace>)
-        requires room { HasRoom self.old.work self.old.writes }
-        requires limits { MayFollow self.old.work.history op (answer_data answer) }
-        ensures { HasDoneMore op (answer_data answer) (word ∷ option_to_list other)
-            self.old self.new }
+    pub fn write(&mut self, word: WordPlace, other: Option<WordPlace>)
+        requires { 2 ≤ self.old.writes.room }
+        ensures { HasWrittenMore (word ∷ option_to_list other) self.old self.new }
     {
         self.writes.push_word(word);
         if let Some(other) = other {
             self.writes.push_word(other);
         }
-        self.work.tell(op, answer);
     }
 
     /// What has memory that another transaction may use.
-    pub fn into_parts(self) -> (Work, Writes) {
+    pub fn into_parts(self) -> (TakenContent, Writes) {
         let KeptTransaction {
-            work,
-            taken: _,
+            taken,
             writes,
             place: _,
             checked: _,
             valid: _,
             kind: _,
         } = self;
-        (work, writes)
+        (taken, writes)
     }
 
     /// Counts a check of so many entries, and says whether one is left. The last one isn't counted.
@@ -151,16 +128,9 @@ impl KeptTransaction {
     }
 }
 
-/// One that is read-only, has done this work and written this, and nothing else, and has this place
-/// in the tale.
-pub fn begun_reading(
-    alloc: Global,
-    work: Work,
-    writes: Writes,
-    place: usize,
-) -> Node<KeptTransaction>
+/// One that is read-only, has written this and nothing else, and has this place in the tale.
+pub fn begun_reading(alloc: Global, writes: Writes, place: usize) -> Node<KeptTransaction>
     ensures dependencies { result.dependencies ≡ no_dependencies }
-    ensures work { result.own.work ≡ work }
     ensures writes { result.own.writes ≡ writes }
     ensures place { result.own.place ≡ place }
     ensures kind { result.own.kind ≡ TransactionKind.Reading }
@@ -168,7 +138,6 @@ pub fn begun_reading(
     Node {
         dependencies: Dependencies::new(alloc),
         own: KeptTransaction {
-            work,
             taken: TakenContent::nothing(alloc),
             writes,
             place,
@@ -179,17 +148,15 @@ pub fn begun_reading(
     }
 }
 
-/// One that has done this work and written this, and nothing else, and isn't read-only.
-pub fn begun(alloc: Global, work: Work, writes: Writes) -> Node<KeptTransaction>
+/// One that has written this and nothing else, and isn't read-only.
+pub fn begun(alloc: Global, writes: Writes) -> Node<KeptTransaction>
     ensures dependencies { result.dependencies ≡ no_dependencies }
-    ensures work { result.own.work ≡ work }
     ensures writes { result.own.writes ≡ writes }
     ensures kind { result.own.kind ≡ TransactionKind.Other }
 {
     Node {
         dependencies: Dependencies::new(alloc),
         own: KeptTransaction {
-            work,
             taken: TakenContent::nothing(alloc),
             writes,
             place: 0,

@@ -1,25 +1,23 @@
 //! The operations on a key.
-ghost use Rattle.std.specs.Prelude.{◌≡◌, ◌<◌, ◌^◌, IfOk, OnOk, OnErr, IsSome, IfSome};
+ghost use Rattle.std.specs.Prelude.{◌≡◌, ◌<◌, ◌^◌, IfOk, OnOk, OnErr, IsSome};
 ghost use Rattle.std.specs.Option.{option_to_list};
 ghost use Rattle.mvo_txn.specs.Txns.{state_of};
 ghost use Rattle.mvo_deps.specs.Nodes.{after_register_all};
 ghost use Rattle.mvo_deps.specs.Graph.{IsUnfinished};
-ghost use Rattle.mvo_types.specs.AnswerData.AnswerData.{Inserted, Deleted, Updated};
 ghost use Rattle.mvo_chain.specs.Slots.{version_at};
-ghost use Rattle.mvo_work.specs.Limits.{MayFollow};
 ghost use Rattle.mvo_versions.specs.Data.{AreIndexed};
 ghost use Rattle.mvo_versions.specs.Changes.{IsPut};
 ghost use Rattle.mvo_core.specs.Data.{own_of};
 ghost use Rattle.mvo_core.specs.Inserting.{IsInserted};
-ghost use Rattle.mvo_core.specs.Keeping.{IsWritten, HasDoneAsMuch};
+ghost use Rattle.mvo_core.specs.Keeping.{IsWritten, HasWrittenAsMuch};
 ghost use Rattle.mvo_core.specs.Ending.{IsRemoved, IsReplaced, IsLeft};
 ghost use Rattle.mvo_core.specs.Looking.{row_shown, cause_at, HasSameVersions};
 
 use crate::collecting::{has_open_end, owe_end};
-use crate::depending::{depend, make_room, record_answer, write};
+use crate::depending::{depend, make_room, write};
 use crate::event_core::Core;
 use crate::kept_transaction::Table;
-use crate::preparing::{prepare, prepare_insert, prepare_update, row_at};
+use crate::preparing::{prepare, prepare_insert, prepare_update};
 use crate::refusing::{not_looked, not_put, not_removed};
 use mvo_chain::VersionNo;
 use mvo_txn::Located;
@@ -57,18 +55,16 @@ impl Core {
         ) {
             return Err(self.give_up(tx, refusal));
         }
-        let found = self.versions.shown(&self.table, tx.id, key);
-        let row = row_at(&self.versions, found.version)?;
+        let seen = self.versions.shown(&self.table, tx.id, key);
         let versions = &self.versions;
         let next = prepare(
             &mut self.works,
             versions,
             tx.id,
             Op::Read(key),
-            found.version,
+            seen.version,
         )?;
-        let (op, told) = (Op::Read(key), Answer::Found(row));
-        record_answer(&mut self.table, tx, found.depends_on, op, told)?;
+        depend(&mut self.table, tx, seen.depends_on)?;
         Ok(self.works.tell(tx.id, next))
     }
 
@@ -91,8 +87,7 @@ impl Core {
         let versions = &self.versions;
         let next = prepare_insert(&mut self.works, versions, tx.id, &row, found.version)?;
         if found.version.is_some() {
-            let (op, told) = (Op::Insert(row), Answer::Exists);
-            record_answer(&mut self.table, tx, found.depends_on, op, told)?;
+            depend(&mut self.table, tx, found.depends_on)?;
             self.works.tell(tx.id, next);
             return Ok(Answer::Exists);
         }
@@ -128,7 +123,7 @@ impl Core {
         let next = prepare_update(&mut self.works, versions, tx.id, &row, found.version)?;
         let on = found.depends_on;
         let Some(old) = found.version else {
-            record_answer(&mut self.table, tx, on, Op::Update(row), Answer::Absent)?;
+            depend(&mut self.table, tx, on)?;
             self.works.tell(tx.id, next);
             return Ok(Answer::Absent);
         };
@@ -170,13 +165,13 @@ impl Core {
         )?;
         let on = found.depends_on;
         let Some(old) = found.version else {
-            record_answer(&mut self.table, tx, on, Op::Delete(key), Answer::Absent)?;
+            depend(&mut self.table, tx, on)?;
             self.works.tell(tx.id, next);
             return Ok(Answer::Absent);
         };
         self.waiting.make_room()?;
         let is_open = has_open_end(&self.versions, old);
-        remove(&mut self.versions, &mut self.table, tx, old, key, on)?;
+        remove(&mut self.versions, &mut self.table, tx, old, on)?;
         owe_end(&mut self.waiting, is_open);
         self.works.tell(tx.id, next);
         Ok(Answer::Deleted)
@@ -205,20 +200,20 @@ fn put(
     versions: &mut Versions,
     table: &mut Table,
     tx: Located,
-    row: &Row,
+    row: Row,
     like: Option<VersionNo>,
     on: Option<TxId>,
 ) -> Result<VersionNo, AllocError>
     requires id { tx.id.0 < 2 ^ 63 }
     requires there { IsUnfinished table.old tx.id }
-    ensures ok { IfOk result (λ n. IsPut versions.old versions.new row.now tx.id.0 n) }
+    ensures ok { IfOk result (λ n. IsPut versions.old versions.new row tx.id.0 n) }
     ensures depends { OnOk result
         (table.new ≡ after_register_all table.old tx.id (option_to_list on)) }
     ensures err { OnErr result (HasSameVersions versions.old versions.new) }
     ensures alone { OnErr result (table.new ≡ table.old) }
     ensures indexed { AreIndexed versions.old → AreIndexed versions.new }
 {
-    let number = versions.put(row.copy()?, tx.id, like)?;
+    let number = versions.put(row, tx.id, like)?;
     let Ok(()) = depend(table, tx, on) else {
         let _ = versions.take_out(number);
         return Err(AllocError);
@@ -226,8 +221,8 @@ fn put(
     Ok(number)
 }
 
-/// Puts a version of the row, which the transaction is told to have inserted, and lets it depend on
-/// the other, if there is one; or does neither.
+/// Puts a version of the row by the transaction, and lets it depend on the other, if there is one;
+/// or does neither.
 fn insert_row(
     versions: &mut Versions,
     table: &mut Table,
@@ -235,41 +230,34 @@ fn insert_row(
     row: Row,
     on: Option<TxId>,
 ) -> Result<(), AllocError>
-    requires there { IsSome (own_of table.old tx.id.0) }
-    requires limits { IfSome (own_of table.old tx.id.0) (λ own.
-        MayFollow own.work.history (Op.Insert row) Inserted) }
+    requires { IsSome (own_of table.old tx.id.0) }
     ensures ok { OnOk result (IsInserted versions.old versions.new table.old table.new tx.id
         (option_to_list on) row) }
     ensures err { OnErr result (HasSameVersions versions.old versions.new) }
-    ensures alone { OnErr result (IsWritten table.old table.new tx.id.0 HasDoneAsMuch) }
+    ensures alone { OnErr result (IsWritten table.old table.new tx.id.0 HasWrittenAsMuch) }
     ensures indexed { AreIndexed versions.old → AreIndexed versions.new }
 {
     let clock = table.clock();
     prove!(clock.0 <= MAX_STAMP);
     make_room(table, tx)?;
-    let number = put(versions, table, tx, &row, None, on)?;
-    let word = WordPlace::Begin(number);
-    write(table, tx, Op::Insert(row), Answer::Inserted, word, None);
+    let number = put(versions, table, tx, row, None, on)?;
+    write(table, tx, WordPlace::Begin(number), None);
     Ok(())
 }
 
-/// Lets the transaction end the version of the key, and depend on the other, if there is one; or
-/// does neither.
+/// Lets the transaction end the version, and depend on the other, if there is one; or does neither.
 fn remove(
     versions: &mut Versions,
     table: &mut Table,
     tx: Located,
     number: VersionNo,
-    key: RowKey,
     on: Option<TxId>,
 ) -> Result<(), AllocError>
     requires there { IsSome (own_of table.old tx.id.0) }
-    requires limits { IfSome (own_of table.old tx.id.0) (λ own.
-        MayFollow own.work.history (Op.Delete key) Deleted) }
     requires live { IsSome (version_at versions.old.slots number) }
     ensures ok { OnOk result (IsRemoved versions.old versions.new table.old table.new tx.id
-        (option_to_list on) number key) }
-    ensures err { OnErr result (IsWritten table.old table.new tx.id.0 HasDoneAsMuch) }
+        (option_to_list on) number) }
+    ensures err { OnErr result (IsWritten table.old table.new tx.id.0 HasWrittenAsMuch) }
     ensures same { OnErr result (versions.new ≡ versions.old) }
 {
     let clock = table.clock();
@@ -277,8 +265,7 @@ fn remove(
     make_room(table, tx)?;
     depend(table, tx, on)?;
     versions.end(number, tx.id);
-    let word = WordPlace::End(number);
-    write(table, tx, Op::Delete(key), Answer::Deleted, word, None);
+    write(table, tx, WordPlace::End(number), None);
     Ok(())
 }
 
@@ -293,8 +280,6 @@ fn put_instead(
     on: Option<TxId>,
 ) -> Result<(), AllocError>
     requires there { IsSome (own_of table.old tx.id.0) }
-    requires limits { IfSome (own_of table.old tx.id.0) (λ own.
-        MayFollow own.work.history (Op.Update row) Updated) }
     requires live { IsSome (version_at versions.old.slots number) }
     ensures ok { OnOk result (IsReplaced versions.old versions.new table.old table.new tx.id
         (option_to_list on) number row) }
@@ -303,16 +288,9 @@ fn put_instead(
     let clock = table.clock();
     prove!(clock.0 <= MAX_STAMP);
     make_room(table, tx)?;
-    let place = put(versions, table, tx, &row, Some(number), on)?;
+    let place = put(versions, table, tx, row, Some(number), on)?;
     versions.end(number, tx.id);
     let (end, begin) = (WordPlace::End(number), WordPlace::Begin(place));
-    write(
-        table,
-        tx,
-        Op::Update(row),
-        Answer::Updated,
-        end,
-        Some(begin),
-    );
+    write(table, tx, end, Some(begin));
     Ok(())
 }

@@ -5,7 +5,7 @@ ghost use Rattle.mvo_core.specs.Own.{done_in, has_writes};
 ghost use Rattle.mvo_core.specs.Others.{AreShownAsOf, AreOthersShown};
 
 use crate::kept_transaction::Table;
-use crate::scanning::{add_row, copies_of, row_at_place};
+use crate::scanning::{add_row, row_at_place};
 use mvo_content::Works;
 use mvo_types::{MAX_STAMP, Row, Stamp, TxId};
 use mvo_versions::Versions;
@@ -22,14 +22,14 @@ pub fn others_shown(
     of: u8,
     lo: u64,
     hi: u64,
-    rows: &[Row],
+    rows: Vec<Row>,
 ) -> Result<Vec<Row>, AllocError>
     ensures { IfOk result (λ others. AreOthersShown (done_in works.now tx.0) table.now versions.now
-        tx.0 of lo hi rows.now others.items) }
+        tx.0 of lo hi rows.items others.items) }
 {
     match has_written(works, tx) {
         true => others_at_places(alloc, versions, table, tx, of, lo, hi),
-        false => copies_of(alloc, rows),
+        false => Ok(rows),
     }
 }
 

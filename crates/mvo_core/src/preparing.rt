@@ -15,6 +15,7 @@ use std::alloc::AllocError;
 
 /// The operation on a key, with its answer where others show the row of this version there, and
 /// room for it. Until it is told, nothing is done.
+#[inline(always)]
 pub fn prepare(
     works: &mut Works,
     versions: &Versions,
@@ -32,6 +33,7 @@ pub fn prepare(
 }
 
 /// The same of an insert of the row.
+#[inline(always)]
 pub fn prepare_insert(
     works: &mut Works,
     versions: &Versions,
@@ -49,6 +51,7 @@ pub fn prepare_insert(
 }
 
 /// The same of an update to the row.
+#[inline(always)]
 pub fn prepare_update(
     works: &mut Works,
     versions: &Versions,
@@ -66,6 +69,7 @@ pub fn prepare_update(
 }
 
 /// The row of a key, if there is one, as the rows of its entry.
+#[inline(always)]
 fn rows_of(row: Option<Row>) -> RowsShown
     ensures { rows_in result ≡ option_to_list row }
 {
@@ -76,6 +80,7 @@ fn rows_of(row: Option<Row>) -> RowsShown
 }
 
 /// A copy of the row of the version, if there is one.
+#[inline(always)]
 pub fn row_at(versions: &Versions, number: Option<VersionNo>) -> Result<Option<Row>, AllocError>
     ensures { IfOk result (λ row. row ≡ row_shown versions.now.slots number) }
 {

@@ -148,6 +148,7 @@ pub fn is_read_only(kind: TransactionKind) -> bool
 }
 
 /// Whether the transaction has as many entries as may be, and this isn't one of them.
+#[inline(always)]
 fn is_entry_too_many(works: &Works, id: TxId, entry: Entry) -> bool
     ensures { result ≡ is_entry_too_many (done_in works.now id.0) entry }
 {
@@ -158,6 +159,7 @@ fn is_entry_too_many(works: &Works, id: TxId, entry: Entry) -> bool
 }
 
 /// Whether the transaction has written as many keys as may be, and this isn't one of them.
+#[inline(always)]
 fn is_write_too_many(works: &Works, id: TxId, key: RowKey) -> bool
     ensures { result ≡ is_write_too_many (done_in works.now id.0) key }
 {

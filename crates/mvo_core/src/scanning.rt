@@ -8,13 +8,13 @@ ghost use Rattle.mvo_txn.specs.Txns.{state_of};
 ghost use Rattle.mvo_core.specs.Scanning.{row_with_sort, is_change_below, is_change_up_to, is_met_by};
 ghost use Rattle.mvo_core.specs.Scanning.{is_met_at_place, with_named, IsScanned};
 
-use crate::depending::record_answer_on;
 use crate::event_core::Core;
 use crate::kept_transaction::Table;
 use crate::others::others_shown;
 use crate::refusing::not_looked;
 use mvo_chain::VersionNo;
 use mvo_content::RowsShown;
+use mvo_deps::register_all;
 use mvo_range::SortPlace;
 use mvo_txn::Located;
 use mvo_types::{Answer, Entry, MAX_DATA_LEN, Op, Refusal, Row, Stamp, TxId};
@@ -73,12 +73,11 @@ impl Core {
             table,
             lo,
             hi,
-            &rows,
+            rows,
         )?;
         let op = Op::Scan(table, lo, hi);
         let next = self.works.prepare(tx.id, op, RowsShown::Many(others))?;
-        let (op, told) = (Op::Scan(table, lo, hi), Answer::Rows(rows));
-        record_answer_on(&mut self.table, tx, &on, op, told)?;
+        register_all(&mut self.table, tx, &on)?;
         Ok(self.works.tell(tx.id, next))
     }
 }
@@ -243,16 +242,4 @@ fn is_up_to(seen: Seen, stamp: Stamp) -> bool
         Seen::Settled(at) => at <= stamp,
         Seen::Speculative(at, _) => at <= stamp,
     }
-}
-
-/// Copies of the rows.
-pub fn copies_of(alloc: Global, rows: &[Row]) -> Result<Vec<Row>, AllocError>
-    ensures { IfOk result (λ copies. copies.items ≡ rows.now) }
-{
-    let mut copies = Vec::new(alloc);
-    copies.reserve(rows.len())?;
-    for row in rows {
-        copies.push(row.copy()?)?;
-    }
-    Ok(copies)
 }

@@ -8,10 +8,6 @@ mod equal;
 #[cfg(test)]
 mod events;
 #[cfg(test)]
-mod groups;
-#[cfg(test)]
-mod limits;
-#[cfg(test)]
 mod met;
 #[cfg(test)]
 mod numbers;
@@ -29,8 +25,6 @@ mod same;
 mod session;
 #[cfg(test)]
 mod told;
-#[cfg(test)]
-mod transcripts;
 #[cfg(test)]
 mod twin_runs;
 #[cfg(test)]

@@ -2,7 +2,7 @@
 
 use crate::equal::same_at;
 use crate::reply::Reply;
-use mvo_core::{Closed, Core, Finishing, Settlement, Validation};
+use mvo_core::{Closed, Core};
 use mvo_group::Group;
 use mvo_types::{Answer, MAX_STAMP, Op, RING_GROUPS, Refusal, Row, RowKey, Rows, Stamp, TxId};
 use rtrb::{Consumer, Producer, RingBuffer};
@@ -10,30 +10,15 @@ use std::alloc::{AllocError, Global};
 use std::process::Abort;
 use std::thread::Threads;
 
-/// Enough for the entries of a transaction, and for the words.
-const MOST: usize = 5_000;
-
-/// What is asked for. First comes the transaction's id, and then what is asked for: the key, or the
-/// key, the sort and the one byte of data, or the least and the greatest sort. Rows are of table 0.
+/// What is asked for, by a transaction's id. A read has the key behind it, of table 0.
 #[derive(Clone, Copy)]
 pub enum Call {
     Begin,
     BeginReadOnly,
     Read(u64, u64),
-    Scan(u64, u64, u64),
-    Insert(u64, u64, u64, u8),
-    Update(u64, u64, u64, u8),
-    Delete(u64, u64),
     Precommit(u64),
-    Validate(u64),
-    Settle(u64),
     Rollback(u64),
     Finish(u64),
-    /// A precommit, all checks, one settle, and after a commit all words.
-    Commit(u64),
-    /// Up to this stamp, by no transaction.
-    Trim(u64),
-    Collect,
 }
 
 /// So many may wait in a session over rows, which is soon full.
@@ -116,11 +101,6 @@ impl Session {
         }
     }
 
-    /// How many ends the tale has a place for.
-    pub fn tale_len(&self) -> usize {
-        self.core.tale().len()
-    }
-
     /// How many commits are stored that end above the stamp.
     pub fn stored_above(&self, stamp: Stamp) -> u64 {
         let tale = self.core.tale();
@@ -148,41 +128,15 @@ impl Session {
         self.consumer.pop().ok()
     }
 
-    pub fn ask(&mut self, call: Call) -> Result<Reply, AllocError> {
+    fn ask(&mut self, call: Call) -> Reply {
         match call {
-            Call::Read(tx, key) => Ok(self.read(TxId(tx), key_of(key))),
-            Call::Scan(tx, lo, hi) => Ok(self.scan(TxId(tx), 0, lo, hi)),
-            Call::Insert(tx, key, sort, byte) => {
-                let row = self.row(key, sort, byte)?;
-                Ok(self.insert(TxId(tx), row))
-            }
-            Call::Update(tx, key, sort, byte) => {
-                let row = self.row(key, sort, byte)?;
-                Ok(self.update(TxId(tx), row))
-            }
-            Call::Delete(tx, key) => Ok(self.delete(TxId(tx), key_of(key))),
-            other => Ok(self.lead(other)),
-        }
-    }
-
-    /// A call that asks for no row.
-    fn lead(&mut self, call: Call) -> Reply {
-        match call {
+            Call::Begin => self.begin(),
+            Call::BeginReadOnly => self.begin_read_only(),
+            Call::Read(tx, key) => self.read(TxId(tx), key_of(key)),
             Call::Precommit(tx) => self.precommit(TxId(tx)),
-            Call::Validate(tx) => self.validate(TxId(tx)),
-            Call::Settle(tx) => self.settle(TxId(tx)),
             Call::Rollback(tx) => self.roll_back(TxId(tx)),
             Call::Finish(tx) => self.finish(TxId(tx)),
-            Call::Commit(tx) => self.commit(TxId(tx)),
-            Call::Trim(upto) => self.trim(Stamp(upto)),
-            Call::Collect => self.collect(),
-            Call::BeginReadOnly => self.begin_read_only(),
-            _ => self.begin(),
         }
-    }
-
-    fn row(&self, key: u64, sort: u64, byte: u8) -> Result<Row, AllocError> {
-        Row::new(key_of(key), sort, vec![in self.alloc; byte]?)
     }
 
     pub fn begin(&mut self) -> Reply {
@@ -269,42 +223,6 @@ impl Session {
         }
     }
 
-    fn commit(&mut self, tx: TxId) -> Reply {
-        let preparing = self.precommit(tx);
-        if !matches!(preparing, Reply::Preparing(_)) {
-            return preparing;
-        }
-        let checked = self.check_all(tx);
-        if !matches!(checked, Reply::Checked(Validation::Valid)) {
-            return checked;
-        }
-        let settled = self.settle(tx);
-        if matches!(settled, Reply::Settled(Settlement::Committed(_))) {
-            self.finish_all(tx);
-        }
-        settled
-    }
-
-    /// Checks entries, until the answer isn't that others are left.
-    fn check_all(&mut self, tx: TxId) -> Reply {
-        for _ in 0..MOST {
-            let checked = self.validate(tx);
-            if !matches!(checked, Reply::Checked(Validation::More)) {
-                return checked;
-            }
-        }
-        Reply::Checked(Validation::More)
-    }
-
-    /// Finishes words, until the answer isn't that others are left.
-    fn finish_all(&mut self, tx: TxId) {
-        for _ in 0..MOST {
-            if !matches!(self.finish(tx), Reply::Finished(Finishing::More)) {
-                return;
-            }
-        }
-    }
-
     /// Asks for each line, and compares the text of the reply.
     pub fn follow(&mut self, rt: &impl Abort, lines: &[(Call, &str)]) -> Result<(), AllocError> {
         let mut line = 0_u64;
@@ -318,7 +236,7 @@ impl Session {
 
     /// The text of the reply to a call.
     fn reply_to(&mut self, call: Call) -> Result<String, AllocError> {
-        let reply = self.ask(call)?;
+        let reply = self.ask(call);
         text_of(self.alloc, &reply)
     }
 }

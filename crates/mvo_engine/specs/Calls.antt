@@ -159,9 +159,9 @@ asked_by MergeRead = MergeReadOn
 asked_by MergeForget = ForgetMerge
 
 -- what is told of what has no answer
-abbrev pub told_as : Progress → Result (Unit {0}) Refusal → Result Progress Refusal
-told_as progress (Ok _) = Ok progress
-told_as progress (Err e) = Err e
+abbrev pub told_with : Progress → Result (Unit {0}) Refusal → Result Progress Refusal
+told_with progress (Ok _) = Ok progress
+told_with progress (Err e) = Err e
 
 -- Whether more of these slices are left: behind what begins they are, and behind what is forgotten
 -- none.

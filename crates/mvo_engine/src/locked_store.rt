@@ -2,7 +2,7 @@ mod standing;
 
 ghost use Rattle.std.specs.Prelude.{◌≡◌, Some, IsTrue, IfOk};
 ghost use Rattle.mvo_store.specs.Calls.{IsStoreStep};
-ghost use Rattle.mvo_engine.specs.Calls.{asked_by, told_as, AnswersAsked};
+ghost use Rattle.mvo_engine.specs.Calls.{asked_by, told_with, AnswersAsked};
 ghost use Rattle.mvo_types.specs.declared.refusal.Refusal.{Refusal};
 
 use crate::chain::Chain;
@@ -268,7 +268,7 @@ fn slice_of<D: Disk>(store: &mut Store<D>, slice: Slice) -> Result<Progress, Ref
 
 // What is told of what has no answer.
 fn told(done: Result<(), Refusal>, progress: Progress) -> Result<Progress, Refusal>
-    ensures { result ≡ told_as progress done }
+    ensures { result ≡ told_with progress done }
 {
     match done {
         Ok(()) => Ok(progress),

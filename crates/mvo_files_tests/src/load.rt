@@ -2,5 +2,6 @@
 mod broken;
 mod image;
 mod mixed;
+mod sliced;
 mod vectors;
 mod written;

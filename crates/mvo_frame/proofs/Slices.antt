@@ -7,7 +7,7 @@ use Rattle.std.proofs.lemmas.List.Elements.{All-from_recursion, recursion_from_A
 use Rattle.std.proofs.Math.Seq.{take-append_seam, drop-append_seam}
 use Rattle.mvo_types.specs.declared.limits.TheConstants.{MAX_SEGMENT_LEN}
 use Rattle.mvo_types.specs.declared.refusal.Refusal.{Refusal}
-use Rattle.mvo_types.specs.declared.refusal.Refusal.TheVariants.{Corrupt, OutOfMemory}
+use Rattle.mvo_types.specs.declared.refusal.Refusal.TheVariants.{Corrupt, BadVersion, OutOfMemory}
 use Rattle.mvo_group.specs.Data.{GroupData}
 use Rattle.mvo_group.specs.Rules.{IsGroup}
 use Rattle.mvo_group.specs.Allowed.{IsAllowedGroup}
@@ -17,21 +17,20 @@ use Rattle.mvo_bytes.proofs.Fields.{IsBytes}
 use Rattle.mvo_format.specs.declared.header.TheConstants.{OPEN, HEADER_LEN}
 use Rattle.mvo_format.specs.declared.format.Format.{Format}
 use Rattle.mvo_format.specs.Formats.{IsFormatUpTo}
-use Rattle.mvo_format.specs.Found.{IsOtherVersion, header, header_found}
+use Rattle.mvo_format.specs.Found.{Found, IsOtherVersion, header, header_found}
 use Rattle.mvo_format.proofs.Fronts.{front_taken, front_back, length-header, other_in_front, other_of_front}
 use Rattle.mvo_format.proofs.Headers.{IsBehind, IsHead, head_is, head_again, head_other, one_head}
 use Rattle.mvo_frame.specs.declared.magic.TheConstants.{MAGIC}
 use Rattle.mvo_frame.specs.declared.lengths.TheConstants.{MAX_FRAME_LEN}
 use Rattle.mvo_frame.specs.declared.contents.Contents.{Contents}
 use Rattle.mvo_frame.specs.declared.kind.Kind.{Kind}
-use Rattle.mvo_frame.specs.declared.kind.Kind.TheVariants.{Sealed}
 use Rattle.mvo_frame.specs.declared.reached.Reached.{Reached}
 use Rattle.mvo_frame.specs.declared.reached.Reached.TheVariants.{More, End}
 use Rattle.mvo_frame.specs.Frames.{frame, sized, front, mark_after, IsNextFrame, Frames, IsEnough, IsSegment}
 use Rattle.mvo_frame.specs.Reading.{next_found, step_found, segment_found}
 use Rattle.mvo_frame.specs.Standing.{gate_of, IsAllRead}
 use Rattle.mvo_frame.specs.Slices.{ReaderData, FramesFollow, IsReadTo, IsWindow, HasClosedGateAt, SegmentHas, IsToldOf, group_next, IsGroupRead}
-use Rattle.mvo_frame.proofs.Walk.{length-sized, next_takes, next_again, head_same, segment_alone}
+use Rattle.mvo_frame.proofs.Walk.{length-sized, next_takes, next_again, head_same, segment_again, segment_other, segment_alone}
 use Rattle.mvo_frame.proofs.Loop.{mark_after-push, gate_of-push}
 use Rattle.mvo_frame.proofs.Stepwise.{Broken, step_takes, step_ends, step_fails}
 
@@ -189,12 +188,15 @@ module _ (upto start : ℕ) (bytes : List ℕ) where
       no_more [] fr = refl
       no_more (h ∷ tl) fr = absurd (closed.3 (head_same closed.0 OPEN closed.1 fr.0 (sym closed.2 ∙ fr.2)).0)
 
-      pub with_none : (file : ℕ) → r.groups ≡ [] → SegmentHas upto file start Sealed bytes (Err (Corrupt file))
-      with_none file nil = inr (
+      pub with_too_few : (file : ℕ) (kind : Kind) → (IsEnough kind r.groups → ⊥) → SegmentHas upto file start kind bytes (Err (Corrupt file))
+      with_too_few file kind few = inr (
         refl,
         record {
           version = no_other;
-          value = λ hs s. let t = tail_of Sealed hs s in s.some (t.1 ∙ ap (λ (l : List GroupData). l ++ t.0) nil ∙ no_more t.0 t.2);
+          value = λ hs s.
+              let t = tail_of kind hs s in
+              let same : hs ≡ r.groups = t.1 ∙ ap (λ (l : List GroupData). r.groups ++ l) (no_more t.0 t.2) ∙ append-nil r.groups in
+              few (subst (IsEnough kind) same s.some);
         },
       )
 
@@ -338,6 +340,9 @@ none_first old window new fits s upto start bytes is w =
 
 -- ---- the parts of a slice
 
+pub next_refused : (r : ReaderData) (bytes : List ℕ) (e : Refusal) → (e ≡ OutOfMemory) ⊎ (group_next r bytes ≡ Err e) → (e ≡ OutOfMemory) ⊎ (e ≡ Corrupt r.file)
+next_refused r bytes e told = ⊎_elim (λ m. inl m) (λ found. inr (step_fails r.format r.file r.gate r.mark bytes e found).0) told
+
 pub window_refused : (upto start : ℕ) (bytes window : List ℕ) (r : ReaderData) → IsReadTo upto start bytes r → IsWindow r.gate bytes window → (e : Refusal) → (e ≡ OutOfMemory) ⊎ (group_next r window ≡ Err e) → IsToldOf upto r.file start bytes e
 window_refused upto start bytes window r is w e told =
     ⊎_elim (λ m. inl m) (λ found. inr (λ kind. with_refusal upto start bytes (drop r.gate bytes) r (read_with upto start bytes r is) w.reach window w.ample w.part e found kind)) told
@@ -372,8 +377,8 @@ module _ (upto start : ℕ) (bytes : List ℕ) (r : ReaderData) (is : IsReadTo u
     pub end_enough : (file : ℕ) (kind : Kind) → IsEnough kind r.groups → SegmentHas upto file start kind bytes (Ok r.groups)
     end_enough file kind some = with_end upto start bytes (drop r.gate bytes) r (read_with upto start bytes r is) closed kind some
 
-    pub end_none : (file : ℕ) → r.groups ≡ [] → SegmentHas upto file start Sealed bytes (Err (Corrupt file))
-    end_none file nil = with_none upto start bytes (drop r.gate bytes) r (read_with upto start bytes r is) closed file nil
+    pub end_too_few : (file : ℕ) (kind : Kind) → (IsEnough kind r.groups → ⊥) → SegmentHas upto file start kind bytes (Err (Corrupt file))
+    end_too_few file kind few = with_too_few upto start bytes (drop r.gate bytes) r (read_with upto start bytes r is) closed file kind few
 
 -- ---- the beginning
 
@@ -435,3 +440,23 @@ module _ (upto file start : ℕ) (kind : Kind) (bytes : List ℕ) (fits : IsByte
 
   pub found_told : (e : Refusal) → IsToldOf upto file start bytes e → (e ≡ OutOfMemory) ⊎ (segment_found upto file start kind bytes ≡ Err e)
   found_told e told = ⊎_elim (λ m. inl m) (λ says. inr (found_err e (says kind))) told
+
+-- what is told of the bytes is one
+
+module _ (upto file start : ℕ) (kind : Kind) (bytes : List ℕ) where
+  found_other : IsOtherVersion MAGIC upto bytes → segment_found upto file start kind bytes ≡ Err BadVersion
+  found_other = segment_other upto file start kind bytes
+
+  found_again : (gs : List GroupData) → IsSegment upto start kind gs bytes → segment_found upto file start kind bytes ≡ Ok gs
+  found_again = segment_again upto file start kind bytes
+
+  pub has_only : (a b : Found (List GroupData)) → SegmentHas upto file start kind bytes a → SegmentHas upto file start kind bytes b → b ≡ a
+  has_only (Ok gs) (Ok hs) one two = sym (found_again hs two) ∙ found_again gs one
+  has_only (Ok gs) (Err e) one two =
+      ⊎_elim (λ other. let x = found_again gs one in let y = found_other other.1 in absurd (cc (x, y))) (λ bad. absurd (bad.1.value gs one)) two
+  has_only (Err e) (Ok hs) one two =
+      ⊎_elim (λ other. let x = found_again hs two in let y = found_other other.1 in absurd (cc (x, y))) (λ bad. absurd (bad.1.value hs two)) one
+  has_only (Err e) (Err d) one two =
+      ⊎_elim
+      (λ other. ⊎_elim (λ same. ap Err (same.0 ∙ sym other.0)) (λ bad. absurd (bad.1.version other.1)) two)
+      (λ bad. ⊎_elim (λ other. absurd (bad.1.version other.1)) (λ same. ap Err (same.0 ∙ sym bad.0)) two) one

@@ -1,3 +1,6 @@
+ghost use Rattle.std.specs.Prelude.{◌↔◌, IsTrue};
+ghost use Rattle.mvo_frame.specs.Frames.{IsEnough};
+
 use crate::contents::Contents;
 use crate::kind::Kind;
 use crate::magic::MAGIC;
@@ -44,7 +47,7 @@ impl SegmentReader {
     ghost use Rattle.std.specs.Prelude.{IfOk, IfErr, OnOk, OnErr, Ok, Err};
     ghost use Rattle.std.specs.Option.{option_map};
     ghost use Rattle.mvo_types.specs.declared.limits.TheConstants.{MAX_SEGMENT_LEN};
-    ghost use Rattle.mvo_types.specs.declared.refusal.Refusal.TheVariants.{OutOfMemory};
+    ghost use Rattle.mvo_types.specs.declared.refusal.Refusal.TheVariants.{OutOfMemory, Corrupt};
     ghost use Rattle.mvo_format.specs.declared.header.TheConstants.{HEADER_LEN};
     ghost use Rattle.mvo_frame.specs.declared.kind.Kind.{Kind};
     ghost use Rattle.mvo_frame.specs.declared.lengths.TheConstants.{MAX_FRAME_LEN};
@@ -88,6 +91,13 @@ impl SegmentReader {
         ensures few { result < MAX_SEGMENT_LEN }
     {
         self.gate
+    }
+
+    /// The segment's file.
+    pub fn file(&self) -> u16
+        ensures { result ≡ self.now.file }
+    {
+        self.file
     }
 
     // Reads one group more, where the gate that the bytes begin with is open: the bytes behind it.
@@ -160,6 +170,7 @@ impl SegmentReader {
         ensures within { OnOk result (self.new.gate ≤ self.old.gate + length window.now) }
         ensures most { OnOk result (self.new.gate ≤ self.old.gate + most + MAX_FRAME_LEN) }
         ensures err { OnErr result (self.new ≡ self.old) }
+        ensures why { IfErr result (λ e. (e ≡ OutOfMemory) ⊎ (e ≡ Corrupt self.old.file)) }
         ensures refused { (upto start : ℕ) (bytes : List ℕ) → IsReadTo upto start bytes self.old →
             IsWindow self.old.gate bytes window.now →
             IfErr result (IsToldOf upto self.old.file start bytes) }
@@ -178,35 +189,48 @@ impl SegmentReader {
         Ok(self.read_on(alloc, rest, most - taken))
     }
 
-    /// What a segment of this kind holds, of which a slice has come to the closed gate.
+    /// Whether a segment is whole, of which a slice has come to the closed gate.
     ///
     /// Refused: Corrupt with the file where it is sealed and has no group.
-    pub fn end(self, kind: Kind) -> Result<Contents, Refusal>
-        ensures groups { IfOk result (λ s. s.groups.items ≡ self.groups) }
-        ensures ok { (upto start : ℕ) (bytes : List ℕ) → IsReadTo upto start bytes self →
-            HasClosedGateAt self.gate bytes →
-            OnOk result (SegmentHas upto self.file start kind bytes (Ok self.groups)) }
-        ensures err { (upto start : ℕ) (bytes : List ℕ) → IsReadTo upto start bytes self →
-            HasClosedGateAt self.gate bytes →
-            IfErr result (λ e. SegmentHas upto self.file start kind bytes (Err e)) }
+    pub fn end(&self, kind: Kind) -> Result<(), Refusal>
+        ensures ok { (upto start : ℕ) (bytes : List ℕ) → IsReadTo upto start bytes self.now →
+            HasClosedGateAt self.now.gate bytes →
+            OnOk result (SegmentHas upto self.now.file start kind bytes (Ok self.now.groups)) }
+        ensures err { (upto start : ℕ) (bytes : List ℕ) → IsReadTo upto start bytes self.now →
+            HasClosedGateAt self.now.gate bytes →
+            IfErr result (λ e. SegmentHas upto self.now.file start kind bytes (Err e)) }
+        ensures why { IfErr result (λ e. e ≡ Corrupt self.now.file) }
+    {
+        if is_enough(kind, self.groups.as_slice()) {
+            Ok(())
+        } else {
+            Err(Refusal::Corrupt(self.file))
+        }
+    }
+
+    /// What it holds so far.
+    pub fn into_contents(self) -> Contents
+        ensures groups { result.groups.items ≡ self.groups }
         ensures place { (upto start : ℕ) (bytes : List ℕ) → IsReadTo upto start bytes self →
-            IfOk result (IsAllRead start) }
+            IsAllRead start result }
     {
         let SegmentReader {
             format: _,
-            file,
+            file: _,
             gate,
             mark,
             groups,
         } = self;
-        match kind {
-            Kind::Last => Ok(Contents { groups, gate, mark }),
-            Kind::Sealed => {
-                if groups.as_slice().is_empty() {
-                    return Err(Refusal::Corrupt(file));
-                }
-                Ok(Contents { groups, gate, mark })
-            }
-        }
+        Contents { groups, gate, mark }
+    }
+}
+
+/// Whether a segment of this kind may hold these groups and no others: a sealed one has some.
+fn is_enough(kind: Kind, groups: &[Group]) -> bool
+    ensures { IsTrue result ↔ IsEnough kind groups.now }
+{
+    match kind {
+        Kind::Last => true,
+        Kind::Sealed => !groups.is_empty(),
     }
 }

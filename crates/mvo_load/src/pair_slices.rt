@@ -1,5 +1,5 @@
 //! Reads one pair from a disk in slices.
-ghost use Rattle.std.specs.Prelude.{◌≡◌, ◌⊎◌, ◌<◌, ◌≤◌, ◌+◌, ◌^◌, ◌++◌, ℕ, List, [], Ok, length, take, drop, IfOk, IfErr};
+ghost use Rattle.std.specs.Prelude.{◌⊎◌, ◌<◌, ◌+◌, ◌^◌, ◌++◌, ℕ, List, [], Ok, IfOk, IfErr};
 ghost use Rattle.mvo_disk.specs.Disk.{IsHonest};
 ghost use Rattle.mvo_pair.specs.declared.pair.Pair.{Pair};
 ghost use Rattle.mvo_pair.specs.Coming.{at_start};
@@ -9,51 +9,15 @@ ghost use Rattle.mvo_pair.specs.Writing.{IsStop};
 ghost use Rattle.mvo_load.specs.Read.{HasRead, IsMisread};
 ghost use Rattle.mvo_load.specs.Sliced.{IsReadUpTo, IsSliceOf, IsBrokenSlice};
 
-use crate::reach::delta_on;
+use crate::reach::{bytes_from, delta_on};
 use mvo_disk::Disk;
+use mvo_format::HEADER_LEN;
 use mvo_pair::{Live, Pair, PairReading, ReadSoFar};
 use mvo_types::Refusal;
 use std::alloc::Global;
 
 /// How many bytes of a data file are read at a time.
 pub const READ_LEN: usize = 2_097_152;
-
-/// The bytes of a file's header.
-const HEADER_LEN: usize = 8;
-
-/// So many bytes of a file at most, from a place on, and how many the file has; none where the
-/// place lies behind its end.
-fn bytes_from<D: Disk>(
-    alloc: Global,
-    disk: &mut D,
-    file: u16,
-    place: usize,
-    most: usize,
-) -> Result<(Vec<u8>, usize), Refusal>
-    requires file { file < 1024 }
-    requires room { D.fault_count disk.old + 1 < 2 ^ 64 }
-    ensures len { IsHonest (D.moment disk.new) → IfOk result (λ x.
-        x.1 ≡ length (D.content disk.old file)) }
-    ensures bytes { IsHonest (D.moment disk.new) → IfOk result (λ x.
-        x.0.items ≡ take most (drop place (D.content disk.old file))) }
-    ensures within { IfOk result (λ x. place + length x.0.items < 2 ^ 64) }
-    ensures few { IfOk result (λ x. length x.0.items ≤ x.1) }
-    ensures most { IfOk result (λ x. length x.0.items ≤ most) }
-    ensures stopped { IfErr result IsStop }
-    ensures read { HasRead D.Disk disk.old disk.new result }
-{
-    let Ok(len) = disk.len(file) else {
-        return Err(Refusal::DiskFault);
-    };
-    if place > len {
-        return Ok((Vec::new(alloc), len));
-    }
-    let mut bytes = vec![in alloc; 0u8; most.min(len - place)]?;
-    match disk.read_at(file, place, &mut bytes) {
-        Ok(()) => Ok((bytes, len)),
-        Err(_) => Err(Refusal::DiskFault),
-    }
-}
 
 /// Begins to read a pair on a disk, of a version up to this one, in slices: reads its delta file as
 /// far as its numbers reach, and the header of its data file.

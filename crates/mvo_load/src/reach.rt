@@ -1,5 +1,5 @@
 //! Reads as much of a file as counts of it.
-ghost use Rattle.std.specs.Prelude.{◌≡◌, ◌<◌, ◌+◌, ◌^◌, take, IfOk, IfErr};
+ghost use Rattle.std.specs.Prelude.{◌≡◌, ◌<◌, ◌≤◌, ◌+◌, ◌^◌, length, take, drop, IfOk, IfErr};
 ghost use Rattle.mvo_types.specs.declared.limits.TheConstants.{MAX_SEGMENT_LEN};
 ghost use Rattle.mvo_pair.specs.Loading.{data_reach, delta_reach};
 ghost use Rattle.mvo_pair.specs.Writing.{IsStop};
@@ -59,5 +59,39 @@ pub fn delta_on<D: Disk>(alloc: Global, disk: &mut D, pair: Pair) -> Result<Vec<
     match read_up_to(alloc, disk, pair.delta_file, pair.delta_reach()) {
         Ok(bytes) => Ok(bytes),
         Err(failure) => Err(stop_of(failure)),
+    }
+}
+
+/// So many bytes of a file at most, from a place on, and how many the file has; none where the
+/// place lies behind its end.
+pub fn bytes_from<D: Disk>(
+    alloc: Global,
+    disk: &mut D,
+    file: u16,
+    place: usize,
+    most: usize,
+) -> Result<(Vec<u8>, usize), Refusal>
+    requires file { file < 1024 }
+    requires room { D.fault_count disk.old + 1 < 2 ^ 64 }
+    ensures len { IsHonest (D.moment disk.new) → IfOk result (λ x.
+        x.1 ≡ length (D.content disk.old file)) }
+    ensures bytes { IsHonest (D.moment disk.new) → IfOk result (λ x.
+        x.0.items ≡ take most (drop place (D.content disk.old file))) }
+    ensures within { IfOk result (λ x. place + length x.0.items < 2 ^ 64) }
+    ensures few { IfOk result (λ x. length x.0.items ≤ x.1) }
+    ensures most { IfOk result (λ x. length x.0.items ≤ most) }
+    ensures stopped { IfErr result IsStop }
+    ensures read { HasRead D.Disk disk.old disk.new result }
+{
+    let Ok(len) = disk.len(file) else {
+        return Err(Refusal::DiskFault);
+    };
+    if place > len {
+        return Ok((Vec::new(alloc), len));
+    }
+    let mut bytes = vec![in alloc; 0u8; most.min(len - place)]?;
+    match disk.read_at(file, place, &mut bytes) {
+        Ok(()) => Ok((bytes, len)),
+        Err(_) => Err(Refusal::DiskFault),
     }
 }

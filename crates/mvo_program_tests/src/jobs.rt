@@ -1,4 +1,3 @@
-//! The tests of the queue of jobs, of scripts as jobs, and of the command line that asks for them.
-mod commands;
+//! The tests of the queue of jobs, and of scripts as jobs.
 mod queue;
 mod scripts;

@@ -1,4 +1,4 @@
-//! Tests of scripts, of jobs of an engine, of what stops leave, and of the command line.
+//! Tests of scripts that are kept or fail, of jobs of an engine, of texts, and of what stops leave.
 #![tactic(auto)]
 
 #[cfg(test)]
@@ -7,8 +7,6 @@ mod disks;
 mod equal;
 #[cfg(test)]
 mod jobs;
-#[cfg(test)]
-mod numbers;
 #[cfg(test)]
 mod script;
 #[cfg(test)]

@@ -12,9 +12,9 @@ ghost use Rattle.mvo_content.specs.Shown.{rows_in};
 
 use crate::equal::{same, same_at};
 use crate::numbers::Numbers;
-use mvo_content::{RowsShown, WorkContent};
+use mvo_content::{RowsShown, TakenContent, WorkContent, Works};
 use mvo_model::Serial;
-use mvo_types::{Answer, MAX_DATA_LEN, MAX_TABLE, Op, Row, RowKey, Rows};
+use mvo_types::{Answer, MAX_DATA_LEN, MAX_TABLE, Op, Row, RowKey, Rows, TxId};
 use mvo_work::entry_of;
 use std::alloc::{AllocError, Global};
 use std::process::Abort;
@@ -249,5 +249,31 @@ fn one_that_is_emptied_is_told_what_others_show_now(rt: HostRuntime) -> Result<(
     let mut others = Serial::new(rt.alloc(), Rows::new(rt.alloc()));
     let content = &mut WorkContent::new(rt.alloc());
     read_when_empty(&rt, rt.alloc(), content, &mut others)?;
+    Ok(())
+}
+
+/// One that wrote a key tells it, and its entry; and what is taken out of it has both.
+fn taken_out(rt: &impl Abort, content: WorkContent) -> Result<(), AllocError> {
+    same(rt, &content.has_writes(), &true);
+    same(rt, &content.entry_count(), &1);
+    same(rt, &content.entry_at(0).is_some(), &true);
+    let written = content.keys_written()?;
+    let mut taken = TakenContent::new(content, written);
+    same(rt, &taken.entry_count(), &1);
+    same(rt, &taken.entry_at(0).is_some(), &true);
+    same(rt, &taken.operations().len(), &1);
+    same(rt, &taken.take_operations().written.len(), &1);
+    same(rt, &taken.operations().len(), &0);
+    Ok(())
+}
+
+#[test]
+fn what_is_taken_out_of_a_work_has_the_keys_that_it_wrote(rt: HostRuntime) -> Result<(), Fail> {
+    let alloc = rt.alloc();
+    let others = Serial::new(alloc, Rows::new(alloc));
+    let mut content = WorkContent::new(alloc);
+    let _ = told(&mut content, &others, Op::Insert(row(alloc, (1, 0, 7))?))?;
+    taken_out(&rt, content)?;
+    same(&rt, &Works::new(alloc).take(TxId(7)).has_writes(), &false);
     Ok(())
 }

@@ -5,8 +5,8 @@ use crate::failing::Job;
 use crate::reply::Reply::{self, Done, Emptied, Installed, Marked, Refused};
 use crate::step::Step::{
     self, Append, Checkpoint, CheckpointData, CheckpointDelta, CheckpointRead, InstallBody,
-    InstallClose, InstallOpen, Merge, MergeData, MergeDelta, MergeRead, Reclaim, Rotate,
-    RotateWrite,
+    InstallClose, InstallOpen, Merge, MergeBegin, MergeData, MergeDelta, MergeInSlices, MergeRead,
+    Reclaim, Rotate, RotateWrite,
 };
 use crate::stores::{follow, following, gives, has_row, rows_on, spans, store_on};
 use crate::vectors::{DELTA, MERGED, MERGED_DATA, SECOND_ENDED};
@@ -199,4 +199,17 @@ fn a_merge_may_fail_at_each_call(rt: HostRuntime) -> Result<(), Fail> {
 #[test]
 fn a_merge_may_stop_within_a_write(rt: HostRuntime) -> Result<(), Fail> {
     OF_THREE_PAIRS.may_stop_within_a_write(&rt, rt.alloc(), 30)
+}
+
+const READ_IN_SLICES: Job = Job {
+    before: &THREE_PAIRS,
+    whole: MergeInSlices(1),
+    generation: Generation(7),
+    first: MergeBegin(0),
+    next: MergeInSlices(0),
+};
+
+#[test]
+fn slices_of_two_pairs_may_fail_at_each_call(rt: HostRuntime) -> Result<(), Fail> {
+    READ_IN_SLICES.may_fail_at_each_call(&rt, rt.alloc())
 }

@@ -5,7 +5,7 @@ use crate::equal::{holds, same, same_at};
 use crate::reply::Reply::{self, Installed, Marked};
 use crate::step::Step::{
     self, Append, CheckpointData, CheckpointDelta, CheckpointRead, InstallBody, InstallClose,
-    InstallOpen, MergeData, MergeDelta, MergeRead, Rotate, RotateWrite,
+    InstallOpen, MergeBegin, MergeData, MergeDelta, MergeRead, MergeReadSlice, Rotate, RotateWrite,
 };
 use crate::stores::{follow, following};
 use mvo_disk::MemDisk;
@@ -71,6 +71,9 @@ const MERGE: [Step; 5] = [
     InstallBody,
 ];
 
+/// A merge whose first pair is read in slices.
+const READ_IN_SLICES: [Step; 2] = [MergeBegin(0), MergeReadSlice];
+
 /// How many steps of a rotation, of a checkpoint and of a merge are made, and what each call is
 /// answered then.
 type State = (usize, usize, usize, [Answer; 10]);
@@ -105,6 +108,16 @@ const BOTH: [State; 10] = [
     (0, 6, 2, [B, B, B, N, N, N, B, N, N, A]),
 ];
 
+const WHILE_PAIRS_ARE_READ: [State; 7] = [
+    (0, 0, 1, [B, A, B, N, N, N, N, N, N, N]),
+    (0, 0, 2, [B, A, B, N, N, N, N, N, N, N]),
+    (0, 1, 1, [B, B, B, A, N, N, N, N, N, N]),
+    (0, 2, 2, [B, B, B, N, A, N, N, N, N, N]),
+    (0, 4, 2, [B, B, B, N, N, N, N, A, N, N]),
+    (0, 5, 2, [B, B, B, N, N, N, N, N, A, N]),
+    (0, 6, 1, [B, B, B, N, N, N, N, N, N, A]),
+];
+
 fn answered(reply: Reply) -> Answer {
     match reply {
         Reply::Refused(Refusal::Busy) => Answer::Busy,
@@ -128,18 +141,20 @@ fn make(
     Ok(())
 }
 
-/// A store in the state. A merge begins beside a checkpoint that is at its stage.
+/// A store in the state, whose merge has these steps. It begins beside a checkpoint that is at its
+/// stage.
 fn store_in(
     rt: &(impl Abort + Threads + Sync),
     alloc: Global,
+    merge: &[Step],
     state: &State,
 ) -> Result<Store<MemDisk>, Fail> {
-    holds(rt, state.0 <= 3 && state.1 <= 6 && state.2 <= 5);
+    holds(rt, state.0 <= 3 && state.1 <= 6 && state.2 <= merge.len());
     let mut store = following(rt, alloc, &TWO_PAIRS)?;
     follow(rt, alloc, &mut store, &ALL_MAY_BEGIN)?;
     make(rt, alloc, &mut store, &ROTATION[..state.0])?;
     make(rt, alloc, &mut store, &CHECKPOINT[..state.1])?;
-    make(rt, alloc, &mut store, &MERGE[..state.2])?;
+    make(rt, alloc, &mut store, &merge[..state.2])?;
     Ok(store)
 }
 
@@ -147,11 +162,12 @@ fn store_in(
 fn are_answered(
     rt: &(impl Abort + Threads + Sync),
     alloc: Global,
+    merge: &[Step],
     states: &[State],
 ) -> Result<(), Fail> {
     for (at, state) in states.iter().enumerate() {
         for (call, wanted) in CALLS.iter().zip(&state.3) {
-            let mut store = store_in(rt, alloc, state)?;
+            let mut store = store_in(rt, alloc, merge, state)?;
             let answer = answered(call.of(&mut store, alloc)?);
             same_at(&rt, at, &answer, wanted);
         }
@@ -161,10 +177,15 @@ fn are_answered(
 
 #[test]
 fn one_job_keeps_others_out(rt: HostRuntime) -> Result<(), Fail> {
-    are_answered(&rt, rt.alloc(), &ONE_JOB)
+    are_answered(&rt, rt.alloc(), &MERGE, &ONE_JOB)
 }
 
 #[test]
 fn two_jobs_keep_others_out(rt: HostRuntime) -> Result<(), Fail> {
-    are_answered(&rt, rt.alloc(), &BOTH)
+    are_answered(&rt, rt.alloc(), &MERGE, &BOTH)
+}
+
+#[test]
+fn pairs_that_are_read_keep_others_out(rt: HostRuntime) -> Result<(), Fail> {
+    are_answered(&rt, rt.alloc(), &READ_IN_SLICES, &WHILE_PAIRS_ARE_READ)
 }

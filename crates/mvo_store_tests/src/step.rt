@@ -50,6 +50,8 @@ pub(crate) enum Step {
     Checkpoint,
     /// All steps of a merge of the pair at this place and the one behind it.
     Merge(usize),
+    /// The same where the two are read in slices.
+    MergeInSlices(usize),
     /// The step of a job that comes next, that of a merge first.
     Due,
     Reclaim,
@@ -117,11 +119,25 @@ fn checkpoint(store: &mut Store<MemDisk>) -> Result<Generation, Refusal> {
     install(store)
 }
 
-fn merge(store: &mut Store<MemDisk>, place: usize) -> Result<Generation, Refusal> {
-    store.merge_read(place)?;
+fn write_merge(store: &mut Store<MemDisk>) -> Result<Generation, Refusal> {
     store.merge_data()?;
     store.merge_delta()?;
     install(store)
+}
+
+fn merge(store: &mut Store<MemDisk>, place: usize) -> Result<Generation, Refusal> {
+    store.merge_read(place)?;
+    write_merge(store)
+}
+
+fn merge_in_slices(store: &mut Store<MemDisk>, place: usize) -> Result<Generation, Refusal> {
+    store.merge_begin(place)?;
+    for _ in 0..65 {
+        if store.merge_read_slice()? == Progress::Ready {
+            break;
+        }
+    }
+    write_merge(store)
 }
 
 /// Makes the first step that is due. None runs on where none is.
@@ -153,6 +169,7 @@ impl Step {
             Step::Rotate => installed(rotate(store)),
             Step::Checkpoint => installed(checkpoint(store)),
             Step::Merge(place) => installed(merge(store, place)),
+            Step::MergeInSlices(place) => installed(merge_in_slices(store, place)),
             Step::Due => due(store),
             Step::Reclaim => emptied(store.reclaim()),
             step => step.of_job(store),

@@ -1,7 +1,6 @@
 mod answers;
 mod calls;
 mod checked;
-mod collections;
 mod draws;
 mod events;
 mod faults;
@@ -12,7 +11,6 @@ mod jobs;
 mod observed;
 mod openings;
 mod random;
-mod read_only;
 mod readers;
 mod runs;
 mod step;
@@ -21,11 +19,11 @@ mod store_calls;
 mod told;
 mod vectors;
 
-use crate::equal::{holds, same};
+use crate::equal::same;
 use calls::{close, formatted, left, mark, run, run_over, step, stop, try_open};
 use images::bytes_of;
 use mvo_disk::{Disk, FileImage, MemDisk};
-use mvo_types::{Answer, Op, RING_GROUPS, RowKey, Stamp, TxId};
+use mvo_types::{Answer, Op, RowKey, Stamp, TxId};
 use mvo_world::{Event, Reply, World};
 use std::alloc::Global;
 use std::process::Abort;
@@ -33,14 +31,10 @@ use std::test::Fail;
 use std::thread::Threads;
 use step::Step;
 use steps::{
-    A_FULL_RING, CHECKPOINT, COMMIT_OF_NOTHING, DURABLE_PUT, FALL, GROUPS_IN_TURN, MERGE, ONE_PUT,
-    OPENING_OF_THE_GATE, OUT_OF_TURN, PUT_AND_REPLACE, READ_TOO_EARLY, RECLAIMS,
-    RECLAIMS_OF_A_ROTATION, RECLAIMS_OF_PAIRS, REPLACE, ROTATION, ROTATION_BUT_ITS_GATE,
-    ROTATION_OUT_OF_TURN, SECOND_PAIR, SETTLES,
+    CHECKPOINT, DURABLE_PUT, MERGE, ONE_PUT, READ_TOO_EARLY, RECLAIMS_OF_A_ROTATION, REPLACE,
+    ROTATION, ROTATION_BUT_ITS_GATE, SECOND_PAIR,
 };
-use vectors::{
-    DATA, DELTA, DELTA_OF_FIRST, EMPTY, FRESH, MERGED, SEGMENT, SLOT, SLOT_OF_MERGED, SLOT_OF_PAIR,
-};
+use vectors::{FRESH, SEGMENT};
 
 const KEY: RowKey = RowKey { table: 0, key: 5 };
 
@@ -96,13 +90,6 @@ fn found(
 /// Compares the bytes of a file.
 fn assert_bytes(rt: &impl Abort, disk: &MemDisk, file: u16, bytes: &[u8]) {
     assert_eq!(rt; bytes_of(disk, file), bytes, "file {file}");
-}
-
-/// Each file holds its bytes.
-fn hold(rt: &impl Abort, disk: &MemDisk, files: &[(u16, &[u8])]) {
-    for (file, bytes) in files {
-        assert_bytes(rt, disk, *file, bytes);
-    }
 }
 
 /// The disk opens at this mark, and the row's data is so long.
@@ -172,87 +159,15 @@ fn follow_all(
     Ok(())
 }
 
-/// The mark of what is durable and the disk after all these steps, from a new store.
-fn after(
-    rt: &(impl Abort + Threads + Sync),
-    alloc: Global,
-    tables: &[&[(Step, &str)]],
-) -> Result<(Stamp, MemDisk), Fail> {
-    let mut world = fresh(rt, alloc)?;
-    let followed = follow_all(rt, alloc, &mut world, tables);
-    let mark = mark(&world);
-    Ok((mark, left(world, followed)?))
-}
-
 /// The disk after all these steps, from a new store.
 fn disk_after(
     rt: &(impl Abort + Threads + Sync),
     alloc: Global,
     tables: &[&[(Step, &str)]],
 ) -> Result<MemDisk, Fail> {
-    let (_, disk) = after(rt, alloc, tables)?;
-    Ok(disk)
-}
-
-/// The mark of what is durable after all these steps, from a new store.
-fn mark_after(
-    rt: &(impl Abort + Threads + Sync),
-    alloc: Global,
-    tables: &[&[(Step, &str)]],
-) -> Result<Stamp, Fail> {
-    let (mark, _) = after(rt, alloc, tables)?;
-    Ok(mark)
-}
-
-#[test]
-fn one_put_is_durable(rt: HostRuntime) -> Result<(), Fail> {
-    let alloc = rt.alloc();
-    let disk = disk_after(&rt, alloc, &[&ONE_PUT, &OPENING_OF_THE_GATE])?;
-    hold(&rt, &disk, &[(2, &SEGMENT)]);
-    gives(&rt, alloc, disk, 2, Some(1))
-}
-
-#[test]
-fn the_mark_rises_with_the_gate(rt: HostRuntime) -> Result<(), Fail> {
-    let alloc = rt.alloc();
-    let written = mark_after(&rt, alloc, &[&ONE_PUT])?;
-    same(&rt, &written, &Stamp(0));
-    let durable = mark_after(&rt, alloc, &[&ONE_PUT, &OPENING_OF_THE_GATE])?;
-    same(&rt, &durable, &Stamp(2));
-    Ok(())
-}
-
-#[test]
-fn a_rotation_keeps_the_rows(rt: HostRuntime) -> Result<(), Fail> {
-    let alloc = rt.alloc();
-    let disk = disk_after(&rt, alloc, &[&ONE_PUT, &ROTATION_OUT_OF_TURN])?;
-    hold(&rt, &disk, &[(1, &SLOT), (2, &SEGMENT), (3, &FRESH)]);
-    gives(&rt, alloc, disk, 2, Some(1))
-}
-
-// What the files hold once the segment became a pair.
-const FILES_OF_A_PAIR: [(u16, &[u8]); 6] = [
-    (0, &SLOT_OF_PAIR),
-    (1, &SLOT),
-    (2, &[]),
-    (3, &FRESH),
-    (4, &DATA),
-    (5, &DELTA),
-];
-
-#[test]
-fn a_checkpoint_keeps_the_rows(rt: HostRuntime) -> Result<(), Fail> {
-    let alloc = rt.alloc();
-    let tables: [&[(Step, &str)]; 5] = [
-        &ONE_PUT,
-        &READ_TOO_EARLY,
-        &ROTATION,
-        &CHECKPOINT,
-        &RECLAIMS,
-    ];
-    let disk = disk_after(&rt, alloc, &tables)?;
-    hold(&rt, &disk, &FILES_OF_A_PAIR);
-    gives(&rt, alloc, disk, 2, Some(1))
+    let mut world = fresh(rt, alloc)?;
+    let followed = follow_all(rt, alloc, &mut world, tables);
+    left(world, followed)
 }
 
 // The steps up to two pairs.
@@ -265,19 +180,7 @@ const TWO_PAIRS: [&[(Step, &str)]; 6] = [
     &SECOND_PAIR,
 ];
 
-// What the files hold once the two pairs are one.
-const FILES_OF_MERGED: [(u16, &[u8]); 5] = [
-    (2, &FRESH),
-    (3, &MERGED),
-    (4, &DATA),
-    (5, &DELTA_OF_FIRST),
-    (8, &DELTA),
-];
-
-// The files of the pairs that it replaced are empty then.
-const FILES_OF_RECLAIMED: [(u16, &[u8]); 4] = [(4, &[]), (5, &[]), (6, &[]), (7, &[])];
-
-// The steps up to their merge, and up to where the files are empty.
+// The steps up to their merge.
 const ONE_PAIR: [&[(Step, &str)]; 7] = [
     &ONE_PUT,
     &READ_TOO_EARLY,
@@ -287,35 +190,6 @@ const ONE_PAIR: [&[(Step, &str)]; 7] = [
     &SECOND_PAIR,
     &MERGE,
 ];
-
-const ONE_PAIR_ALONE: [&[(Step, &str)]; 8] = [
-    &ONE_PUT,
-    &READ_TOO_EARLY,
-    &ROTATION,
-    &CHECKPOINT,
-    &REPLACE,
-    &SECOND_PAIR,
-    &MERGE,
-    &RECLAIMS_OF_PAIRS,
-];
-
-#[test]
-fn a_merge_keeps_the_rows(rt: HostRuntime) -> Result<(), Fail> {
-    let alloc = rt.alloc();
-    let disk = disk_after(&rt, alloc, &ONE_PAIR)?;
-    hold(&rt, &disk, &FILES_OF_MERGED);
-    // Two bytes of an older, longer manifest lie behind it.
-    holds(&rt, bytes_of(&disk, 1).starts_with(&SLOT_OF_MERGED));
-    gives(&rt, alloc, disk, 4, Some(1))
-}
-
-#[test]
-fn the_files_of_merged_pairs_are_reclaimed(rt: HostRuntime) -> Result<(), Fail> {
-    let alloc = rt.alloc();
-    let disk = disk_after(&rt, alloc, &ONE_PAIR_ALONE)?;
-    hold(&rt, &disk, &FILES_OF_RECLAIMED);
-    gives(&rt, alloc, disk, 4, Some(1))
-}
 
 // The disk that a stop leaves of a rotation that is all but installed.
 fn stopped_in_rotation(rt: &(impl Abort + Threads + Sync), alloc: Global) -> Result<MemDisk, Fail> {
@@ -338,78 +212,10 @@ fn reclaimed(
 fn a_rotation_that_a_stop_ends_is_reclaimed(rt: HostRuntime) -> Result<(), Fail> {
     let alloc = rt.alloc();
     let disk = stopped_in_rotation(&rt, alloc)?;
-    hold(&rt, &disk, &[(3, &FRESH)]);
+    assert_bytes(&rt, &disk, 3, &FRESH);
     let disk = reclaimed(&rt, alloc, disk)?;
-    hold(&rt, &disk, &[(3, &[])]);
+    assert_bytes(&rt, &disk, 3, &[]);
     gives(&rt, alloc, disk, 2, Some(1))
-}
-
-#[test]
-fn a_commit_that_wrote_nothing_is_polled_yes(rt: HostRuntime) -> Result<(), Fail> {
-    let alloc = rt.alloc();
-    let disk = disk_after(&rt, alloc, &[&COMMIT_OF_NOTHING])?;
-    hold(&rt, &disk, &[(2, &EMPTY)]);
-    gives(&rt, alloc, disk, 2, None)
-}
-
-#[test]
-fn a_transaction_falls_with_the_one_it_waits_for(rt: HostRuntime) -> Result<(), Fail> {
-    let _ = disk_after(&rt, rt.alloc(), &[&PUT_AND_REPLACE, &FALL])?;
-    Ok(())
-}
-
-#[test]
-fn a_transaction_is_settled_after_the_one_it_waits_for(rt: HostRuntime) -> Result<(), Fail> {
-    let _ = disk_after(&rt, rt.alloc(), &[&PUT_AND_REPLACE, &SETTLES])?;
-    Ok(())
-}
-
-#[test]
-fn refuses_steps_out_of_turn(rt: HostRuntime) -> Result<(), Fail> {
-    let _ = disk_after(&rt, rt.alloc(), &[&OUT_OF_TURN, &GROUPS_IN_TURN])?;
-    Ok(())
-}
-
-// Each begin raises the low-water by one.
-fn close_one(
-    rt: &impl Abort,
-    alloc: Global,
-    world: &mut World<MemDisk>,
-    prev: u64,
-) -> Result<(), Fail> {
-    let mark = prev.saturating_add(1);
-    let closed = format!(in alloc;
-        "Closed(Closed {{ prev: Stamp({prev}), mark: Stamp({mark}) }})"
-    )?;
-    let _ = step(world, Event::Begin);
-    let reply = step(world, Event::CloseGroup);
-    assert_reply(rt, alloc, &reply, closed.as_str())
-}
-
-fn close_all(
-    rt: &impl Abort,
-    alloc: Global,
-    world: &mut World<MemDisk>,
-    count: u64,
-) -> Result<(), Fail> {
-    for prev in 0..count {
-        close_one(rt, alloc, world, prev)?;
-    }
-    Ok(())
-}
-
-fn fill_the_ring(rt: &impl Abort, alloc: Global, world: &mut World<MemDisk>) -> Result<(), Fail> {
-    close_all(rt, alloc, world, RING_GROUPS as u64)?;
-    follow(rt, alloc, world, &A_FULL_RING)
-}
-
-#[test]
-fn as_many_groups_wait_as_the_ring_has_room_for(rt: HostRuntime) -> Result<(), Fail> {
-    let alloc = rt.alloc();
-    let mut world = fresh(&rt, alloc)?;
-    let filled = fill_the_ring(&rt, alloc, &mut world);
-    close(world);
-    filled
 }
 
 #[test]

@@ -1,7 +1,7 @@
 //! A script whose store is kept: what is due is done, a chore behind each line, and what its
 //! transactions are answered stays the same.
 use crate::equal::same;
-use crate::script::assert::fresh;
+use crate::script::fresh::fresh;
 use mvo_disk::Disk;
 use mvo_keep::{Chore, Keeper, Policy};
 use mvo_script::{Driver, run_kept_over, run_over};
@@ -108,22 +108,5 @@ fn a_kept_run_answers_transactions_as_without(rt: HostRuntime) -> Result<(), Fai
     let mut kept = Vec::new(alloc);
     run_kept_over(alloc, fresh(&rt, alloc)?, policy(), SCRIPT, &mut kept)?;
     same(&rt, &kept.as_slice(), &without.as_slice());
-    Ok(())
-}
-
-/// What a line asks of the store is answered as it stands then: the flush came behind the first
-/// `poll`, and nothing is left to be closed.
-#[test]
-fn a_kept_run_makes_durable_what_is_committed(rt: HostRuntime) -> Result<(), Fail> {
-    let alloc = rt.alloc();
-    let script = b"begin a\ninsert a 0 1 1 61\ncommit a\npoll a\npoll a\ngroup\n".as_slice();
-    let mut without = Vec::new(alloc);
-    run_over(alloc, fresh(&rt, alloc)?, script, &mut without)?;
-    let replies = b"began 1\ninserted\ncommitted 2\nno\nno\nclosed 0 2\n".as_slice();
-    same(&rt, &without.as_slice(), &replies);
-    let mut kept = Vec::new(alloc);
-    run_kept_over(alloc, fresh(&rt, alloc)?, policy(), script, &mut kept)?;
-    let replies = b"began 1\ninserted\ncommitted 2\nno\nyes\nrefused 56\n".as_slice();
-    same(&rt, &kept.as_slice(), &replies);
     Ok(())
 }

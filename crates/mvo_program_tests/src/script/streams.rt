@@ -1,6 +1,6 @@
 //! Readers and writers that fail.
 use crate::equal::{holds, same};
-use crate::script::assert::fresh;
+use crate::script::fresh::fresh;
 use mvo_script::{ScriptError, run_over};
 use std::io::{self, Read, Write};
 use std::test::Fail;

@@ -2,8 +2,6 @@
 use crate::equal::same;
 use mvo_cli::Fault;
 use mvo_types::Refusal;
-use std::alloc::{AllocError, Global};
-use std::process::Abort;
 use std::test::Fail;
 
 const TOLD: [(Refusal, &str); 10] = [
@@ -52,18 +50,8 @@ const TOLD: [(Refusal, &str); 10] = [
 #[test]
 fn refusals_are_told_in_lines(rt: HostRuntime) -> Result<(), Fail> {
     for (refusal, text) in TOLD {
-        assert_told(&rt, rt.alloc(), refusal, text)?;
+        let told = Fault::Refused(refusal).to_string(rt.alloc())?;
+        same(&rt, &told.as_str(), &text);
     }
-    Ok(())
-}
-
-fn assert_told(
-    rt: &impl Abort,
-    alloc: Global,
-    refusal: Refusal,
-    text: &str,
-) -> Result<(), AllocError> {
-    let told = Fault::Refused(refusal).to_string(alloc)?;
-    same(rt, &told.as_str(), &text);
     Ok(())
 }

@@ -1,14 +1,65 @@
 //! What is found where a store forgets a sync: of some steps each of their syncs, in all places
 //! where a script makes that step, and those of its openings.
 use crate::equal::same;
-use crate::stops::longer::{CHECKPOINTS, MERGE, ROTATION};
-use crate::stops::looked_at::{FLUSHED, recorded};
+use crate::stops::looked_at::recorded;
 use mvo_disk::DeviceWork;
 use mvo_stops::{Quiet, Recorded, Report, check_stops, line_of};
 use std::alloc::{AllocError, Global};
 use std::process::Abort;
 use std::test::Fail;
 use std::thread::Threads;
+
+/// A row is put and its segment is sealed, and then two more are put.
+const ROTATION: &str = "begin t1
+insert t1 0 5 50 61
+commit t1
+flush
+rotate
+begin t2
+insert t2 0 6 50 62
+commit t2
+flush
+begin t3
+insert t3 0 7 50 63
+commit t3
+flush
+";
+
+/// Two segments become pairs, of which the second replaces the row of the first.
+const CHECKPOINTS: &str = "begin t1
+insert t1 0 5 50 61
+commit t1
+flush
+rotate
+checkpoint
+begin t2
+update t2 0 5 50 62
+commit t2
+flush
+rotate
+checkpoint
+";
+
+/// Two pairs become one, and what they leave is reclaimed.
+const MERGE: &str = "begin t1
+insert t1 0 5 50 61
+commit t1
+flush
+rotate
+checkpoint
+begin t2
+update t2 0 5 50 62
+commit t2
+flush
+rotate
+checkpoint
+merge 0
+reclaim
+reclaim
+reclaim
+reclaim
+reclaim
+";
 
 /// A sync that a script makes.
 #[derive(Clone, Copy)]

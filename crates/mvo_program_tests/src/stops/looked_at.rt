@@ -8,7 +8,7 @@ use std::test::Fail;
 use std::thread::Threads;
 
 /// A row is put and made durable.
-pub const FLUSHED: &[u8] = b"begin t1\ninsert t1 0 5 50 61\ncommit t1\nflush\n";
+const FLUSHED: &[u8] = b"begin t1\ninsert t1 0 5 50 61\ncommit t1\nflush\n";
 
 /// The calls of a script over a new store.
 pub fn recorded(
@@ -30,44 +30,6 @@ pub fn is_ok(
     same(rt, &report.failed, &None);
     same(rt, &report.counts.calls, &calls);
     Ok(report)
-}
-
-#[test]
-fn a_script_without_calls_is_ok(rt: HostRuntime) -> Result<(), Fail> {
-    let alloc = rt.alloc();
-    for script in [
-        b"".as_slice(),
-        b"\n",
-        b"begin t1\nwalk\nread t1 0 5",
-        b"flush\ncheckpoint\n",
-    ] {
-        let report = is_ok(&rt, &recorded(&rt, alloc, script)?, 0)?;
-        same(&rt, &report.counts.images, &0);
-    }
-    Ok(())
-}
-
-// An append is a body, its sync, a gate and its sync. An opening makes 11 calls: of both slots and
-// the segment it asks the length, and reads and syncs them, and of the segment it asks the length
-// and reads the header once more, for its version. So an image of a stop is opened and compared
-// 1 + 2 * 11 times, and a disk as it stands 2 times and behind each of the 11 calls once and for
-// each image that a stop leaves there. That makes of
-//
-// - the body 1 and 5 images, then 1 disk with 1 image, 3 with 4 (of bytes that are a fill, one
-//   image fewer differs) and 1 with 5: 16 + 35 * 11;
-// - its sync 5 images, and 1 disk with 5: 7 + 16 * 11;
-// - the gate 1 and 3 images, then 1 disk with 1 image and 3 with 3: 12 + 22 * 11;
-// - its sync 3 images and 1 disk with 3, and 1 image at the script's end: 6 + 12 * 11;
-// - each of the four 1 disk more, where it failed and the rest of the script ran: 4.
-//
-// Each that is opened behind one of the 11 calls is so behind an opening that was cut short there,
-// and each of the 11 disks as they stand is opened once more for what a stop leaves behind that.
-#[test]
-fn a_flush_is_ok(rt: HostRuntime) -> Result<(), Fail> {
-    let report = is_ok(&rt, &recorded(&rt, rt.alloc(), FLUSHED)?, 4)?;
-    same(&rt, &report.counts.images, &(45 + 85 * 11));
-    same(&rt, &report.counts.openings, &(45 + 85 * 11 + 85 * 11 + 11));
-    Ok(())
 }
 
 /// What is found where the sync of this number is forgotten.

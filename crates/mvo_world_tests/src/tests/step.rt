@@ -7,28 +7,18 @@ use mvo_world::Event;
 use std::alloc::{AllocError, Global};
 
 /// A step of a world. A number is the id of a transaction, but for a poll, which asks for a
-/// timestamp, and a trim, which goes up to one. All rows have one key.
+/// timestamp. All rows have one key.
 #[derive(Clone, Copy)]
 pub enum Step {
     Begin,
-    BeginReadOnly,
-    Read(u64),
-    /// Of the sorts 0 to 100.
-    Scan(u64),
     /// Of the sort 50 and the data 61.
     Insert(u64),
-    /// To the sort 60 and the data 62.
-    Update(u64),
     /// To the sort 50 and the data 62.
     Replace(u64),
-    Delete(u64),
     Precommit(u64),
     Validate(u64),
     Settle(u64),
-    Rollback(u64),
     Finish(u64),
-    Collect,
-    Trim(u64),
     CloseGroup,
     TakeGroup,
     Poll(u64),
@@ -54,7 +44,6 @@ impl Step {
     pub fn event(self, alloc: Global) -> Result<Event, AllocError> {
         match self {
             Step::Insert(tx) => Ok(insert(tx, row_with(alloc, 50, 0x61)?)),
-            Step::Update(tx) => Ok(update(tx, row_with(alloc, 60, 0x62)?)),
             Step::Replace(tx) => Ok(update(tx, row_with(alloc, 50, 0x62)?)),
             step => Ok(step.without_row()),
         }
@@ -63,19 +52,12 @@ impl Step {
     /// The event of a step without a row.
     fn without_row(self) -> Event {
         match self {
-            Step::Read(tx) => Event::Do(TxId(tx), Op::Read(KEY)),
-            Step::Scan(tx) => Event::Do(TxId(tx), Op::Scan(0, 0, 100)),
-            Step::Delete(tx) => Event::Do(TxId(tx), Op::Delete(KEY)),
             Step::Precommit(tx) => Event::Precommit(TxId(tx)),
             Step::Validate(tx) => Event::Validate(TxId(tx)),
             Step::Settle(tx) => Event::Settle(TxId(tx)),
-            Step::Rollback(tx) => Event::Rollback(TxId(tx)),
             Step::Finish(tx) => Event::Finish(TxId(tx)),
-            Step::Trim(stamp) => Event::Trim(Stamp(stamp)),
             Step::Poll(stamp) => Event::Poll(Stamp(stamp)),
             Step::Store(call) => Event::Store(call),
-            Step::BeginReadOnly => Event::BeginReadOnly,
-            Step::Collect => Event::Collect,
             Step::CloseGroup => Event::CloseGroup,
             Step::TakeGroup => Event::TakeGroup,
             _ => Event::Begin,

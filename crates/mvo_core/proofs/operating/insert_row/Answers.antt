@@ -1,11 +1,8 @@
 use Rattle.std.proofs.Common.{◌∷◌, [], subst}
 use Rattle.std.specs.Option.{option_to_list}
-use Rattle.mvo_types.specs.declared.op.Op.TheVariants.{Insert}
-use Rattle.mvo_types.specs.AnswerData.AnswerData.{Inserted}
 use Rattle.mvo_work.specs.declared.word_place.WordPlace.TheVariants.{Begin}
-use Rattle.mvo_work.specs.Limits.{MayFollow}
-use Rattle.mvo_core.specs.Keeping.{HasDoneMore, IsWritten}
-use Rattle.mvo_core.proofs.Recorded.{unfinished_roomy, there_then, history_then, all_room_then}
+use Rattle.mvo_core.specs.Keeping.{HasWrittenMore, IsWritten}
+use Rattle.mvo_core.proofs.Recorded.{unfinished_roomy, there_then, room_then}
 use Rattle.mvo_core.proofs.operating.insert_row.Goals as goal
 
 pub put-requires-clause-there : goal.put-requires-clause-there
@@ -17,12 +14,7 @@ write-requires-clause-there c =
 
 pub write-requires-clause-room : goal.write-requires-clause-room
 write-requires-clause-room c =
-    all_room_then c.args.table.now c.make_room.new.table c.args.tx.id c.in_ok-make_room.ensures.ok (option_to_list c.args.on) c.put.new.table c.in_ok-number.ensures.depends
-
-pub write-requires-clause-limits : goal.write-requires-clause-limits
-write-requires-clause-limits c =
-    history_then c.args.table.now c.make_room.new.table c.args.tx.id c.in_ok-make_room.ensures.ok (option_to_list c.args.on) c.put.new.table c.in_ok-number.ensures.depends
-    (λ ts. MayFollow ts (Insert c.args.row) Inserted) c.requires.limits
+    room_then c.args.table.now c.make_room.new.table c.args.tx.id c.in_ok-make_room.ensures.ok (option_to_list c.args.on) c.put.new.table c.in_ok-number.ensures.depends
 
 pub returns-clause-ok : goal.returns-clause-ok
 returns-clause-ok c = record {
@@ -31,6 +23,6 @@ returns-clause-ok c = record {
   recorded = record {
     roomy = c.make_room.new.table;
     room = c.in_ok-make_room.ensures.ok;
-    done = subst (λ table. IsWritten table c.write.new.table c.args.tx.id.0 (HasDoneMore (Insert c.args.row) Inserted (Begin c.in_ok-number.number ∷ []))) c.in_ok-number.ensures.depends c.write.ensures;
+    done = subst (λ table. IsWritten table c.write.new.table c.args.tx.id.0 (HasWrittenMore (Begin c.in_ok-number.number ∷ []))) c.in_ok-number.ensures.depends c.write.ensures;
   };
 }

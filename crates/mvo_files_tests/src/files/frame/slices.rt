@@ -41,7 +41,8 @@ fn slice(
 
 /// What was read are both groups.
 fn has_both(rt: &impl Abort, reader: SegmentReader) -> Result<(), Fail> {
-    let contents = reader.end(Kind::Sealed)?;
+    reader.end(Kind::Sealed)?;
+    let contents = reader.into_contents();
     same(rt, &contents.groups.len(), &2);
     same(rt, &contents.gate, &116);
     same(rt, &contents.mark.0, &4);

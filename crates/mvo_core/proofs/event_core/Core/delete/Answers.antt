@@ -1,7 +1,6 @@
 use Rattle.std.proofs.Common.{sym, ap, ◌∙◌, subst, refl}
 use Rattle.mvo_types.specs.declared.op.Op.TheVariants.{Delete}
 use Rattle.mvo_types.specs.declared.refusal.Refusal.TheVariants.{OutOfMemory}
-use Rattle.mvo_types.specs.AnswerData.AnswerData.{Deleted, Absent}
 use Rattle.mvo_theory.specs.Calls.Call.{Do}
 use Rattle.mvo_theory.specs.Calls.Result.{Accepted, Refused}
 use Rattle.mvo_txn.specs.Txns.{state_of, IsUnended}
@@ -14,17 +13,17 @@ use Rattle.mvo_core.specs.View.{core_data}
 use Rattle.mvo_core.specs.Standing.{StandsFor}
 use Rattle.mvo_core.specs.Steps.{LeadsOn}
 use Rattle.mvo_core.proofs.Allowed.{unended_if_active}
-use Rattle.mvo_core.proofs.Asked.{own_if_active, active_if_removed, may_remove_failing}
+use Rattle.mvo_core.proofs.Asked.{own_if_active, unfinished_if_own, active_if_removed, may_remove_failing}
 use Rattle.mvo_core.proofs.WholeStands.{whole_stands_on}
 use Rattle.mvo_core.proofs.CausesTold.{stands_active}
 use Rattle.mvo_core.proofs.Refused.{came_spent}
 use Rattle.mvo_core.proofs.WorksHeld.{stands_same_works, whole_same_works}
-use Rattle.mvo_core.proofs.Deleting.{delete_starved, delete_refused, delete_conflicts, delete_spent, delete_left, absent_answers, absent_leads, deleted_answers, deleted_live, deleted_leads, delete_may_be_told, delete_may_follow, delete_fits}
+use Rattle.mvo_core.proofs.Deleting.{delete_starved, delete_refused, delete_conflicts, delete_spent, delete_left, absent_answers, absent_leads, deleted_answers, deleted_live, deleted_leads, delete_may_be_told, delete_fits}
 use Rattle.std.specs.Option.{option_to_list}
 use Rattle.mvo_versions.specs.Data.{VersionsData}
 use Rattle.mvo_collect.specs.Waiting.{AreWaiting}
-use Rattle.mvo_core.specs.Keeping.{HasDoneAsMuch}
-use Rattle.mvo_core.proofs.Waits.{waits_alike, alike_written, alike_recorded, waits_roomy, waits_removed}
+use Rattle.mvo_core.specs.Keeping.{HasWrittenAsMuch}
+use Rattle.mvo_core.proofs.Waits.{waits_alike, alike_written, alike_depending, alike_same, waits_roomy, waits_removed}
 use Rattle.mvo_core.specs.WholeStanding.{readers_of, StandsWhole, LeadsWhole}
 use Rattle.mvo_readonly.specs.WholeCauses.WholeCall.{CoreCall}
 use Rattle.mvo_core.proofs.OthersLead.{others_lead}
@@ -38,25 +37,11 @@ give_up-requires c =
     may_remove_failing c.args.self.now.table (done_in c.args.self.now.works c.args.tx.0) c.args.tx.0 c.args.key c.in-Some.refusal
     (ap (λ (x : CoreData). why_not_remove x.table (done_in x.works c.args.tx.0) c.args.tx.0 c.args.key) (sym c.self.view_is) ∙ sym c.not_removed.ensures ∙ c.in-Some.is)
 
-pub record_answer-requires-clause-there : goal.record_answer-requires-clause-there
-record_answer-requires-clause-there c = own_if_active c.self.inside.table c.args.tx.0 (active_if_removed c.self.inside.table (done_in c.self.inside.works c.args.tx.0) c.args.tx.0 c.args.key (sym c.not_removed.ensures ∙ c.in_default.is))
-
-pub record_answer-requires-clause-limits : goal.record_answer-requires-clause-limits
-record_answer-requires-clause-limits c =
-    let f = c.self.inside in
-    let i = c.self.invariant.stands in
-    let old : CoreData = core_data f in
-    delete_may_follow (readers_of i.whole) i.opening i.own i.whole.core old i.stands.core c.args.tx c.args.key (stage_none (readers_of i.whole) i.opening i.own i.whole.core old i.stands.core c.args.tx.0 (remove_not_reading f.table (done_in f.works c.args.tx.0) c.args.tx.0 c.args.key (sym c.not_removed.ensures ∙ c.in_default.is))) (sym c.not_removed.ensures ∙ c.in_default.is) c.shown-found.result c.shown-found.ensures (sym c.in_the_way.ensures ∙ c.in_default-in_the_way.is) Absent
+pub depend-requires : goal.depend-requires
+depend-requires c = unfinished_if_own c.self.inside.table c.args.tx.0 (own_if_active c.self.inside.table c.args.tx.0 (active_if_removed c.self.inside.table (done_in c.self.inside.works c.args.tx.0) c.args.tx.0 c.args.key (sym c.not_removed.ensures ∙ c.in_default.is)))
 
 pub remove-requires-clause-there : goal.remove-requires-clause-there
 remove-requires-clause-there c = own_if_active c.self.inside.table c.args.tx.0 (active_if_removed c.self.inside.table (done_in c.self.inside.works c.args.tx.0) c.args.tx.0 c.args.key (sym c.not_removed.ensures ∙ c.in_default.is))
-
-pub remove-requires-clause-limits : goal.remove-requires-clause-limits
-remove-requires-clause-limits c =
-    let f = c.self.inside in
-    let i = c.self.invariant.stands in
-    let old : CoreData = core_data f in
-    delete_may_follow (readers_of i.whole) i.opening i.own i.whole.core old i.stands.core c.args.tx c.args.key (stage_none (readers_of i.whole) i.opening i.own i.whole.core old i.stands.core c.args.tx.0 (remove_not_reading f.table (done_in f.works c.args.tx.0) c.args.tx.0 c.args.key (sym c.not_removed.ensures ∙ c.in_default.is))) (sym c.not_removed.ensures ∙ c.in_default.is) c.shown-found.result c.shown-found.ensures (sym c.in_the_way.ensures ∙ c.in_default-in_the_way.is) Deleted
 
 pub returns-in-Some-clause-step : goal.returns-in-Some-clause-step
 returns-in-Some-clause-step c = λ opening steps s h.
@@ -138,8 +123,8 @@ tell-requires-2 c =
     let g : StandsWhole i.opening i.steps i.own i.whole now = whole_same_works i.opening i.steps i.own i.whole old i.stands c.prepare.new.works c.prepare.ensures.same in
     delete_may_be_told (readers_of i.whole) i.opening i.own i.whole.core now g.core c.args.tx c.args.key (stage_none (readers_of i.whole) i.opening i.own i.whole.core now g.core c.args.tx.0 (remove_not_reading f.table (done_in f.works c.args.tx.0) c.args.tx.0 c.args.key (sym c.not_removed.ensures ∙ c.in_default.is))) (ap (λ (z : WorkContent). why_not_remove c.self.inside.table z.history c.args.tx.0 c.args.key) (c.prepare.ensures.same c.args.tx.0) ∙ sym c.not_removed.ensures ∙ c.in_default.is) c.shown-found.result c.shown-found.ensures (sym c.in_the_way.ensures ∙ c.in_default-in_the_way.is) _ c.in_ok-next.next c.in_ok-next.ensures.next
 
-pub invariant_of-self-in_err-record_answer : goal.invariant_of-self-in_err-record_answer
-invariant_of-self-in_err-record_answer c =
+pub invariant_of-self-in_err-depend : goal.invariant_of-self-in_err-depend
+invariant_of-self-in_err-depend c =
     let f = c.self.inside in
     let i = c.self.invariant.stands in
     let old : CoreData = core_data f in
@@ -147,20 +132,20 @@ invariant_of-self-in_err-record_answer c =
     let g : StandsWhole i.opening i.steps i.own i.whole now = whole_same_works i.opening i.steps i.own i.whole old i.stands c.prepare.new.works c.prepare.ensures.same in
     record {
       stands =
-          whole_stands_on i (CoreCall (Do c.args.tx.0 (Delete c.args.key))) (Refused OutOfMemory) (record now { table = c.record_answer.new.table })
+          whole_stands_on i (CoreCall (Do c.args.tx.0 (Delete c.args.key))) (Refused OutOfMemory) (record now { table = c.depend.new.table })
           (let other = stage_none (readers_of i.whole) i.opening i.own i.whole.core now g.core c.args.tx.0 (remove_not_reading f.table (done_in f.works c.args.tx.0) c.args.tx.0 c.args.key (sym c.not_removed.ensures ∙ c.in_default.is)) in
           (others_lead i.opening i.steps i.own i.whole (Do c.args.tx.0 (Delete c.args.key)) _ now _ g other tt
-          (delete_spent (readers_of i.whole) i.opening i.own i.whole.core now g.core c.args.tx c.args.key other (ap (λ (z : WorkContent). why_not_remove c.self.inside.table z.history c.args.tx.0 c.args.key) (c.prepare.ensures.same c.args.tx.0) ∙ sym c.not_removed.ensures ∙ c.in_default.is) c.shown-found.result c.shown-found.ensures (sym c.in_the_way.ensures ∙ c.in_default-in_the_way.is) c.record_answer.new.table c.in_err-record_answer.ensures.err)));
-      waiting = waits_alike f.table c.record_answer.new.table f.versions.slots f.waiting (alike_written f.table c.record_answer.new.table c.args.tx.0 HasDoneAsMuch c.in_err-record_answer.ensures.err) c.self.invariant.waiting;
+          (delete_spent (readers_of i.whole) i.opening i.own i.whole.core now g.core c.args.tx c.args.key other (ap (λ (z : WorkContent). why_not_remove c.self.inside.table z.history c.args.tx.0 c.args.key) (c.prepare.ensures.same c.args.tx.0) ∙ sym c.not_removed.ensures ∙ c.in_default.is) c.shown-found.result c.shown-found.ensures (sym c.in_the_way.ensures ∙ c.in_default-in_the_way.is) c.depend.new.table c.in_err-depend.ensures.err)));
+      waiting = waits_alike f.table c.depend.new.table f.versions.slots f.waiting (alike_same f.table c.depend.new.table c.in_err-depend.ensures.err) c.self.invariant.waiting;
     }
 
-pub returns-in_err-record_answer-clause-step : goal.returns-in_err-record_answer-clause-step
-returns-in_err-record_answer-clause-step c = λ opening steps s h.
+pub returns-in_err-depend-clause-step : goal.returns-in_err-depend-clause-step
+returns-in_err-depend-clause-step c = λ opening steps s h.
     let f = c.self.inside in
     let old : CoreData = core_data f in
     let now : CoreData = record old { works = c.prepare.new.works } in
-    subst (λ r. LeadsOn opening steps s (Do c.args.tx.0 (Delete c.args.key)) r (record now { table = c.record_answer.new.table })) (came_spent c.from_residual-in_err-record_answer.result c.from_residual-in_err-record_answer.ensures.1)
-    (delete_spent no_readers opening steps s now (stands_same_works no_readers opening steps s old (subst (StandsFor opening steps s) (sym c.self.view_is) h) c.prepare.new.works c.prepare.ensures.same) c.args.tx c.args.key refl (ap (λ (z : WorkContent). why_not_remove c.self.inside.table z.history c.args.tx.0 c.args.key) (c.prepare.ensures.same c.args.tx.0) ∙ sym c.not_removed.ensures ∙ c.in_default.is) c.shown-found.result c.shown-found.ensures (sym c.in_the_way.ensures ∙ c.in_default-in_the_way.is) c.record_answer.new.table c.in_err-record_answer.ensures.err)
+    subst (λ r. LeadsOn opening steps s (Do c.args.tx.0 (Delete c.args.key)) r (record now { table = c.depend.new.table })) (came_spent c.from_residual-in_err-depend.result c.from_residual-in_err-depend.ensures.1)
+    (delete_spent no_readers opening steps s now (stands_same_works no_readers opening steps s old (subst (StandsFor opening steps s) (sym c.self.view_is) h) c.prepare.new.works c.prepare.ensures.same) c.args.tx c.args.key refl (ap (λ (z : WorkContent). why_not_remove c.self.inside.table z.history c.args.tx.0 c.args.key) (c.prepare.ensures.same c.args.tx.0) ∙ sym c.not_removed.ensures ∙ c.in_default.is) c.shown-found.result c.shown-found.ensures (sym c.in_the_way.ensures ∙ c.in_default-in_the_way.is) c.depend.new.table c.in_err-depend.ensures.err)
 
 pub invariant_of-self-in_default-version : goal.invariant_of-self-in_default-version
 invariant_of-self-in_default-version c =
@@ -171,12 +156,12 @@ invariant_of-self-in_default-version c =
     let g : StandsWhole i.opening i.steps i.own i.whole now = whole_same_works i.opening i.steps i.own i.whole old i.stands c.prepare.new.works c.prepare.ensures.same in
     record {
       stands =
-          whole_stands_on i (CoreCall (Do c.args.tx.0 (Delete c.args.key))) Accepted (record now { table = c.record_answer.new.table; works = c.tell.new.self })
+          whole_stands_on i (CoreCall (Do c.args.tx.0 (Delete c.args.key))) Accepted (record now { table = c.depend.new.table; works = c.tell.new.self })
           (let other = stage_none (readers_of i.whole) i.opening i.own i.whole.core now g.core c.args.tx.0 (remove_not_reading f.table (done_in f.works c.args.tx.0) c.args.tx.0 c.args.key (sym c.not_removed.ensures ∙ c.in_default.is)) in
           others_lead i.opening i.steps i.own i.whole (Do c.args.tx.0 (Delete c.args.key)) _ now _ g other tt
-          (absent_leads (readers_of i.whole) i.opening i.own i.whole.core now g.core c.args.tx c.args.key other (ap (λ (z : WorkContent). why_not_remove c.self.inside.table z.history c.args.tx.0 c.args.key) (c.prepare.ensures.same c.args.tx.0) ∙ sym c.not_removed.ensures ∙ c.in_default.is) c.shown-found.result c.shown-found.ensures (sym c.in_the_way.ensures ∙ c.in_default-in_the_way.is) c.in_default-version.is c.record_answer.new.table c.in_ok-record_answer.ensures.ok c.tell.new.self
+          (absent_leads (readers_of i.whole) i.opening i.own i.whole.core now g.core c.args.tx c.args.key other (ap (λ (z : WorkContent). why_not_remove c.self.inside.table z.history c.args.tx.0 c.args.key) (c.prepare.ensures.same c.args.tx.0) ∙ sym c.not_removed.ensures ∙ c.in_default.is) c.shown-found.result c.shown-found.ensures (sym c.in_the_way.ensures ∙ c.in_default-in_the_way.is) c.in_default-version.is c.depend.new.table c.in_ok-depend.ensures.ok c.tell.new.self
           (record { next = c.in_ok-next.next; prepared = c.in_ok-next.ensures.next; told = c.tell.ensures.told })));
-      waiting = waits_alike f.table c.record_answer.new.table f.versions.slots f.waiting (alike_recorded f.table c.record_answer.new.table c.args.tx _ _ _ c.in_ok-record_answer.ensures.ok) c.self.invariant.waiting;
+      waiting = waits_alike f.table c.depend.new.table f.versions.slots f.waiting (alike_depending f.table c.depend.new.table c.args.tx (option_to_list c.shown-found.result.depends_on) c.in_ok-depend.ensures.ok) c.self.invariant.waiting;
     }
 
 pub returns-in_default-version-clause-step : goal.returns-in_default-version-clause-step
@@ -184,7 +169,7 @@ returns-in_default-version-clause-step c = λ opening steps s h.
     let f = c.self.inside in
     let old : CoreData = core_data f in
     let now : CoreData = record old { works = c.prepare.new.works } in
-    absent_leads no_readers opening steps s now (stands_same_works no_readers opening steps s old (subst (StandsFor opening steps s) (sym c.self.view_is) h) c.prepare.new.works c.prepare.ensures.same) c.args.tx c.args.key refl (ap (λ (z : WorkContent). why_not_remove c.self.inside.table z.history c.args.tx.0 c.args.key) (c.prepare.ensures.same c.args.tx.0) ∙ sym c.not_removed.ensures ∙ c.in_default.is) c.shown-found.result c.shown-found.ensures (sym c.in_the_way.ensures ∙ c.in_default-in_the_way.is) c.in_default-version.is c.record_answer.new.table c.in_ok-record_answer.ensures.ok c.tell.new.self
+    absent_leads no_readers opening steps s now (stands_same_works no_readers opening steps s old (subst (StandsFor opening steps s) (sym c.self.view_is) h) c.prepare.new.works c.prepare.ensures.same) c.args.tx c.args.key refl (ap (λ (z : WorkContent). why_not_remove c.self.inside.table z.history c.args.tx.0 c.args.key) (c.prepare.ensures.same c.args.tx.0) ∙ sym c.not_removed.ensures ∙ c.in_default.is) c.shown-found.result c.shown-found.ensures (sym c.in_the_way.ensures ∙ c.in_default-in_the_way.is) c.in_default-version.is c.depend.new.table c.in_ok-depend.ensures.ok c.tell.new.self
     (record { next = c.in_ok-next.next; prepared = c.in_ok-next.ensures.next; told = c.tell.ensures.told })
 
 pub returns-in_default-version-clause-answer : goal.returns-in_default-version-clause-answer
@@ -213,7 +198,7 @@ invariant_of-self-in_err-remove c =
           (let other = stage_none (readers_of i.whole) i.opening i.own i.whole.core now g.core c.args.tx.0 (remove_not_reading f.table (done_in f.works c.args.tx.0) c.args.tx.0 c.args.key (sym c.not_removed.ensures ∙ c.in_default.is)) in
           (others_lead i.opening i.steps i.own i.whole (Do c.args.tx.0 (Delete c.args.key)) _ now _ g other tt
           (delete_left (readers_of i.whole) i.opening i.own i.whole.core now g.core c.args.tx c.args.key other (ap (λ (z : WorkContent). why_not_remove c.self.inside.table z.history c.args.tx.0 c.args.key) (c.prepare.ensures.same c.args.tx.0) ∙ sym c.not_removed.ensures ∙ c.in_default.is) c.shown-found.result c.shown-found.ensures (sym c.in_the_way.ensures ∙ c.in_default-in_the_way.is) c.remove.new.versions c.in_err-remove.ensures.same c.remove.new.table c.in_err-remove.ensures.err)));
-      waiting = subst (λ (v : VersionsData). AreWaiting c.remove.new.table.clock (state_of c.remove.new.table) v.slots c.make_room.new.self) (sym c.in_err-remove.ensures.same) (waits_alike f.table c.remove.new.table f.versions.slots c.make_room.new.self (alike_written f.table c.remove.new.table c.args.tx.0 HasDoneAsMuch c.in_err-remove.ensures.err) (waits_roomy f.table.clock (state_of f.table) f.versions.slots f.waiting c.make_room.new.self c.make_room.new.self.room c.make_room.ensures.same c.self.invariant.waiting));
+      waiting = subst (λ (v : VersionsData). AreWaiting c.remove.new.table.clock (state_of c.remove.new.table) v.slots c.make_room.new.self) (sym c.in_err-remove.ensures.same) (waits_alike f.table c.remove.new.table f.versions.slots c.make_room.new.self (alike_written f.table c.remove.new.table c.args.tx.0 HasWrittenAsMuch c.in_err-remove.ensures.err) (waits_roomy f.table.clock (state_of f.table) f.versions.slots f.waiting c.make_room.new.self c.make_room.new.self.room c.make_room.ensures.same c.self.invariant.waiting));
     }
 
 pub returns-in_err-remove-clause-step : goal.returns-in_err-remove-clause-step
@@ -238,7 +223,7 @@ invariant_of-self-2 c =
           others_lead i.opening i.steps i.own i.whole (Do c.args.tx.0 (Delete c.args.key)) _ now _ g other tt
           (deleted_leads (readers_of i.whole) i.opening i.own i.whole.core now g.core c.args.tx c.args.key other (ap (λ (z : WorkContent). why_not_remove c.self.inside.table z.history c.args.tx.0 c.args.key) (c.prepare.ensures.same c.args.tx.0) ∙ sym c.not_removed.ensures ∙ c.in_default.is) c.shown-found.result c.shown-found.ensures (sym c.in_the_way.ensures ∙ c.in_default-in_the_way.is) c.in-Some-version.old c.in-Some-version.is c.remove.new.versions c.remove.new.table c.in_ok-remove.ensures.ok c.tell-2.new.self
           (record { next = c.in_ok-next.next; prepared = c.in_ok-next.ensures.next; told = c.tell-2.ensures.told })));
-      waiting = waits_removed f.versions c.remove.new.versions f.table c.remove.new.table c.args.tx (option_to_list c.shown-found.result.depends_on) f.waiting c.make_room.new.self c.make_room.ensures.same c.in-Some-version.old c.args.key c.has_open_end-is_open.result c.owe_end.new.waiting (stands_active f.table c.args.tx.0 (active_if_removed f.table (done_in f.works c.args.tx.0) c.args.tx.0 c.args.key (sym c.not_removed.ensures ∙ c.in_default.is))) (deleted_live (readers_of i.whole) i.opening i.own i.whole.core now g.core c.args.tx c.args.key (stage_none (readers_of i.whole) i.opening i.own i.whole.core now g.core c.args.tx.0 (remove_not_reading f.table (done_in f.works c.args.tx.0) c.args.tx.0 c.args.key (sym c.not_removed.ensures ∙ c.in_default.is))) (ap (λ (z : WorkContent). why_not_remove c.self.inside.table z.history c.args.tx.0 c.args.key) (c.prepare.ensures.same c.args.tx.0) ∙ sym c.not_removed.ensures ∙ c.in_default.is) c.shown-found.result c.shown-found.ensures (sym c.in_the_way.ensures ∙ c.in_default-in_the_way.is) c.in-Some-version.old c.in-Some-version.is) c.in_ok-remove.ensures.ok c.has_open_end-is_open.ensures c.owe_end.ensures c.self.invariant.waiting;
+      waiting = waits_removed f.versions c.remove.new.versions f.table c.remove.new.table c.args.tx (option_to_list c.shown-found.result.depends_on) f.waiting c.make_room.new.self c.make_room.ensures.same c.in-Some-version.old c.has_open_end-is_open.result c.owe_end.new.waiting (stands_active f.table c.args.tx.0 (active_if_removed f.table (done_in f.works c.args.tx.0) c.args.tx.0 c.args.key (sym c.not_removed.ensures ∙ c.in_default.is))) (deleted_live (readers_of i.whole) i.opening i.own i.whole.core now g.core c.args.tx c.args.key (stage_none (readers_of i.whole) i.opening i.own i.whole.core now g.core c.args.tx.0 (remove_not_reading f.table (done_in f.works c.args.tx.0) c.args.tx.0 c.args.key (sym c.not_removed.ensures ∙ c.in_default.is))) (ap (λ (z : WorkContent). why_not_remove c.self.inside.table z.history c.args.tx.0 c.args.key) (c.prepare.ensures.same c.args.tx.0) ∙ sym c.not_removed.ensures ∙ c.in_default.is) c.shown-found.result c.shown-found.ensures (sym c.in_the_way.ensures ∙ c.in_default-in_the_way.is) c.in-Some-version.old c.in-Some-version.is) c.in_ok-remove.ensures.ok c.has_open_end-is_open.ensures c.owe_end.ensures c.self.invariant.waiting;
     }
 
 pub returns-clause-step : goal.returns-clause-step
@@ -302,16 +287,16 @@ returns-in-Some-in_the_way-clause-whole c = λ opening steps own w h.
     (delete_conflicts (readers_of w) opening own w.core old g.core c.args.tx c.args.key other (sym c.not_removed.ensures ∙ c.in_default.is) c.shown-found.result c.shown-found.ensures c.in-Some-in_the_way.cause (sym c.in_the_way.ensures ∙ c.in-Some-in_the_way.is)
     c.give_up-in-Some-in_the_way.new.self (c.give_up-in-Some-in_the_way.ensures.left (readers_of w) opening own w.core other h.core)))
 
-pub returns-in_err-record_answer-clause-whole : goal.returns-in_err-record_answer-clause-whole
-returns-in_err-record_answer-clause-whole c = λ opening steps own w h.
+pub returns-in_err-depend-clause-whole : goal.returns-in_err-depend-clause-whole
+returns-in_err-depend-clause-whole c = λ opening steps own w h.
     let f = c.self.inside in
     let old : CoreData = core_data f in
     let now : CoreData = record old { works = c.prepare.new.works } in
     let g : StandsWhole opening steps own w now = whole_same_works opening steps own w old (subst (StandsWhole opening steps own w) (sym c.self.view_is) h) c.prepare.new.works c.prepare.ensures.same in
     let other = stage_none (readers_of w) opening own w.core now g.core c.args.tx.0 (remove_not_reading f.table (done_in f.works c.args.tx.0) c.args.tx.0 c.args.key (sym c.not_removed.ensures ∙ c.in_default.is)) in
-    subst (λ r. LeadsWhole opening steps own w (CoreCall (Do c.args.tx.0 (Delete c.args.key))) r (record now { table = c.record_answer.new.table })) (came_spent c.from_residual-in_err-record_answer.result c.from_residual-in_err-record_answer.ensures.1)
+    subst (λ r. LeadsWhole opening steps own w (CoreCall (Do c.args.tx.0 (Delete c.args.key))) r (record now { table = c.depend.new.table })) (came_spent c.from_residual-in_err-depend.result c.from_residual-in_err-depend.ensures.1)
     (others_lead opening steps own w (Do c.args.tx.0 (Delete c.args.key)) _ now _ g other tt
-    (delete_spent (readers_of w) opening own w.core now g.core c.args.tx c.args.key other (ap (λ (z : WorkContent). why_not_remove c.self.inside.table z.history c.args.tx.0 c.args.key) (c.prepare.ensures.same c.args.tx.0) ∙ sym c.not_removed.ensures ∙ c.in_default.is) c.shown-found.result c.shown-found.ensures (sym c.in_the_way.ensures ∙ c.in_default-in_the_way.is) c.record_answer.new.table c.in_err-record_answer.ensures.err))
+    (delete_spent (readers_of w) opening own w.core now g.core c.args.tx c.args.key other (ap (λ (z : WorkContent). why_not_remove c.self.inside.table z.history c.args.tx.0 c.args.key) (c.prepare.ensures.same c.args.tx.0) ∙ sym c.not_removed.ensures ∙ c.in_default.is) c.shown-found.result c.shown-found.ensures (sym c.in_the_way.ensures ∙ c.in_default-in_the_way.is) c.depend.new.table c.in_err-depend.ensures.err))
 
 pub returns-in_default-version-clause-whole : goal.returns-in_default-version-clause-whole
 returns-in_default-version-clause-whole c = λ opening steps own w h.
@@ -321,7 +306,7 @@ returns-in_default-version-clause-whole c = λ opening steps own w h.
     let g : StandsWhole opening steps own w now = whole_same_works opening steps own w old (subst (StandsWhole opening steps own w) (sym c.self.view_is) h) c.prepare.new.works c.prepare.ensures.same in
     let other = stage_none (readers_of w) opening own w.core now g.core c.args.tx.0 (remove_not_reading f.table (done_in f.works c.args.tx.0) c.args.tx.0 c.args.key (sym c.not_removed.ensures ∙ c.in_default.is)) in
     others_lead opening steps own w (Do c.args.tx.0 (Delete c.args.key)) _ now _ g other tt
-    (absent_leads (readers_of w) opening own w.core now g.core c.args.tx c.args.key other (ap (λ (z : WorkContent). why_not_remove c.self.inside.table z.history c.args.tx.0 c.args.key) (c.prepare.ensures.same c.args.tx.0) ∙ sym c.not_removed.ensures ∙ c.in_default.is) c.shown-found.result c.shown-found.ensures (sym c.in_the_way.ensures ∙ c.in_default-in_the_way.is) c.in_default-version.is c.record_answer.new.table c.in_ok-record_answer.ensures.ok c.tell.new.self
+    (absent_leads (readers_of w) opening own w.core now g.core c.args.tx c.args.key other (ap (λ (z : WorkContent). why_not_remove c.self.inside.table z.history c.args.tx.0 c.args.key) (c.prepare.ensures.same c.args.tx.0) ∙ sym c.not_removed.ensures ∙ c.in_default.is) c.shown-found.result c.shown-found.ensures (sym c.in_the_way.ensures ∙ c.in_default-in_the_way.is) c.in_default-version.is c.depend.new.table c.in_ok-depend.ensures.ok c.tell.new.self
     (record { next = c.in_ok-next.next; prepared = c.in_ok-next.ensures.next; told = c.tell.ensures.told }))
 
 pub returns-in_default-version-clause-whole_answer : goal.returns-in_default-version-clause-whole_answer
@@ -377,4 +362,4 @@ pub returns-clause-count : goal.returns-clause-count
 returns-clause-count c =
     let f = c.self.inside in
     put_none (core_data f) c.args.self.now _ c.self.view_is
-    (removed_counts f.versions c.remove.new.versions f.table c.remove.new.table c.args.tx (option_to_list c.shown-found.result.depends_on) c.in-Some-version.old c.args.key c.in_ok-remove.ensures.ok)
+    (removed_counts f.versions c.remove.new.versions f.table c.remove.new.table c.args.tx (option_to_list c.shown-found.result.depends_on) c.in-Some-version.old c.in_ok-remove.ensures.ok)

@@ -15,15 +15,13 @@ use Rattle.mvo_core.specs.View.{core_data}
 use Rattle.mvo_core.specs.Standing.{StandsFor}
 use Rattle.mvo_core.specs.Steps.{LeadsOn}
 use Rattle.mvo_core.proofs.WholeStands.{whole_stands_on}
-use Rattle.mvo_core.proofs.Inserting.{insert_starved, insert_refused, insert_spent, insert_spent_same, exists_answers, exists_leads, insert_leads, inserted_answers, insert_may_be_told, insert_may_follow, insert_fits}
-use Rattle.mvo_types.specs.AnswerData.AnswerData.{Inserted, Exists}
-use Rattle.mvo_core.proofs.Asked.{own_if_active, active_if_put, may_put_failing}
+use Rattle.mvo_core.proofs.Inserting.{insert_starved, insert_refused, insert_spent, insert_spent_same, exists_answers, exists_leads, insert_leads, inserted_answers, insert_may_be_told, insert_fits}
+use Rattle.mvo_core.proofs.Asked.{own_if_active, unfinished_if_own, active_if_put, may_put_failing}
 use Rattle.mvo_core.proofs.Looked.{shown_in}
 use Rattle.mvo_core.proofs.Refused.{came_spent}
 use Rattle.mvo_core.proofs.WorksHeld.{stands_same_works, whole_same_works}
 use Rattle.std.specs.Option.{option_to_list}
-use Rattle.mvo_core.specs.Keeping.{HasDoneAsMuch}
-use Rattle.mvo_core.proofs.Waits.{waits_roomy, waits_alike, alike_written, alike_recorded, waits_spent, waits_inserted}
+use Rattle.mvo_core.proofs.Waits.{waits_roomy, waits_alike, alike_depending, alike_same, waits_spent, waits_inserted}
 use Rattle.mvo_core.specs.WholeStanding.{readers_of, StandsWhole, LeadsWhole}
 use Rattle.mvo_readonly.specs.WholeCauses.WholeCall.{CoreCall}
 use Rattle.mvo_core.proofs.OthersLead.{others_lead}
@@ -37,25 +35,11 @@ give_up-requires c =
     may_put_failing c.args.self.now.table (done_in c.args.self.now.works c.args.tx.0) c.args.tx.0 c.args.row c.in-Some.refusal
     (ap (λ (x : CoreData). why_not_put x.table (done_in x.works c.args.tx.0) c.args.tx.0 c.args.row) (sym c.self.view_is) ∙ sym c.not_put.ensures ∙ c.in-Some.is)
 
-pub record_answer-requires-clause-there : goal.record_answer-requires-clause-there
-record_answer-requires-clause-there c = own_if_active c.self.inside.table c.args.tx.0 (active_if_put c.self.inside.table (done_in c.self.inside.works c.args.tx.0) c.args.tx.0 c.args.row (sym c.not_put.ensures ∙ c.in_default.is))
+pub depend-requires : goal.depend-requires
+depend-requires c = unfinished_if_own c.self.inside.table c.args.tx.0 (own_if_active c.self.inside.table c.args.tx.0 (active_if_put c.self.inside.table (done_in c.self.inside.works c.args.tx.0) c.args.tx.0 c.args.row (sym c.not_put.ensures ∙ c.in_default.is)))
 
-pub record_answer-requires-clause-limits : goal.record_answer-requires-clause-limits
-record_answer-requires-clause-limits c =
-    let f = c.self.inside in
-    let i = c.self.invariant.stands in
-    let old : CoreData = core_data f in
-    insert_may_follow (readers_of i.whole) i.opening i.own i.whole.core old i.stands.core c.args.tx c.args.row (stage_none (readers_of i.whole) i.opening i.own i.whole.core old i.stands.core c.args.tx.0 (put_not_reading f.table (done_in f.works c.args.tx.0) c.args.tx.0 c.args.row (sym c.not_put.ensures ∙ c.in_default.is))) (sym c.not_put.ensures ∙ c.in_default.is) Exists
-
-pub insert_row-requires-clause-there : goal.insert_row-requires-clause-there
-insert_row-requires-clause-there c = own_if_active c.self.inside.table c.args.tx.0 (active_if_put c.self.inside.table (done_in c.self.inside.works c.args.tx.0) c.args.tx.0 c.args.row (sym c.not_put.ensures ∙ c.in_default.is))
-
-pub insert_row-requires-clause-limits : goal.insert_row-requires-clause-limits
-insert_row-requires-clause-limits c =
-    let f = c.self.inside in
-    let i = c.self.invariant.stands in
-    let old : CoreData = core_data f in
-    insert_may_follow (readers_of i.whole) i.opening i.own i.whole.core old i.stands.core c.args.tx c.args.row (stage_none (readers_of i.whole) i.opening i.own i.whole.core old i.stands.core c.args.tx.0 (put_not_reading f.table (done_in f.works c.args.tx.0) c.args.tx.0 c.args.row (sym c.not_put.ensures ∙ c.in_default.is))) (sym c.not_put.ensures ∙ c.in_default.is) Inserted
+pub insert_row-requires : goal.insert_row-requires
+insert_row-requires c = own_if_active c.self.inside.table c.args.tx.0 (active_if_put c.self.inside.table (done_in c.self.inside.works c.args.tx.0) c.args.tx.0 c.args.row (sym c.not_put.ensures ∙ c.in_default.is))
 
 pub returns-in-Some-clause-step : goal.returns-in-Some-clause-step
 returns-in-Some-clause-step c = λ opening steps s h.
@@ -126,8 +110,8 @@ tell-requires-2 c =
     let g : StandsWhole i.opening i.steps i.own i.whole now = whole_same_works i.opening i.steps i.own i.whole old i.stands c.prepare_insert.new.works c.prepare_insert.ensures.same in
     insert_may_be_told (readers_of i.whole) i.opening i.own i.whole.core now g.core c.args.tx c.args.row (stage_none (readers_of i.whole) i.opening i.own i.whole.core now g.core c.args.tx.0 (put_not_reading f.table (done_in f.works c.args.tx.0) c.args.tx.0 c.args.row (sym c.not_put.ensures ∙ c.in_default.is))) (ap (λ (z : WorkContent). why_not_put c.self.inside.table z.history c.args.tx.0 c.args.row) (c.prepare_insert.ensures.same c.args.tx.0) ∙ sym c.not_put.ensures ∙ c.in_default.is) _ c.in_ok-next.next c.in_ok-next.ensures.next
 
-pub invariant_of-self-in_err-record_answer : goal.invariant_of-self-in_err-record_answer
-invariant_of-self-in_err-record_answer c =
+pub invariant_of-self-in_err-depend : goal.invariant_of-self-in_err-depend
+invariant_of-self-in_err-depend c =
     let f = c.self.inside in
     let i = c.self.invariant.stands in
     let old : CoreData = core_data f in
@@ -135,20 +119,20 @@ invariant_of-self-in_err-record_answer c =
     let g : StandsWhole i.opening i.steps i.own i.whole now = whole_same_works i.opening i.steps i.own i.whole old i.stands c.prepare_insert.new.works c.prepare_insert.ensures.same in
     record {
       stands =
-          whole_stands_on i (CoreCall (Do c.args.tx.0 (Insert c.args.row))) (Refused OutOfMemory) (record now { table = c.record_answer.new.table })
+          whole_stands_on i (CoreCall (Do c.args.tx.0 (Insert c.args.row))) (Refused OutOfMemory) (record now { table = c.depend.new.table })
           (let other = stage_none (readers_of i.whole) i.opening i.own i.whole.core now g.core c.args.tx.0 (put_not_reading f.table (done_in f.works c.args.tx.0) c.args.tx.0 c.args.row (sym c.not_put.ensures ∙ c.in_default.is)) in
           (others_lead i.opening i.steps i.own i.whole (Do c.args.tx.0 (Insert c.args.row)) _ now _ g other tt
-          (insert_spent (readers_of i.whole) i.opening i.own i.whole.core now g.core c.args.tx c.args.row other (ap (λ (z : WorkContent). why_not_put c.self.inside.table z.history c.args.tx.0 c.args.row) (c.prepare_insert.ensures.same c.args.tx.0) ∙ sym c.not_put.ensures ∙ c.in_default.is) c.record_answer.new.table c.in_err-record_answer.ensures.err)));
-      waiting = waits_alike f.table c.record_answer.new.table f.versions.slots f.waiting (alike_written f.table c.record_answer.new.table c.args.tx.0 HasDoneAsMuch c.in_err-record_answer.ensures.err) c.self.invariant.waiting;
+          (insert_spent (readers_of i.whole) i.opening i.own i.whole.core now g.core c.args.tx c.args.row other (ap (λ (z : WorkContent). why_not_put c.self.inside.table z.history c.args.tx.0 c.args.row) (c.prepare_insert.ensures.same c.args.tx.0) ∙ sym c.not_put.ensures ∙ c.in_default.is) c.depend.new.table c.in_err-depend.ensures.err)));
+      waiting = waits_alike f.table c.depend.new.table f.versions.slots f.waiting (alike_same f.table c.depend.new.table c.in_err-depend.ensures.err) c.self.invariant.waiting;
     }
 
-pub returns-in_err-record_answer-clause-step : goal.returns-in_err-record_answer-clause-step
-returns-in_err-record_answer-clause-step c = λ opening steps s h.
+pub returns-in_err-depend-clause-step : goal.returns-in_err-depend-clause-step
+returns-in_err-depend-clause-step c = λ opening steps s h.
     let f = c.self.inside in
     let old : CoreData = core_data f in
     let now : CoreData = record old { works = c.prepare_insert.new.works } in
-    subst (λ r. LeadsOn opening steps s (Do c.args.tx.0 (Insert c.args.row)) r (record now { table = c.record_answer.new.table })) (came_spent c.from_residual-in_err-record_answer.result c.from_residual-in_err-record_answer.ensures.1)
-    (insert_spent no_readers opening steps s now (stands_same_works no_readers opening steps s old (subst (StandsFor opening steps s) (sym c.self.view_is) h) c.prepare_insert.new.works c.prepare_insert.ensures.same) c.args.tx c.args.row refl (ap (λ (z : WorkContent). why_not_put c.self.inside.table z.history c.args.tx.0 c.args.row) (c.prepare_insert.ensures.same c.args.tx.0) ∙ sym c.not_put.ensures ∙ c.in_default.is) c.record_answer.new.table c.in_err-record_answer.ensures.err)
+    subst (λ r. LeadsOn opening steps s (Do c.args.tx.0 (Insert c.args.row)) r (record now { table = c.depend.new.table })) (came_spent c.from_residual-in_err-depend.result c.from_residual-in_err-depend.ensures.1)
+    (insert_spent no_readers opening steps s now (stands_same_works no_readers opening steps s old (subst (StandsFor opening steps s) (sym c.self.view_is) h) c.prepare_insert.new.works c.prepare_insert.ensures.same) c.args.tx c.args.row refl (ap (λ (z : WorkContent). why_not_put c.self.inside.table z.history c.args.tx.0 c.args.row) (c.prepare_insert.ensures.same c.args.tx.0) ∙ sym c.not_put.ensures ∙ c.in_default.is) c.depend.new.table c.in_err-depend.ensures.err)
 
 pub invariant_of-self-then-is_some : goal.invariant_of-self-then-is_some
 invariant_of-self-then-is_some c =
@@ -160,14 +144,14 @@ invariant_of-self-then-is_some c =
     let is = subst (λ k. AreVersionsInOrder (state_of f.table) c.args.tx.0 c.args.tx.0 (versions_at f.versions.slots f.versions.lists k) → c.shown-found.result ≡ shown_in now c.args.tx.0 k) c.row_key-key.ensures c.shown-found.ensures in
     record {
       stands =
-          whole_stands_on i (CoreCall (Do c.args.tx.0 (Insert c.args.row))) Accepted (record now { table = c.record_answer.new.table; works = c.tell.new.self })
+          whole_stands_on i (CoreCall (Do c.args.tx.0 (Insert c.args.row))) Accepted (record now { table = c.depend.new.table; works = c.tell.new.self })
           (let other = stage_none (readers_of i.whole) i.opening i.own i.whole.core now g.core c.args.tx.0 (put_not_reading f.table (done_in f.works c.args.tx.0) c.args.tx.0 c.args.row (sym c.not_put.ensures ∙ c.in_default.is)) in
           let is = subst (λ k. AreVersionsInOrder (state_of f.table) c.args.tx.0 c.args.tx.0 (versions_at f.versions.slots f.versions.lists k) → c.shown-found.result ≡ shown_in now c.args.tx.0 k) c.row_key-key.ensures c.shown-found.ensures in
           others_lead i.opening i.steps i.own i.whole (Do c.args.tx.0 (Insert c.args.row)) _ now _ g other tt
           (exists_leads (readers_of i.whole) i.opening i.own i.whole.core now g.core c.args.tx c.args.row other (ap (λ (z : WorkContent). why_not_put c.self.inside.table z.history c.args.tx.0 c.args.row) (c.prepare_insert.ensures.same c.args.tx.0) ∙ sym c.not_put.ensures ∙ c.in_default.is) c.shown-found.result is (sym c.is_some.ensures ∙ c.if-is_some.true)
-          c.record_answer.new.table c.in_ok-record_answer.ensures.ok c.tell.new.self
+          c.depend.new.table c.in_ok-depend.ensures.ok c.tell.new.self
           (record { next = c.in_ok-next.next; prepared = c.in_ok-next.ensures.next; told = c.tell.ensures.told })));
-      waiting = waits_alike f.table c.record_answer.new.table f.versions.slots f.waiting (alike_recorded f.table c.record_answer.new.table c.args.tx _ _ _ c.in_ok-record_answer.ensures.ok) c.self.invariant.waiting;
+      waiting = waits_alike f.table c.depend.new.table f.versions.slots f.waiting (alike_depending f.table c.depend.new.table c.args.tx (option_to_list c.shown-found.result.depends_on) c.in_ok-depend.ensures.ok) c.self.invariant.waiting;
     }
 
 pub returns-then-is_some-clause-step : goal.returns-then-is_some-clause-step
@@ -177,7 +161,7 @@ returns-then-is_some-clause-step c = λ opening steps s h.
     let now : CoreData = record old { works = c.prepare_insert.new.works } in
     let is = subst (λ k. AreVersionsInOrder (state_of f.table) c.args.tx.0 c.args.tx.0 (versions_at f.versions.slots f.versions.lists k) → c.shown-found.result ≡ shown_in now c.args.tx.0 k) c.row_key-key.ensures c.shown-found.ensures in
     exists_leads no_readers opening steps s now (stands_same_works no_readers opening steps s old (subst (StandsFor opening steps s) (sym c.self.view_is) h) c.prepare_insert.new.works c.prepare_insert.ensures.same) c.args.tx c.args.row refl (ap (λ (z : WorkContent). why_not_put c.self.inside.table z.history c.args.tx.0 c.args.row) (c.prepare_insert.ensures.same c.args.tx.0) ∙ sym c.not_put.ensures ∙ c.in_default.is) c.shown-found.result is (sym c.is_some.ensures ∙ c.if-is_some.true)
-    c.record_answer.new.table c.in_ok-record_answer.ensures.ok c.tell.new.self
+    c.depend.new.table c.in_ok-depend.ensures.ok c.tell.new.self
     (record { next = c.in_ok-next.next; prepared = c.in_ok-next.ensures.next; told = c.tell.ensures.told })
 
 pub returns-then-is_some-clause-answer : goal.returns-then-is_some-clause-answer
@@ -287,16 +271,16 @@ returns-in-Some-clause-whole c = λ opening steps own w h.
     c.args.row
     (ap (λ (x : CoreData). why_not_put x.table (done_in x.works c.args.tx.0) c.args.tx.0 c.args.row) (sym c.self.view_is) ∙ sym c.not_put.ensures ∙ c.in-Some.is))
 
-pub returns-in_err-record_answer-clause-whole : goal.returns-in_err-record_answer-clause-whole
-returns-in_err-record_answer-clause-whole c = λ opening steps own w h.
+pub returns-in_err-depend-clause-whole : goal.returns-in_err-depend-clause-whole
+returns-in_err-depend-clause-whole c = λ opening steps own w h.
     let f = c.self.inside in
     let old : CoreData = core_data f in
     let now : CoreData = record old { works = c.prepare_insert.new.works } in
     let g : StandsWhole opening steps own w now = whole_same_works opening steps own w old (subst (StandsWhole opening steps own w) (sym c.self.view_is) h) c.prepare_insert.new.works c.prepare_insert.ensures.same in
     let other = stage_none (readers_of w) opening own w.core now g.core c.args.tx.0 (put_not_reading f.table (done_in f.works c.args.tx.0) c.args.tx.0 c.args.row (sym c.not_put.ensures ∙ c.in_default.is)) in
-    subst (λ r. LeadsWhole opening steps own w (CoreCall (Do c.args.tx.0 (Insert c.args.row))) r (record now { table = c.record_answer.new.table })) (came_spent c.from_residual-in_err-record_answer.result c.from_residual-in_err-record_answer.ensures.1)
+    subst (λ r. LeadsWhole opening steps own w (CoreCall (Do c.args.tx.0 (Insert c.args.row))) r (record now { table = c.depend.new.table })) (came_spent c.from_residual-in_err-depend.result c.from_residual-in_err-depend.ensures.1)
     (others_lead opening steps own w (Do c.args.tx.0 (Insert c.args.row)) _ now _ g other tt
-    (insert_spent (readers_of w) opening own w.core now g.core c.args.tx c.args.row other (ap (λ (z : WorkContent). why_not_put c.self.inside.table z.history c.args.tx.0 c.args.row) (c.prepare_insert.ensures.same c.args.tx.0) ∙ sym c.not_put.ensures ∙ c.in_default.is) c.record_answer.new.table c.in_err-record_answer.ensures.err))
+    (insert_spent (readers_of w) opening own w.core now g.core c.args.tx c.args.row other (ap (λ (z : WorkContent). why_not_put c.self.inside.table z.history c.args.tx.0 c.args.row) (c.prepare_insert.ensures.same c.args.tx.0) ∙ sym c.not_put.ensures ∙ c.in_default.is) c.depend.new.table c.in_err-depend.ensures.err))
 
 pub returns-then-is_some-clause-whole : goal.returns-then-is_some-clause-whole
 returns-then-is_some-clause-whole c = λ opening steps own w h.
@@ -308,7 +292,7 @@ returns-then-is_some-clause-whole c = λ opening steps own w h.
     let is = subst (λ k. AreVersionsInOrder (state_of f.table) c.args.tx.0 c.args.tx.0 (versions_at f.versions.slots f.versions.lists k) → c.shown-found.result ≡ shown_in now c.args.tx.0 k) c.row_key-key.ensures c.shown-found.ensures in
     others_lead opening steps own w (Do c.args.tx.0 (Insert c.args.row)) _ now _ g other tt
     (exists_leads (readers_of w) opening own w.core now g.core c.args.tx c.args.row other (ap (λ (z : WorkContent). why_not_put c.self.inside.table z.history c.args.tx.0 c.args.row) (c.prepare_insert.ensures.same c.args.tx.0) ∙ sym c.not_put.ensures ∙ c.in_default.is) c.shown-found.result is (sym c.is_some.ensures ∙ c.if-is_some.true)
-    c.record_answer.new.table c.in_ok-record_answer.ensures.ok c.tell.new.self
+    c.depend.new.table c.in_ok-depend.ensures.ok c.tell.new.self
     (record { next = c.in_ok-next.next; prepared = c.in_ok-next.ensures.next; told = c.tell.ensures.told }))
 
 pub returns-then-is_some-clause-whole_answer : goal.returns-then-is_some-clause-whole_answer

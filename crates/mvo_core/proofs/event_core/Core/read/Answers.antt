@@ -1,4 +1,5 @@
 use Rattle.std.proofs.Common.{sym, ap, ◌∙◌, subst, refl}
+use Rattle.std.specs.Option.{option_to_list}
 use Rattle.mvo_types.specs.declared.op.Op.TheVariants.{Read}
 use Rattle.mvo_types.specs.declared.refusal.Refusal.TheVariants.{OutOfMemory}
 use Rattle.mvo_types.specs.AnswerData.{answer_data}
@@ -14,18 +15,15 @@ use Rattle.mvo_core.specs.View.{core_data}
 use Rattle.mvo_core.specs.Standing.{StandsFor}
 use Rattle.mvo_core.specs.Steps.{LeadsOn}
 use Rattle.mvo_core.proofs.WholeStands.{whole_stands_on}
-use Rattle.mvo_types.specs.AnswerData.AnswerData.{Found}
-use Rattle.mvo_core.proofs.Asked.{own_if_active, active_if_looked, may_look_failing}
+use Rattle.mvo_core.proofs.Asked.{own_if_active, unfinished_if_own, active_if_looked, may_look_failing}
 use Rattle.mvo_core.proofs.Refused.{came_spent}
 use Rattle.mvo_core.proofs.WorksHeld.{stands_same_works, whole_same_works}
-use Rattle.mvo_core.proofs.Reading.{read_refused, read_spent, read_spent_roomy, read_answers, read_leads, read_may_be_told, read_fits, read_may_follow}
-use Rattle.mvo_core.specs.Keeping.{HasDoneAsMuch}
-use Rattle.mvo_core.proofs.Waits.{waits_alike, alike_written, alike_recorded}
+use Rattle.mvo_core.proofs.Reading.{read_refused, read_spent, read_spent_roomy, read_answers, read_leads, read_may_be_told, read_fits}
+use Rattle.mvo_core.proofs.Waits.{waits_alike, alike_depending, alike_same}
 use Rattle.mvo_core.specs.WholeStanding.{readers_of, StandsWhole, LeadsWhole}
 use Rattle.mvo_readonly.specs.WholeCauses.WholeCall.{CoreCall}
 use Rattle.mvo_core.proofs.WholeReads.{look_refused, may_look_whole, look_leads, look_spent}
 use Rattle.mvo_core.proofs.CausesTold.{MayLook}
-use Rattle.mvo_core.specs.Steps.{came}
 use Rattle.mvo_core.proofs.event_core.Core.read.Goals as goal
 
 pub give_up-requires : goal.give_up-requires
@@ -33,15 +31,8 @@ give_up-requires c =
     may_look_failing c.args.self.now.table (done_in c.args.self.now.works c.args.tx.0) c.args.tx.0 c.args.key.table (Key c.args.key) c.in-Some.refusal
     (ap (λ (x : CoreData). why_not_look x.table (done_in x.works c.args.tx.0) c.args.tx.0 c.args.key.table (Key c.args.key)) (sym c.self.view_is) ∙ sym c.not_looked.ensures ∙ c.in-Some.is)
 
-pub record_answer-requires-clause-there : goal.record_answer-requires-clause-there
-record_answer-requires-clause-there c = own_if_active c.self.inside.table c.args.tx.0 (active_if_looked c.self.inside.table (done_in c.self.inside.works c.args.tx.0) c.args.tx.0 c.args.key.table (Key c.args.key) (sym c.not_looked.ensures ∙ c.in_default.is))
-
-pub record_answer-requires-clause-limits : goal.record_answer-requires-clause-limits
-record_answer-requires-clause-limits c =
-    let f = c.self.inside in
-    let i = c.self.invariant.stands in
-    let old : CoreData = core_data f in
-    read_may_follow (readers_of i.whole) i.opening i.own i.whole.core old i.stands.core c.args.tx c.args.key (may_look_whole i.opening i.steps i.own i.whole old i.stands c.args.tx.0 (Read c.args.key) c.args.key.table (Key c.args.key) refl (sym c.not_looked.ensures ∙ c.in_default.is)) (sym c.not_looked.ensures ∙ c.in_default.is) (Found c.in_ok-row.row)
+pub depend-requires : goal.depend-requires
+depend-requires c = unfinished_if_own c.self.inside.table c.args.tx.0 (own_if_active c.self.inside.table c.args.tx.0 (active_if_looked c.self.inside.table (done_in c.self.inside.works c.args.tx.0) c.args.tx.0 c.args.key.table (Key c.args.key) (sym c.not_looked.ensures ∙ c.in_default.is)))
 
 pub returns-in-Some-clause-step : goal.returns-in-Some-clause-step
 returns-in-Some-clause-step c = λ opening steps s h.
@@ -50,19 +41,13 @@ returns-in-Some-clause-step c = λ opening steps s h.
     (ap (λ (x : CoreData). why_not_look x.table (done_in x.works c.args.tx.0) c.args.tx.0 c.args.key.table (Key c.args.key)) (sym c.self.view_is) ∙ sym c.not_looked.ensures ∙ c.in-Some.is) c.give_up.new.self
     (c.give_up.ensures.left no_readers opening steps s refl h))
 
-pub returns-in_err-row-clause-step : goal.returns-in_err-row-clause-step
-returns-in_err-row-clause-step c = λ opening steps s h.
-    subst (λ r. LeadsOn opening steps s (Do c.args.tx.0 (Read c.args.key)) r c.args.self.now) (came_spent c.from_residual.result c.from_residual.ensures.1)
-    (read_spent no_readers opening steps s c.args.self.now h c.args.tx c.args.key tt
-    (ap (λ (x : CoreData). why_not_look x.table (done_in x.works c.args.tx.0) c.args.tx.0 c.args.key.table (Key c.args.key)) (sym c.self.view_is) ∙ sym c.not_looked.ensures ∙ c.in_default.is))
-
 pub prepare-requires : goal.prepare-requires
 prepare-requires c =
     let f = c.self.inside in
     let i = c.self.invariant.stands in
     let old : CoreData = core_data f in
     let looks = may_look_whole i.opening i.steps i.own i.whole old i.stands c.args.tx.0 (Read c.args.key) c.args.key.table (Key c.args.key) refl (sym c.not_looked.ensures ∙ c.in_default.is) in
-    read_fits (readers_of i.whole) i.opening i.own i.whole.core old i.stands.core c.args.tx c.args.key looks (sym c.not_looked.ensures ∙ c.in_default.is) c.shown-found.result c.shown-found.ensures
+    read_fits (readers_of i.whole) i.opening i.own i.whole.core old i.stands.core c.args.tx c.args.key looks (sym c.not_looked.ensures ∙ c.in_default.is) c.shown-seen.result c.shown-seen.ensures
 
 pub invariant_of-self : goal.invariant_of-self
 invariant_of-self c =
@@ -85,7 +70,7 @@ returns-in_err-next-clause-step c = λ opening steps s h.
     let f = c.self.inside in
     let old : CoreData = core_data f in
     let now : CoreData = record old { works = c.prepare.new.works } in
-    subst (λ r. LeadsOn opening steps s (Do c.args.tx.0 (Read c.args.key)) r now) (came_spent c.from_residual-in_err-next.result c.from_residual-in_err-next.ensures.1)
+    subst (λ r. LeadsOn opening steps s (Do c.args.tx.0 (Read c.args.key)) r now) (came_spent c.from_residual.result c.from_residual.ensures.1)
     (read_spent no_readers opening steps s now (stands_same_works no_readers opening steps s old (subst (StandsFor opening steps s) (sym c.self.view_is) h) c.prepare.new.works c.prepare.ensures.same) c.args.tx c.args.key tt (ap (λ (z : WorkContent). why_not_look c.self.inside.table z.history c.args.tx.0 c.args.key.table (Key c.args.key)) (c.prepare.ensures.same c.args.tx.0) ∙ sym c.not_looked.ensures ∙ c.in_default.is))
 
 pub returns-in_err-next-clause-whole : goal.returns-in_err-next-clause-whole
@@ -95,7 +80,7 @@ returns-in_err-next-clause-whole c = λ opening steps own w h.
     let now : CoreData = record old { works = c.prepare.new.works } in
     let g : StandsWhole opening steps own w now = whole_same_works opening steps own w old (subst (StandsWhole opening steps own w) (sym c.self.view_is) h) c.prepare.new.works c.prepare.ensures.same in
     let looks = may_look_whole opening steps own w now g c.args.tx.0 (Read c.args.key) c.args.key.table (Key c.args.key) refl (ap (λ (z : WorkContent). why_not_look c.self.inside.table z.history c.args.tx.0 c.args.key.table (Key c.args.key)) (c.prepare.ensures.same c.args.tx.0) ∙ sym c.not_looked.ensures ∙ c.in_default.is) in
-    subst (λ r. LeadsWhole opening steps own w (CoreCall (Do c.args.tx.0 (Read c.args.key))) r now) (came_spent c.from_residual-in_err-next.result c.from_residual-in_err-next.ensures.1)
+    subst (λ r. LeadsWhole opening steps own w (CoreCall (Do c.args.tx.0 (Read c.args.key))) r now) (came_spent c.from_residual.result c.from_residual.ensures.1)
     (look_spent opening steps own w now g c.args.tx.0 (Read c.args.key) c.args.key.table (Key c.args.key) refl (ap (λ (z : WorkContent). why_not_look c.self.inside.table z.history c.args.tx.0 c.args.key.table (Key c.args.key)) (c.prepare.ensures.same c.args.tx.0) ∙ sym c.not_looked.ensures ∙ c.in_default.is) _
     (read_spent (readers_of w) opening own w.core now g.core c.args.tx c.args.key looks (ap (λ (z : WorkContent). why_not_look c.self.inside.table z.history c.args.tx.0 c.args.key.table (Key c.args.key)) (c.prepare.ensures.same c.args.tx.0) ∙ sym c.not_looked.ensures ∙ c.in_default.is)))
 
@@ -109,8 +94,8 @@ tell-requires c =
     let looks = may_look_whole i.opening i.steps i.own i.whole now g c.args.tx.0 (Read c.args.key) c.args.key.table (Key c.args.key) refl (ap (λ (z : WorkContent). why_not_look c.self.inside.table z.history c.args.tx.0 c.args.key.table (Key c.args.key)) (c.prepare.ensures.same c.args.tx.0) ∙ sym c.not_looked.ensures ∙ c.in_default.is) in
     read_may_be_told (readers_of i.whole) i.opening i.own i.whole.core now g.core c.args.tx c.args.key looks (ap (λ (z : WorkContent). why_not_look c.self.inside.table z.history c.args.tx.0 c.args.key.table (Key c.args.key)) (c.prepare.ensures.same c.args.tx.0) ∙ sym c.not_looked.ensures ∙ c.in_default.is) _ c.in_ok-next.next c.in_ok-next.ensures.next
 
-pub invariant_of-self-in_err-record_answer : goal.invariant_of-self-in_err-record_answer
-invariant_of-self-in_err-record_answer c =
+pub invariant_of-self-in_err-depend : goal.invariant_of-self-in_err-depend
+invariant_of-self-in_err-depend c =
     let f = c.self.inside in
     let i = c.self.invariant.stands in
     let old : CoreData = core_data f in
@@ -118,20 +103,20 @@ invariant_of-self-in_err-record_answer c =
     let g : StandsWhole i.opening i.steps i.own i.whole now = whole_same_works i.opening i.steps i.own i.whole old i.stands c.prepare.new.works c.prepare.ensures.same in
     record {
       stands =
-          whole_stands_on i (CoreCall (Do c.args.tx.0 (Read c.args.key))) (Refused OutOfMemory) (record now { table = c.record_answer.new.table })
+          whole_stands_on i (CoreCall (Do c.args.tx.0 (Read c.args.key))) (Refused OutOfMemory) (record now { table = c.depend.new.table })
           (let looks = may_look_whole i.opening i.steps i.own i.whole now g c.args.tx.0 (Read c.args.key) c.args.key.table (Key c.args.key) refl (ap (λ (z : WorkContent). why_not_look c.self.inside.table z.history c.args.tx.0 c.args.key.table (Key c.args.key)) (c.prepare.ensures.same c.args.tx.0) ∙ sym c.not_looked.ensures ∙ c.in_default.is) in
           (look_spent i.opening i.steps i.own i.whole now g c.args.tx.0 (Read c.args.key) c.args.key.table (Key c.args.key) refl (ap (λ (z : WorkContent). why_not_look c.self.inside.table z.history c.args.tx.0 c.args.key.table (Key c.args.key)) (c.prepare.ensures.same c.args.tx.0) ∙ sym c.not_looked.ensures ∙ c.in_default.is) _
-          (read_spent_roomy (readers_of i.whole) i.opening i.own i.whole.core now g.core c.args.tx c.args.key looks (ap (λ (z : WorkContent). why_not_look c.self.inside.table z.history c.args.tx.0 c.args.key.table (Key c.args.key)) (c.prepare.ensures.same c.args.tx.0) ∙ sym c.not_looked.ensures ∙ c.in_default.is) c.record_answer.new.table c.in_err-record_answer.ensures.err)));
-      waiting = waits_alike f.table c.record_answer.new.table f.versions.slots f.waiting (alike_written f.table c.record_answer.new.table c.args.tx.0 HasDoneAsMuch c.in_err-record_answer.ensures.err) c.self.invariant.waiting;
+          (read_spent_roomy (readers_of i.whole) i.opening i.own i.whole.core now g.core c.args.tx c.args.key looks (ap (λ (z : WorkContent). why_not_look c.self.inside.table z.history c.args.tx.0 c.args.key.table (Key c.args.key)) (c.prepare.ensures.same c.args.tx.0) ∙ sym c.not_looked.ensures ∙ c.in_default.is) c.depend.new.table c.in_err-depend.ensures.err)));
+      waiting = waits_alike f.table c.depend.new.table f.versions.slots f.waiting (alike_same f.table c.depend.new.table c.in_err-depend.ensures.err) c.self.invariant.waiting;
     }
 
-pub returns-in_err-record_answer-clause-step : goal.returns-in_err-record_answer-clause-step
-returns-in_err-record_answer-clause-step c = λ opening steps s h.
+pub returns-in_err-depend-clause-step : goal.returns-in_err-depend-clause-step
+returns-in_err-depend-clause-step c = λ opening steps s h.
     let f = c.self.inside in
     let old : CoreData = core_data f in
     let now : CoreData = record old { works = c.prepare.new.works } in
-    subst (λ r. LeadsOn opening steps s (Do c.args.tx.0 (Read c.args.key)) r (record now { table = c.record_answer.new.table })) (came_spent c.from_residual-in_err-record_answer.result c.from_residual-in_err-record_answer.ensures.1)
-    (read_spent_roomy no_readers opening steps s now (stands_same_works no_readers opening steps s old (subst (StandsFor opening steps s) (sym c.self.view_is) h) c.prepare.new.works c.prepare.ensures.same) c.args.tx c.args.key tt (ap (λ (z : WorkContent). why_not_look c.self.inside.table z.history c.args.tx.0 c.args.key.table (Key c.args.key)) (c.prepare.ensures.same c.args.tx.0) ∙ sym c.not_looked.ensures ∙ c.in_default.is) c.record_answer.new.table c.in_err-record_answer.ensures.err)
+    subst (λ r. LeadsOn opening steps s (Do c.args.tx.0 (Read c.args.key)) r (record now { table = c.depend.new.table })) (came_spent c.from_residual-in_err-depend.result c.from_residual-in_err-depend.ensures.1)
+    (read_spent_roomy no_readers opening steps s now (stands_same_works no_readers opening steps s old (subst (StandsFor opening steps s) (sym c.self.view_is) h) c.prepare.new.works c.prepare.ensures.same) c.args.tx c.args.key tt (ap (λ (z : WorkContent). why_not_look c.self.inside.table z.history c.args.tx.0 c.args.key.table (Key c.args.key)) (c.prepare.ensures.same c.args.tx.0) ∙ sym c.not_looked.ensures ∙ c.in_default.is) c.depend.new.table c.in_err-depend.ensures.err)
 
 pub invariant_of-self-2 : goal.invariant_of-self-2
 invariant_of-self-2 c =
@@ -142,13 +127,13 @@ invariant_of-self-2 c =
     let g : StandsWhole i.opening i.steps i.own i.whole now = whole_same_works i.opening i.steps i.own i.whole old i.stands c.prepare.new.works c.prepare.ensures.same in
     record {
       stands =
-          whole_stands_on i (CoreCall (Do c.args.tx.0 (Read c.args.key))) Accepted (record now { table = c.record_answer.new.table; works = c.tell.new.self })
+          whole_stands_on i (CoreCall (Do c.args.tx.0 (Read c.args.key))) Accepted (record now { table = c.depend.new.table; works = c.tell.new.self })
           (let looks = may_look_whole i.opening i.steps i.own i.whole now g c.args.tx.0 (Read c.args.key) c.args.key.table (Key c.args.key) refl (ap (λ (z : WorkContent). why_not_look c.self.inside.table z.history c.args.tx.0 c.args.key.table (Key c.args.key)) (c.prepare.ensures.same c.args.tx.0) ∙ sym c.not_looked.ensures ∙ c.in_default.is) in
           look_leads i.opening i.steps i.own i.whole now g c.args.tx.0 (Read c.args.key) c.args.key.table (Key c.args.key) refl (ap (λ (z : WorkContent). why_not_look c.self.inside.table z.history c.args.tx.0 c.args.key.table (Key c.args.key)) (c.prepare.ensures.same c.args.tx.0) ∙ sym c.not_looked.ensures ∙ c.in_default.is) _
-          (read_leads (readers_of i.whole) i.opening i.own i.whole.core now g.core c.args.tx c.args.key looks (ap (λ (z : WorkContent). why_not_look c.self.inside.table z.history c.args.tx.0 c.args.key.table (Key c.args.key)) (c.prepare.ensures.same c.args.tx.0) ∙ sym c.not_looked.ensures ∙ c.in_default.is) c.shown-found.result c.shown-found.ensures c.in_ok-row.row
-          c.in_ok-row.ensures c.record_answer.new.table c.in_ok-record_answer.ensures.ok c.tell.new.self
+          (read_leads (readers_of i.whole) i.opening i.own i.whole.core now g.core c.args.tx c.args.key looks (ap (λ (z : WorkContent). why_not_look c.self.inside.table z.history c.args.tx.0 c.args.key.table (Key c.args.key)) (c.prepare.ensures.same c.args.tx.0) ∙ sym c.not_looked.ensures ∙ c.in_default.is) c.shown-seen.result c.shown-seen.ensures
+          c.depend.new.table c.in_ok-depend.ensures.ok c.tell.new.self
           (record { next = c.in_ok-next.next; prepared = c.in_ok-next.ensures.next; told = c.tell.ensures.told })));
-      waiting = waits_alike f.table c.record_answer.new.table f.versions.slots f.waiting (alike_recorded f.table c.record_answer.new.table c.args.tx _ _ _ c.in_ok-record_answer.ensures.ok) c.self.invariant.waiting;
+      waiting = waits_alike f.table c.depend.new.table f.versions.slots f.waiting (alike_depending f.table c.depend.new.table c.args.tx (option_to_list c.shown-seen.result.depends_on) c.in_ok-depend.ensures.ok) c.self.invariant.waiting;
     }
 
 pub returns-clause-step : goal.returns-clause-step
@@ -156,8 +141,8 @@ returns-clause-step c = λ opening steps s h.
     let f = c.self.inside in
     let old : CoreData = core_data f in
     let now : CoreData = record old { works = c.prepare.new.works } in
-    read_leads no_readers opening steps s now (stands_same_works no_readers opening steps s old (subst (StandsFor opening steps s) (sym c.self.view_is) h) c.prepare.new.works c.prepare.ensures.same) c.args.tx c.args.key tt (ap (λ (z : WorkContent). why_not_look c.self.inside.table z.history c.args.tx.0 c.args.key.table (Key c.args.key)) (c.prepare.ensures.same c.args.tx.0) ∙ sym c.not_looked.ensures ∙ c.in_default.is) c.shown-found.result c.shown-found.ensures c.in_ok-row.row
-    c.in_ok-row.ensures c.record_answer.new.table c.in_ok-record_answer.ensures.ok c.tell.new.self
+    read_leads no_readers opening steps s now (stands_same_works no_readers opening steps s old (subst (StandsFor opening steps s) (sym c.self.view_is) h) c.prepare.new.works c.prepare.ensures.same) c.args.tx c.args.key tt (ap (λ (z : WorkContent). why_not_look c.self.inside.table z.history c.args.tx.0 c.args.key.table (Key c.args.key)) (c.prepare.ensures.same c.args.tx.0) ∙ sym c.not_looked.ensures ∙ c.in_default.is) c.shown-seen.result c.shown-seen.ensures
+    c.depend.new.table c.in_ok-depend.ensures.ok c.tell.new.self
     (record { next = c.in_ok-next.next; prepared = c.in_ok-next.ensures.next; told = c.tell.ensures.told })
 
 pub returns-clause-answer : goal.returns-clause-answer
@@ -165,7 +150,7 @@ returns-clause-answer c = λ opening steps s h.
     let f = c.self.inside in
     let old : CoreData = core_data f in
     let now : CoreData = record old { works = c.prepare.new.works } in
-    read_answers no_readers opening steps s now (stands_same_works no_readers opening steps s old (subst (StandsFor opening steps s) (sym c.self.view_is) h) c.prepare.new.works c.prepare.ensures.same) c.args.tx c.args.key tt (ap (λ (z : WorkContent). why_not_look c.self.inside.table z.history c.args.tx.0 c.args.key.table (Key c.args.key)) (c.prepare.ensures.same c.args.tx.0) ∙ sym c.not_looked.ensures ∙ c.in_default.is) c.shown-found.result c.shown-found.ensures c.in_ok-next.next c.in_ok-next.ensures.next (answer_data c.tell.result) c.tell.ensures.answer
+    read_answers no_readers opening steps s now (stands_same_works no_readers opening steps s old (subst (StandsFor opening steps s) (sym c.self.view_is) h) c.prepare.new.works c.prepare.ensures.same) c.args.tx c.args.key tt (ap (λ (z : WorkContent). why_not_look c.self.inside.table z.history c.args.tx.0 c.args.key.table (Key c.args.key)) (c.prepare.ensures.same c.args.tx.0) ∙ sym c.not_looked.ensures ∙ c.in_default.is) c.shown-seen.result c.shown-seen.ensures c.in_ok-next.next c.in_ok-next.ensures.next (answer_data c.tell.result) c.tell.ensures.answer
 
 -- ---- beside read-only ones
 pub returns-in-Some-clause-whole : goal.returns-in-Some-clause-whole
@@ -177,28 +162,16 @@ returns-in-Some-clause-whole c = λ opening steps own w h.
     (ap (λ (x : CoreData). why_not_look x.table (done_in x.works c.args.tx.0) c.args.tx.0 c.args.key.table (Key c.args.key)) (sym c.self.view_is) ∙ sym c.not_looked.ensures ∙ c.in-Some.is) c.give_up.new.self
     (c.give_up.ensures.left (readers_of w) opening own w.core other h.core)))
 
-pub returns-in_err-row-clause-whole : goal.returns-in_err-row-clause-whole
-returns-in_err-row-clause-whole c = λ opening steps own w h.
-    let f = c.self.inside in
-    let old : CoreData = core_data f in
-    let g : StandsWhole opening steps own w old = subst (StandsWhole opening steps own w) (sym c.self.view_is) h in
-    let looks = may_look_whole opening steps own w old g c.args.tx.0 (Read c.args.key) c.args.key.table (Key c.args.key) refl (sym c.not_looked.ensures ∙ c.in_default.is) in
-    subst (λ (x : CoreData). LeadsWhole opening steps own w (CoreCall (Do c.args.tx.0 (Read c.args.key))) (came c.from_residual.result) x) c.self.view_is (
-    subst (λ r. LeadsWhole opening steps own w (CoreCall (Do c.args.tx.0 (Read c.args.key))) r old) (came_spent c.from_residual.result c.from_residual.ensures.1)
-    (look_spent opening steps own w old g c.args.tx.0 (Read c.args.key) c.args.key.table (Key c.args.key) refl (sym c.not_looked.ensures ∙ c.in_default.is) _
-    (read_spent (readers_of w) opening own w.core old g.core c.args.tx c.args.key looks
-    (sym c.not_looked.ensures ∙ c.in_default.is))))
-
-pub returns-in_err-record_answer-clause-whole : goal.returns-in_err-record_answer-clause-whole
-returns-in_err-record_answer-clause-whole c = λ opening steps own w h.
+pub returns-in_err-depend-clause-whole : goal.returns-in_err-depend-clause-whole
+returns-in_err-depend-clause-whole c = λ opening steps own w h.
     let f = c.self.inside in
     let old : CoreData = core_data f in
     let now : CoreData = record old { works = c.prepare.new.works } in
     let g : StandsWhole opening steps own w now = whole_same_works opening steps own w old (subst (StandsWhole opening steps own w) (sym c.self.view_is) h) c.prepare.new.works c.prepare.ensures.same in
     let looks = may_look_whole opening steps own w now g c.args.tx.0 (Read c.args.key) c.args.key.table (Key c.args.key) refl (ap (λ (z : WorkContent). why_not_look c.self.inside.table z.history c.args.tx.0 c.args.key.table (Key c.args.key)) (c.prepare.ensures.same c.args.tx.0) ∙ sym c.not_looked.ensures ∙ c.in_default.is) in
-    subst (λ r. LeadsWhole opening steps own w (CoreCall (Do c.args.tx.0 (Read c.args.key))) r (record now { table = c.record_answer.new.table })) (came_spent c.from_residual-in_err-record_answer.result c.from_residual-in_err-record_answer.ensures.1)
+    subst (λ r. LeadsWhole opening steps own w (CoreCall (Do c.args.tx.0 (Read c.args.key))) r (record now { table = c.depend.new.table })) (came_spent c.from_residual-in_err-depend.result c.from_residual-in_err-depend.ensures.1)
     (look_spent opening steps own w now g c.args.tx.0 (Read c.args.key) c.args.key.table (Key c.args.key) refl (ap (λ (z : WorkContent). why_not_look c.self.inside.table z.history c.args.tx.0 c.args.key.table (Key c.args.key)) (c.prepare.ensures.same c.args.tx.0) ∙ sym c.not_looked.ensures ∙ c.in_default.is) _
-    (read_spent_roomy (readers_of w) opening own w.core now g.core c.args.tx c.args.key looks (ap (λ (z : WorkContent). why_not_look c.self.inside.table z.history c.args.tx.0 c.args.key.table (Key c.args.key)) (c.prepare.ensures.same c.args.tx.0) ∙ sym c.not_looked.ensures ∙ c.in_default.is) c.record_answer.new.table c.in_err-record_answer.ensures.err))
+    (read_spent_roomy (readers_of w) opening own w.core now g.core c.args.tx c.args.key looks (ap (λ (z : WorkContent). why_not_look c.self.inside.table z.history c.args.tx.0 c.args.key.table (Key c.args.key)) (c.prepare.ensures.same c.args.tx.0) ∙ sym c.not_looked.ensures ∙ c.in_default.is) c.depend.new.table c.in_err-depend.ensures.err))
 
 pub returns-clause-whole : goal.returns-clause-whole
 returns-clause-whole c = λ opening steps own w h.
@@ -208,8 +181,8 @@ returns-clause-whole c = λ opening steps own w h.
     let g : StandsWhole opening steps own w now = whole_same_works opening steps own w old (subst (StandsWhole opening steps own w) (sym c.self.view_is) h) c.prepare.new.works c.prepare.ensures.same in
     let looks = may_look_whole opening steps own w now g c.args.tx.0 (Read c.args.key) c.args.key.table (Key c.args.key) refl (ap (λ (z : WorkContent). why_not_look c.self.inside.table z.history c.args.tx.0 c.args.key.table (Key c.args.key)) (c.prepare.ensures.same c.args.tx.0) ∙ sym c.not_looked.ensures ∙ c.in_default.is) in
     look_leads opening steps own w now g c.args.tx.0 (Read c.args.key) c.args.key.table (Key c.args.key) refl (ap (λ (z : WorkContent). why_not_look c.self.inside.table z.history c.args.tx.0 c.args.key.table (Key c.args.key)) (c.prepare.ensures.same c.args.tx.0) ∙ sym c.not_looked.ensures ∙ c.in_default.is) _
-    (read_leads (readers_of w) opening own w.core now g.core c.args.tx c.args.key looks (ap (λ (z : WorkContent). why_not_look c.self.inside.table z.history c.args.tx.0 c.args.key.table (Key c.args.key)) (c.prepare.ensures.same c.args.tx.0) ∙ sym c.not_looked.ensures ∙ c.in_default.is) c.shown-found.result c.shown-found.ensures c.in_ok-row.row
-    c.in_ok-row.ensures c.record_answer.new.table c.in_ok-record_answer.ensures.ok c.tell.new.self
+    (read_leads (readers_of w) opening own w.core now g.core c.args.tx c.args.key looks (ap (λ (z : WorkContent). why_not_look c.self.inside.table z.history c.args.tx.0 c.args.key.table (Key c.args.key)) (c.prepare.ensures.same c.args.tx.0) ∙ sym c.not_looked.ensures ∙ c.in_default.is) c.shown-seen.result c.shown-seen.ensures
+    c.depend.new.table c.in_ok-depend.ensures.ok c.tell.new.self
     (record { next = c.in_ok-next.next; prepared = c.in_ok-next.ensures.next; told = c.tell.ensures.told }))
 
 pub returns-clause-whole_answer : goal.returns-clause-whole_answer
@@ -219,4 +192,4 @@ returns-clause-whole_answer c = λ opening steps own w h.
     let now : CoreData = record old { works = c.prepare.new.works } in
     let g : StandsWhole opening steps own w now = whole_same_works opening steps own w old (subst (StandsWhole opening steps own w) (sym c.self.view_is) h) c.prepare.new.works c.prepare.ensures.same in
     let looks = may_look_whole opening steps own w now g c.args.tx.0 (Read c.args.key) c.args.key.table (Key c.args.key) refl (ap (λ (z : WorkContent). why_not_look c.self.inside.table z.history c.args.tx.0 c.args.key.table (Key c.args.key)) (c.prepare.ensures.same c.args.tx.0) ∙ sym c.not_looked.ensures ∙ c.in_default.is) in
-    read_answers (readers_of w) opening own w.core now g.core c.args.tx c.args.key looks (ap (λ (z : WorkContent). why_not_look c.self.inside.table z.history c.args.tx.0 c.args.key.table (Key c.args.key)) (c.prepare.ensures.same c.args.tx.0) ∙ sym c.not_looked.ensures ∙ c.in_default.is) c.shown-found.result c.shown-found.ensures c.in_ok-next.next c.in_ok-next.ensures.next (answer_data c.tell.result) c.tell.ensures.answer
+    read_answers (readers_of w) opening own w.core now g.core c.args.tx c.args.key looks (ap (λ (z : WorkContent). why_not_look c.self.inside.table z.history c.args.tx.0 c.args.key.table (Key c.args.key)) (c.prepare.ensures.same c.args.tx.0) ∙ sym c.not_looked.ensures ∙ c.in_default.is) c.shown-seen.result c.shown-seen.ensures c.in_ok-next.next c.in_ok-next.ensures.next (answer_data c.tell.result) c.tell.ensures.answer

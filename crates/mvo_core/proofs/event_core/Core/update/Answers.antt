@@ -1,7 +1,6 @@
 use Rattle.std.proofs.Common.{◌≡◌, sym, ap, ◌∙◌, subst, refl}
 use Rattle.mvo_types.specs.declared.op.Op.TheVariants.{Update}
 use Rattle.mvo_types.specs.declared.refusal.Refusal.TheVariants.{OutOfMemory}
-use Rattle.mvo_types.specs.AnswerData.AnswerData.{Updated, Absent}
 use Rattle.mvo_theory.specs.Calls.Call.{Do}
 use Rattle.mvo_theory.specs.Calls.Result.{Accepted, Refused}
 use Rattle.mvo_txn.specs.Txns.{state_of, IsUnended}
@@ -16,16 +15,15 @@ use Rattle.mvo_core.specs.View.{core_data}
 use Rattle.mvo_core.specs.Standing.{StandsFor}
 use Rattle.mvo_core.specs.Steps.{LeadsOn}
 use Rattle.mvo_core.proofs.Allowed.{unended_if_active}
-use Rattle.mvo_core.proofs.Asked.{own_if_active, active_if_put, may_put_failing}
+use Rattle.mvo_core.proofs.Asked.{own_if_active, unfinished_if_own, active_if_put, may_put_failing}
 use Rattle.mvo_core.proofs.WholeStands.{whole_stands_on}
 use Rattle.mvo_core.proofs.CausesTold.{stands_active}
 use Rattle.mvo_core.proofs.Looked.{shown_in}
 use Rattle.mvo_core.proofs.Refused.{came_spent}
 use Rattle.mvo_core.proofs.WorksHeld.{stands_same_works, whole_same_works}
-use Rattle.mvo_core.proofs.Updating.{update_starved, update_refused, update_conflicts, update_spent, update_left, absent_answers, absent_leads, updated_answers, updated_live, updated_leads, update_may_be_told, update_may_follow, update_fits}
+use Rattle.mvo_core.proofs.Updating.{update_starved, update_refused, update_conflicts, update_spent, update_left, absent_answers, absent_leads, updated_answers, updated_live, updated_leads, update_may_be_told, update_fits}
 use Rattle.std.specs.Option.{option_to_list}
-use Rattle.mvo_core.specs.Keeping.{HasDoneAsMuch}
-use Rattle.mvo_core.proofs.Waits.{waits_roomy, waits_alike, alike_written, alike_recorded, waits_spent, waits_replaced}
+use Rattle.mvo_core.proofs.Waits.{waits_roomy, waits_alike, alike_depending, alike_same, waits_spent, waits_replaced}
 use Rattle.mvo_core.specs.WholeStanding.{readers_of, StandsWhole, LeadsWhole}
 use Rattle.mvo_readonly.specs.WholeCauses.WholeCall.{CoreCall}
 use Rattle.mvo_core.proofs.OthersLead.{others_lead}
@@ -39,27 +37,11 @@ give_up-requires c =
     may_put_failing c.args.self.now.table (done_in c.args.self.now.works c.args.tx.0) c.args.tx.0 c.args.row c.in-Some.refusal
     (ap (λ (x : CoreData). why_not_put x.table (done_in x.works c.args.tx.0) c.args.tx.0 c.args.row) (sym c.self.view_is) ∙ sym c.not_put.ensures ∙ c.in-Some.is)
 
-pub record_answer-requires-clause-there : goal.record_answer-requires-clause-there
-record_answer-requires-clause-there c = own_if_active c.self.inside.table c.args.tx.0 (active_if_put c.self.inside.table (done_in c.self.inside.works c.args.tx.0) c.args.tx.0 c.args.row (sym c.not_put.ensures ∙ c.in_default.is))
-
-pub record_answer-requires-clause-limits : goal.record_answer-requires-clause-limits
-record_answer-requires-clause-limits c =
-    let f = c.self.inside in
-    let i = c.self.invariant.stands in
-    let old : CoreData = core_data f in
-    let is = subst (λ k. AreVersionsInOrder (state_of f.table) c.args.tx.0 c.args.tx.0 (versions_at f.versions.slots f.versions.lists k) → c.shown-found.result ≡ shown_in old c.args.tx.0 k) c.row_key-key.ensures c.shown-found.ensures in
-    update_may_follow (readers_of i.whole) i.opening i.own i.whole.core old i.stands.core c.args.tx c.args.row (stage_none (readers_of i.whole) i.opening i.own i.whole.core old i.stands.core c.args.tx.0 (put_not_reading f.table (done_in f.works c.args.tx.0) c.args.tx.0 c.args.row (sym c.not_put.ensures ∙ c.in_default.is))) (sym c.not_put.ensures ∙ c.in_default.is) c.shown-found.result is (sym c.in_the_way.ensures ∙ c.in_default-in_the_way.is) Absent
+pub depend-requires : goal.depend-requires
+depend-requires c = unfinished_if_own c.self.inside.table c.args.tx.0 (own_if_active c.self.inside.table c.args.tx.0 (active_if_put c.self.inside.table (done_in c.self.inside.works c.args.tx.0) c.args.tx.0 c.args.row (sym c.not_put.ensures ∙ c.in_default.is)))
 
 pub put_instead-requires-clause-there : goal.put_instead-requires-clause-there
 put_instead-requires-clause-there c = own_if_active c.self.inside.table c.args.tx.0 (active_if_put c.self.inside.table (done_in c.self.inside.works c.args.tx.0) c.args.tx.0 c.args.row (sym c.not_put.ensures ∙ c.in_default.is))
-
-pub put_instead-requires-clause-limits : goal.put_instead-requires-clause-limits
-put_instead-requires-clause-limits c =
-    let f = c.self.inside in
-    let i = c.self.invariant.stands in
-    let old : CoreData = core_data f in
-    let is = subst (λ k. AreVersionsInOrder (state_of f.table) c.args.tx.0 c.args.tx.0 (versions_at f.versions.slots f.versions.lists k) → c.shown-found.result ≡ shown_in old c.args.tx.0 k) c.row_key-key.ensures c.shown-found.ensures in
-    update_may_follow (readers_of i.whole) i.opening i.own i.whole.core old i.stands.core c.args.tx c.args.row (stage_none (readers_of i.whole) i.opening i.own i.whole.core old i.stands.core c.args.tx.0 (put_not_reading f.table (done_in f.works c.args.tx.0) c.args.tx.0 c.args.row (sym c.not_put.ensures ∙ c.in_default.is))) (sym c.not_put.ensures ∙ c.in_default.is) c.shown-found.result is (sym c.in_the_way.ensures ∙ c.in_default-in_the_way.is) Updated
 
 pub returns-in-Some-clause-step : goal.returns-in-Some-clause-step
 returns-in-Some-clause-step c = λ opening steps s h.
@@ -148,8 +130,8 @@ tell-requires-2 c =
     let is = subst (λ k. AreVersionsInOrder (state_of f.table) c.args.tx.0 c.args.tx.0 (versions_at f.versions.slots f.versions.lists k) → c.shown-found.result ≡ shown_in now c.args.tx.0 k) c.row_key-key.ensures c.shown-found.ensures in
     update_may_be_told (readers_of i.whole) i.opening i.own i.whole.core now g.core c.args.tx c.args.row (stage_none (readers_of i.whole) i.opening i.own i.whole.core now g.core c.args.tx.0 (put_not_reading f.table (done_in f.works c.args.tx.0) c.args.tx.0 c.args.row (sym c.not_put.ensures ∙ c.in_default.is))) (ap (λ (z : WorkContent). why_not_put c.self.inside.table z.history c.args.tx.0 c.args.row) (c.prepare_update.ensures.same c.args.tx.0) ∙ sym c.not_put.ensures ∙ c.in_default.is) c.shown-found.result is (sym c.in_the_way.ensures ∙ c.in_default-in_the_way.is) _ c.in_ok-next.next c.in_ok-next.ensures.next
 
-pub invariant_of-self-in_err-record_answer : goal.invariant_of-self-in_err-record_answer
-invariant_of-self-in_err-record_answer c =
+pub invariant_of-self-in_err-depend : goal.invariant_of-self-in_err-depend
+invariant_of-self-in_err-depend c =
     let f = c.self.inside in
     let i = c.self.invariant.stands in
     let old : CoreData = core_data f in
@@ -158,22 +140,22 @@ invariant_of-self-in_err-record_answer c =
     let is = subst (λ k. AreVersionsInOrder (state_of f.table) c.args.tx.0 c.args.tx.0 (versions_at f.versions.slots f.versions.lists k) → c.shown-found.result ≡ shown_in now c.args.tx.0 k) c.row_key-key.ensures c.shown-found.ensures in
     record {
       stands =
-          whole_stands_on i (CoreCall (Do c.args.tx.0 (Update c.args.row))) (Refused OutOfMemory) (record now { table = c.record_answer.new.table })
+          whole_stands_on i (CoreCall (Do c.args.tx.0 (Update c.args.row))) (Refused OutOfMemory) (record now { table = c.depend.new.table })
           (let other = stage_none (readers_of i.whole) i.opening i.own i.whole.core now g.core c.args.tx.0 (put_not_reading f.table (done_in f.works c.args.tx.0) c.args.tx.0 c.args.row (sym c.not_put.ensures ∙ c.in_default.is)) in
           let is = subst (λ k. AreVersionsInOrder (state_of f.table) c.args.tx.0 c.args.tx.0 (versions_at f.versions.slots f.versions.lists k) → c.shown-found.result ≡ shown_in now c.args.tx.0 k) c.row_key-key.ensures c.shown-found.ensures in
           (others_lead i.opening i.steps i.own i.whole (Do c.args.tx.0 (Update c.args.row)) _ now _ g other tt
-          (update_spent (readers_of i.whole) i.opening i.own i.whole.core now g.core c.args.tx c.args.row other (ap (λ (z : WorkContent). why_not_put c.self.inside.table z.history c.args.tx.0 c.args.row) (c.prepare_update.ensures.same c.args.tx.0) ∙ sym c.not_put.ensures ∙ c.in_default.is) c.shown-found.result is (sym c.in_the_way.ensures ∙ c.in_default-in_the_way.is) c.record_answer.new.table c.in_err-record_answer.ensures.err)));
-      waiting = waits_alike f.table c.record_answer.new.table f.versions.slots f.waiting (alike_written f.table c.record_answer.new.table c.args.tx.0 HasDoneAsMuch c.in_err-record_answer.ensures.err) c.self.invariant.waiting;
+          (update_spent (readers_of i.whole) i.opening i.own i.whole.core now g.core c.args.tx c.args.row other (ap (λ (z : WorkContent). why_not_put c.self.inside.table z.history c.args.tx.0 c.args.row) (c.prepare_update.ensures.same c.args.tx.0) ∙ sym c.not_put.ensures ∙ c.in_default.is) c.shown-found.result is (sym c.in_the_way.ensures ∙ c.in_default-in_the_way.is) c.depend.new.table c.in_err-depend.ensures.err)));
+      waiting = waits_alike f.table c.depend.new.table f.versions.slots f.waiting (alike_same f.table c.depend.new.table c.in_err-depend.ensures.err) c.self.invariant.waiting;
     }
 
-pub returns-in_err-record_answer-clause-step : goal.returns-in_err-record_answer-clause-step
-returns-in_err-record_answer-clause-step c = λ opening steps s h.
+pub returns-in_err-depend-clause-step : goal.returns-in_err-depend-clause-step
+returns-in_err-depend-clause-step c = λ opening steps s h.
     let f = c.self.inside in
     let old : CoreData = core_data f in
     let now : CoreData = record old { works = c.prepare_update.new.works } in
     let is = subst (λ k. AreVersionsInOrder (state_of f.table) c.args.tx.0 c.args.tx.0 (versions_at f.versions.slots f.versions.lists k) → c.shown-found.result ≡ shown_in now c.args.tx.0 k) c.row_key-key.ensures c.shown-found.ensures in
-    subst (λ r. LeadsOn opening steps s (Do c.args.tx.0 (Update c.args.row)) r (record now { table = c.record_answer.new.table })) (came_spent c.from_residual-in_err-record_answer.result c.from_residual-in_err-record_answer.ensures.1)
-    (update_spent no_readers opening steps s now (stands_same_works no_readers opening steps s old (subst (StandsFor opening steps s) (sym c.self.view_is) h) c.prepare_update.new.works c.prepare_update.ensures.same) c.args.tx c.args.row refl (ap (λ (z : WorkContent). why_not_put c.self.inside.table z.history c.args.tx.0 c.args.row) (c.prepare_update.ensures.same c.args.tx.0) ∙ sym c.not_put.ensures ∙ c.in_default.is) c.shown-found.result is (sym c.in_the_way.ensures ∙ c.in_default-in_the_way.is) c.record_answer.new.table c.in_err-record_answer.ensures.err)
+    subst (λ r. LeadsOn opening steps s (Do c.args.tx.0 (Update c.args.row)) r (record now { table = c.depend.new.table })) (came_spent c.from_residual-in_err-depend.result c.from_residual-in_err-depend.ensures.1)
+    (update_spent no_readers opening steps s now (stands_same_works no_readers opening steps s old (subst (StandsFor opening steps s) (sym c.self.view_is) h) c.prepare_update.new.works c.prepare_update.ensures.same) c.args.tx c.args.row refl (ap (λ (z : WorkContent). why_not_put c.self.inside.table z.history c.args.tx.0 c.args.row) (c.prepare_update.ensures.same c.args.tx.0) ∙ sym c.not_put.ensures ∙ c.in_default.is) c.shown-found.result is (sym c.in_the_way.ensures ∙ c.in_default-in_the_way.is) c.depend.new.table c.in_err-depend.ensures.err)
 
 pub invariant_of-self-in_default-version : goal.invariant_of-self-in_default-version
 invariant_of-self-in_default-version c =
@@ -185,13 +167,13 @@ invariant_of-self-in_default-version c =
     let is = subst (λ k. AreVersionsInOrder (state_of f.table) c.args.tx.0 c.args.tx.0 (versions_at f.versions.slots f.versions.lists k) → c.shown-found.result ≡ shown_in now c.args.tx.0 k) c.row_key-key.ensures c.shown-found.ensures in
     record {
       stands =
-          whole_stands_on i (CoreCall (Do c.args.tx.0 (Update c.args.row))) Accepted (record now { table = c.record_answer.new.table; works = c.tell.new.self })
+          whole_stands_on i (CoreCall (Do c.args.tx.0 (Update c.args.row))) Accepted (record now { table = c.depend.new.table; works = c.tell.new.self })
           (let other = stage_none (readers_of i.whole) i.opening i.own i.whole.core now g.core c.args.tx.0 (put_not_reading f.table (done_in f.works c.args.tx.0) c.args.tx.0 c.args.row (sym c.not_put.ensures ∙ c.in_default.is)) in
           let is = subst (λ k. AreVersionsInOrder (state_of f.table) c.args.tx.0 c.args.tx.0 (versions_at f.versions.slots f.versions.lists k) → c.shown-found.result ≡ shown_in now c.args.tx.0 k) c.row_key-key.ensures c.shown-found.ensures in
           others_lead i.opening i.steps i.own i.whole (Do c.args.tx.0 (Update c.args.row)) _ now _ g other tt
-          (absent_leads (readers_of i.whole) i.opening i.own i.whole.core now g.core c.args.tx c.args.row other (ap (λ (z : WorkContent). why_not_put c.self.inside.table z.history c.args.tx.0 c.args.row) (c.prepare_update.ensures.same c.args.tx.0) ∙ sym c.not_put.ensures ∙ c.in_default.is) c.shown-found.result is (sym c.in_the_way.ensures ∙ c.in_default-in_the_way.is) c.in_default-version.is c.record_answer.new.table c.in_ok-record_answer.ensures.ok c.tell.new.self
+          (absent_leads (readers_of i.whole) i.opening i.own i.whole.core now g.core c.args.tx c.args.row other (ap (λ (z : WorkContent). why_not_put c.self.inside.table z.history c.args.tx.0 c.args.row) (c.prepare_update.ensures.same c.args.tx.0) ∙ sym c.not_put.ensures ∙ c.in_default.is) c.shown-found.result is (sym c.in_the_way.ensures ∙ c.in_default-in_the_way.is) c.in_default-version.is c.depend.new.table c.in_ok-depend.ensures.ok c.tell.new.self
           (record { next = c.in_ok-next.next; prepared = c.in_ok-next.ensures.next; told = c.tell.ensures.told })));
-      waiting = waits_alike f.table c.record_answer.new.table f.versions.slots f.waiting (alike_recorded f.table c.record_answer.new.table c.args.tx _ _ _ c.in_ok-record_answer.ensures.ok) c.self.invariant.waiting;
+      waiting = waits_alike f.table c.depend.new.table f.versions.slots f.waiting (alike_depending f.table c.depend.new.table c.args.tx (option_to_list c.shown-found.result.depends_on) c.in_ok-depend.ensures.ok) c.self.invariant.waiting;
     }
 
 pub returns-in_default-version-clause-step : goal.returns-in_default-version-clause-step
@@ -200,7 +182,7 @@ returns-in_default-version-clause-step c = λ opening steps s h.
     let old : CoreData = core_data f in
     let now : CoreData = record old { works = c.prepare_update.new.works } in
     let is = subst (λ k. AreVersionsInOrder (state_of f.table) c.args.tx.0 c.args.tx.0 (versions_at f.versions.slots f.versions.lists k) → c.shown-found.result ≡ shown_in now c.args.tx.0 k) c.row_key-key.ensures c.shown-found.ensures in
-    absent_leads no_readers opening steps s now (stands_same_works no_readers opening steps s old (subst (StandsFor opening steps s) (sym c.self.view_is) h) c.prepare_update.new.works c.prepare_update.ensures.same) c.args.tx c.args.row refl (ap (λ (z : WorkContent). why_not_put c.self.inside.table z.history c.args.tx.0 c.args.row) (c.prepare_update.ensures.same c.args.tx.0) ∙ sym c.not_put.ensures ∙ c.in_default.is) c.shown-found.result is (sym c.in_the_way.ensures ∙ c.in_default-in_the_way.is) c.in_default-version.is c.record_answer.new.table c.in_ok-record_answer.ensures.ok c.tell.new.self
+    absent_leads no_readers opening steps s now (stands_same_works no_readers opening steps s old (subst (StandsFor opening steps s) (sym c.self.view_is) h) c.prepare_update.new.works c.prepare_update.ensures.same) c.args.tx c.args.row refl (ap (λ (z : WorkContent). why_not_put c.self.inside.table z.history c.args.tx.0 c.args.row) (c.prepare_update.ensures.same c.args.tx.0) ∙ sym c.not_put.ensures ∙ c.in_default.is) c.shown-found.result is (sym c.in_the_way.ensures ∙ c.in_default-in_the_way.is) c.in_default-version.is c.depend.new.table c.in_ok-depend.ensures.ok c.tell.new.self
     (record { next = c.in_ok-next.next; prepared = c.in_ok-next.ensures.next; told = c.tell.ensures.told })
 
 pub returns-in_default-version-clause-answer : goal.returns-in_default-version-clause-answer
@@ -330,17 +312,17 @@ returns-in-Some-in_the_way-clause-whole c = λ opening steps own w h.
     (update_conflicts (readers_of w) opening own w.core old g.core c.args.tx c.args.row other (sym c.not_put.ensures ∙ c.in_default.is) c.shown-found.result is c.in-Some-in_the_way.cause (sym c.in_the_way.ensures ∙ c.in-Some-in_the_way.is)
     c.give_up-in-Some-in_the_way.new.self (c.give_up-in-Some-in_the_way.ensures.left (readers_of w) opening own w.core other h.core)))
 
-pub returns-in_err-record_answer-clause-whole : goal.returns-in_err-record_answer-clause-whole
-returns-in_err-record_answer-clause-whole c = λ opening steps own w h.
+pub returns-in_err-depend-clause-whole : goal.returns-in_err-depend-clause-whole
+returns-in_err-depend-clause-whole c = λ opening steps own w h.
     let f = c.self.inside in
     let old : CoreData = core_data f in
     let now : CoreData = record old { works = c.prepare_update.new.works } in
     let g : StandsWhole opening steps own w now = whole_same_works opening steps own w old (subst (StandsWhole opening steps own w) (sym c.self.view_is) h) c.prepare_update.new.works c.prepare_update.ensures.same in
     let other = stage_none (readers_of w) opening own w.core now g.core c.args.tx.0 (put_not_reading f.table (done_in f.works c.args.tx.0) c.args.tx.0 c.args.row (sym c.not_put.ensures ∙ c.in_default.is)) in
     let is = subst (λ k. AreVersionsInOrder (state_of f.table) c.args.tx.0 c.args.tx.0 (versions_at f.versions.slots f.versions.lists k) → c.shown-found.result ≡ shown_in now c.args.tx.0 k) c.row_key-key.ensures c.shown-found.ensures in
-    subst (λ r. LeadsWhole opening steps own w (CoreCall (Do c.args.tx.0 (Update c.args.row))) r (record now { table = c.record_answer.new.table })) (came_spent c.from_residual-in_err-record_answer.result c.from_residual-in_err-record_answer.ensures.1)
+    subst (λ r. LeadsWhole opening steps own w (CoreCall (Do c.args.tx.0 (Update c.args.row))) r (record now { table = c.depend.new.table })) (came_spent c.from_residual-in_err-depend.result c.from_residual-in_err-depend.ensures.1)
     (others_lead opening steps own w (Do c.args.tx.0 (Update c.args.row)) _ now _ g other tt
-    (update_spent (readers_of w) opening own w.core now g.core c.args.tx c.args.row other (ap (λ (z : WorkContent). why_not_put c.self.inside.table z.history c.args.tx.0 c.args.row) (c.prepare_update.ensures.same c.args.tx.0) ∙ sym c.not_put.ensures ∙ c.in_default.is) c.shown-found.result is (sym c.in_the_way.ensures ∙ c.in_default-in_the_way.is) c.record_answer.new.table c.in_err-record_answer.ensures.err))
+    (update_spent (readers_of w) opening own w.core now g.core c.args.tx c.args.row other (ap (λ (z : WorkContent). why_not_put c.self.inside.table z.history c.args.tx.0 c.args.row) (c.prepare_update.ensures.same c.args.tx.0) ∙ sym c.not_put.ensures ∙ c.in_default.is) c.shown-found.result is (sym c.in_the_way.ensures ∙ c.in_default-in_the_way.is) c.depend.new.table c.in_err-depend.ensures.err))
 
 pub returns-in_default-version-clause-whole : goal.returns-in_default-version-clause-whole
 returns-in_default-version-clause-whole c = λ opening steps own w h.
@@ -351,7 +333,7 @@ returns-in_default-version-clause-whole c = λ opening steps own w h.
     let other = stage_none (readers_of w) opening own w.core now g.core c.args.tx.0 (put_not_reading f.table (done_in f.works c.args.tx.0) c.args.tx.0 c.args.row (sym c.not_put.ensures ∙ c.in_default.is)) in
     let is = subst (λ k. AreVersionsInOrder (state_of f.table) c.args.tx.0 c.args.tx.0 (versions_at f.versions.slots f.versions.lists k) → c.shown-found.result ≡ shown_in now c.args.tx.0 k) c.row_key-key.ensures c.shown-found.ensures in
     others_lead opening steps own w (Do c.args.tx.0 (Update c.args.row)) _ now _ g other tt
-    (absent_leads (readers_of w) opening own w.core now g.core c.args.tx c.args.row other (ap (λ (z : WorkContent). why_not_put c.self.inside.table z.history c.args.tx.0 c.args.row) (c.prepare_update.ensures.same c.args.tx.0) ∙ sym c.not_put.ensures ∙ c.in_default.is) c.shown-found.result is (sym c.in_the_way.ensures ∙ c.in_default-in_the_way.is) c.in_default-version.is c.record_answer.new.table c.in_ok-record_answer.ensures.ok c.tell.new.self
+    (absent_leads (readers_of w) opening own w.core now g.core c.args.tx c.args.row other (ap (λ (z : WorkContent). why_not_put c.self.inside.table z.history c.args.tx.0 c.args.row) (c.prepare_update.ensures.same c.args.tx.0) ∙ sym c.not_put.ensures ∙ c.in_default.is) c.shown-found.result is (sym c.in_the_way.ensures ∙ c.in_default-in_the_way.is) c.in_default-version.is c.depend.new.table c.in_ok-depend.ensures.ok c.tell.new.self
     (record { next = c.in_ok-next.next; prepared = c.in_ok-next.ensures.next; told = c.tell.ensures.told }))
 
 pub returns-in_default-version-clause-whole_answer : goal.returns-in_default-version-clause-whole_answer

@@ -1,10 +1,13 @@
 use Rattle.std.proofs.Common.{None, Some, drop, arith}
 use Rattle.mvo_frame.specs.Slices.{IsGroupRead}
-use Rattle.mvo_frame.proofs.Slices.{first_shorter, first_most, first_gate, first_read, first_rest, none_first, window_refused}
+use Rattle.mvo_frame.proofs.Slices.{first_shorter, first_most, first_gate, first_read, first_rest, none_first, next_refused, window_refused}
 use Rattle.mvo_frame.proofs.reader.SegmentReader.more.Goals as goal
 
 pub returns-in-Err-clause-refused : goal.returns-in-Err-clause-refused
 returns-in-Err-clause-refused c upto start bytes is w = window_refused upto start bytes c.args.window.now c.args.self.now is w c.in-Err.refusal c.in-Err.ensures.refused
+
+pub returns-in-Err-clause-why : goal.returns-in-Err-clause-why
+returns-in-Err-clause-why c = next_refused c.args.self.now c.args.window.now c.in-Err.refusal c.in-Err.ensures.refused
 
 pub returns-in_default-clause-end : goal.returns-in_default-clause-end
 returns-in_default-clause-end c upto start bytes is w end =
