@@ -2,26 +2,19 @@
 //! is kept meanwhile, or isn't.
 ghost use Rattle.mvo_engine.specs.Opened.{IsNamedBy};
 
+use crate::rows::{SEED, key_of, load_rows, next_drawn, replace_one, row_of};
 use anyhow::{Result, bail};
 use mvo_disk::Disk;
-use mvo_engine::{Engine, Fresh, OpenGate, Run, Session, Stats, Totals};
+use mvo_engine::{Engine, Fresh, OpenGate, Run, Stats, Totals};
 use mvo_keep::Policy;
-use mvo_types::{Refusal, Row, RowKey, Stamp};
-use std::alloc::{AllocError, Global};
+use mvo_types::{Refusal, Stamp};
+use std::alloc::Global;
 use std::marker::Brand;
 use std::sync::Wait;
 use std::sync::atomic::{AtomicU64, Ordering};
 use std::thread;
 use std::thread::Threads;
 use std::time::Duration;
-
-/// The seed of the store's tables.
-const SEED: u64 = 7;
-
-/// How many rows a transaction loads, and how many transactions come between two flushes.
-const LOADED: u64 = 100;
-
-const BETWEEN_FLUSHES: u64 = 100;
 
 /// The first session looks how the engine stands behind so many commits.
 const LOOK: u64 = 64;
@@ -126,39 +119,10 @@ fn load_in<L: Run + Send + Sync, D: Disk + Drop + Send, R: Threads + Wait + Sync
     requires { IsNamedBy D.Disk L.opening L.marks L.ring L.name L.parts fresh }
 {
     let engine = Engine::<L, D, OpenGate>::new(fresh, OpenGate);
-    let mut session = engine.session(rt)?;
-    let mut first = 0;
-    for number in 1..u64::MAX {
-        if first >= rows {
-            break;
-        }
-        let end = rows.min(first.saturating_add(LOADED));
-        load_one(rt, alloc, &mut session, first, end)?;
-        first = end;
-        if number % BETWEEN_FLUSHES == 0 {
-            engine.flush(rt)?;
-        }
-    }
-    engine.flush(rt)?;
+    load_rows(rt, alloc, &engine, 0, rows)?;
     engine.rotate(rt)?;
     engine.checkpoint(rt)?;
     engine.flush(rt)
-}
-
-/// Commits the rows with these keys.
-fn load_one<L: Run, D: Disk, R: Wait>(
-    rt: &R,
-    alloc: Global,
-    session: &mut Session<'_, L, D, OpenGate>,
-    first: u64,
-    end: u64,
-) -> Result<(), Refusal> {
-    session.begin_tx(rt)?;
-    for key in first..end {
-        session.insert(rt, row_of(alloc, key, 0)?)?;
-    }
-    session.commit_tx(rt)?;
-    Ok(())
 }
 
 /// The service of every run, which its parts name.
@@ -270,7 +234,7 @@ fn serve_one<L: Run, D: Disk, R: Wait>(
             break;
         }
         drawn = next_drawn(drawn);
-        let key = key_of(service, number, drawn);
+        let key = key_of(service.rows, service.sessions, number, drawn);
         replace_one(rt, &mut session, row_of(alloc, key, round)?)?;
         served.commits = round.saturating_add(1);
         if number == 0 && round % LOOK == 0 {
@@ -278,36 +242,4 @@ fn serve_one<L: Run, D: Disk, R: Wait>(
         }
     }
     Ok(served)
-}
-
-/// A key among those of the session with that number, which no other session replaces.
-fn key_of(service: Service, number: u64, drawn: u64) -> u64 {
-    let own = service.rows.checked_div(service.sessions).unwrap_or(0);
-    let place = (drawn >> 33).checked_rem(own).unwrap_or(0);
-    own.wrapping_mul(number).wrapping_add(place)
-}
-
-/// Replaces a row, and makes that durable.
-fn replace_one<L: Run, D: Disk, R: Wait>(
-    rt: &R,
-    session: &mut Session<'_, L, D, OpenGate>,
-    row: Row,
-) -> Result<(), Refusal> {
-    session.begin_tx(rt)?;
-    session.update(rt, row)?;
-    let end = session.commit_tx(rt)?;
-    session.make_durable(rt, end)
-}
-
-/// The next number of a sequence that looks as if it were drawn.
-fn next_drawn(drawn: u64) -> u64 {
-    drawn
-        .wrapping_mul(6_364_136_223_846_793_005)
-        .wrapping_add(1_442_695_040_888_963_407)
-}
-
-/// A row of 100 bytes.
-fn row_of(alloc: Global, key: u64, round: u64) -> Result<Row, AllocError> {
-    let byte = round.to_le_bytes()[0];
-    Row::new(RowKey { table: 0, key }, key, vec![in alloc; byte; 100]?)
 }

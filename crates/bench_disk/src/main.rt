@@ -15,20 +15,28 @@
 //! With `kept N SECONDS FOLDER` and with `unkept N SECONDS FOLDER`: the same of N sessions that
 //! replace 1,000,000 rows for a time, while one more thread keeps the engine, or none does.
 //!
+//! With `beside JOB ROWS FOLDER`: how long the durable commits of four sessions wait beside a job
+//! of the store, and alone, and what the job takes beside them and alone. JOB is `checkpoint`, of a
+//! segment of ROWS rows, or `merge`, of two pairs of ROWS records each. ROWS stands in place of
+//! 510,000 and of 1,000,000, and FOLDER needn't be given either.
+//!
 //! With `through MEBIBYTES FOLDER`: about so many of log through a world over a folder that is kept
 //! by a policy of small numbers; its rows are compared at the end.
 #![tactic(auto)]
 
+mod beside;
 mod folder;
 mod groups;
 mod kept;
 mod opening;
 mod raw;
+mod rows;
 mod sessions;
 mod through;
 mod times;
 
 use anyhow::{Context, Result, bail};
+use beside::Job;
 use folder::Scratch;
 use kept::{Service, Told};
 use mvo_store::format;
@@ -79,6 +87,7 @@ where
         "groups" => run_groups(rt, threads, first, number_or(second, ROUNDS)?),
         "open" => run_open(threads, number_or(first, ROWS)?, second),
         "sessions" => run_sessions(rt, threads, third, number(first)?, number(second)?),
+        "beside" => run_beside(rt, threads, third, first, second),
         "through" => run_through(rt, threads, second, number(first)?),
         "kept" | "unkept" => {
             let service = Service {
@@ -243,6 +252,25 @@ fn tell_service(rt: &HostRuntime, service: Service, told: &Told) -> Result<()> {
         totals.rotations, totals.checkpoints, totals.merges, served.segments, served.pairs
     )?;
     Ok(())
+}
+
+/// Times durable commits beside a job.
+fn run_beside(
+    rt: &HostRuntime,
+    threads: &(impl Clock + Threads + Wait + Sync),
+    folder: &Option<String>,
+    name: &Option<String>,
+    rows: &Option<String>,
+) -> Result<()> {
+    let Some(name) = name else {
+        bail!("the name of a job is missing");
+    };
+    let job = Job::named(name.as_str())?;
+    let rows = number_or(rows, job.rows())?;
+    let scratch = scratch_in(rt, folder)?;
+    let ran = beside::run(rt, threads, &scratch, job, rows);
+    scratch.remove(rt)?;
+    ran
 }
 
 /// Brings so much log through a kept world, and says what that came to.
