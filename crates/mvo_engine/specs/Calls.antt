@@ -26,9 +26,10 @@ use Rattle.mvo_core.specs.WholeStanding.{StandsWhole, IsWholeStep, IsReadOnlyBeg
 use Rattle.mvo_store.specs.StoreData.{StoreData}
 use Rattle.mvo_store.specs.Seen.{mark_of}
 use Rattle.mvo_store.specs.Causes.{why_not_take}
-use Rattle.mvo_store.specs.Calls.{AnswersCall, AnswersSlice, AnswersPlaces, AnswersReading, IsStoreStep, StoreStep}
+use Rattle.mvo_store.specs.Calls.{AnswersCall, AnswersSlice, AnswersPlaces, AnswersReading, AnswersCheckpointReading, IsStoreStep, StoreStep}
 use Rattle.mvo_store.specs.Calls.StoreStep.{Take, Call, Slice as SliceOf, Place}
 use Rattle.mvo_store.specs.Calls.StoreStep.{MergeBegin as BeginMerge, MergeReadOn, MergeForget as ForgetMerge}
+use Rattle.mvo_store.specs.Calls.StoreStep.{CheckpointBegin as BeginCheckpoint, CheckpointReadOn, CheckpointForget as ForgetCheckpoint}
 use Rattle.mvo_store.specs.declared.jobs.due.Due.TheVariants.{Data, MergeData, Install}
 use Rattle.mvo_store.specs.declared.install.generation.Generation.{Generation}
 use Rattle.mvo_store.specs.declared.install.install_step.InstallStep.TheVariants.{Open}
@@ -43,7 +44,7 @@ use Rattle.mvo_store.specs.declared.done.Done.{Done}
 use Rattle.mvo_store.specs.declared.done.Done.TheVariants.{Durable, Installed}
 use Rattle.mvo_engine.specs.declared.run.run.TheConstants.{MAX_SESSIONS}
 use Rattle.mvo_engine.specs.declared.slice.Slice.{Slice}
-use Rattle.mvo_engine.specs.declared.slice.Slice.TheVariants.{Checkpoint, Merge, Places, MergeBegin, MergeRead, MergeForget}
+use Rattle.mvo_engine.specs.declared.slice.Slice.TheVariants.{Checkpoint, Merge, Places, MergeBegin, MergeRead, MergeForget, CheckpointBegin, CheckpointRead, CheckpointForget}
 use Rattle.mvo_core.specs.Receipts.{receipt}
 use Rattle.mvo_engine.specs.States.{CoreState, SendsState, StoreState, SessionState}
 
@@ -157,6 +158,9 @@ asked_by Places = Place
 asked_by (MergeBegin place) = BeginMerge place
 asked_by MergeRead = MergeReadOn
 asked_by MergeForget = ForgetMerge
+asked_by CheckpointBegin = BeginCheckpoint
+asked_by CheckpointRead = CheckpointReadOn
+asked_by CheckpointForget = ForgetCheckpoint
 
 -- what is told of what has no answer
 abbrev pub told_with : Progress → Result (Unit {0}) Refusal → Result Progress Refusal
@@ -172,6 +176,9 @@ AnswersAsked Places new progress = AnswersPlaces new progress
 AnswersAsked (MergeBegin place) new progress = progress ≡ More
 AnswersAsked MergeRead new progress = AnswersReading new progress
 AnswersAsked MergeForget new progress = progress ≡ Ready
+AnswersAsked CheckpointBegin new progress = progress ≡ More
+AnswersAsked CheckpointRead new progress = AnswersCheckpointReading new progress
+AnswersAsked CheckpointForget new progress = progress ≡ Ready
 
 -- A slice of what a job does: no group is received, and no mark published.
 pub record IsLockedSlice {D : Type 0} (d : Ghosts D) (old : StoreState D) (slice : Slice)

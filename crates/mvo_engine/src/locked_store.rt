@@ -214,8 +214,8 @@ impl<L: Run, D: Disk> LockedStore<L, D> {
     }
 
     /// As the call of `Store` that makes this slice: `checkpoint_slice`, `merge_slice`,
-    /// `place_slice`, `merge_begin`, which answers More, `merge_read_slice`, or `merge_forget`,
-    /// which answers Ready.
+    /// `place_slice`; `merge_begin` and `checkpoint_begin`, which answer More; `merge_read_slice`,
+    /// `checkpoint_read_slice`; `merge_forget` and `checkpoint_forget`, which answer Ready.
     pub fn slice(&mut self, slice: Slice) -> Result<Progress, Refusal>
         ensures { IsLockedSlice D.Disk self.old slice result self.new }
     {
@@ -263,6 +263,9 @@ fn slice_of<D: Disk>(store: &mut Store<D>, slice: Slice) -> Result<Progress, Ref
         Slice::MergeBegin(place) => told(store.merge_begin(place), Progress::More),
         Slice::MergeRead => store.merge_read_slice(),
         Slice::MergeForget => told(store.merge_forget(), Progress::Ready),
+        Slice::CheckpointBegin => told(store.checkpoint_begin(), Progress::More),
+        Slice::CheckpointRead => store.checkpoint_read_slice(),
+        Slice::CheckpointForget => told(store.checkpoint_forget(), Progress::Ready),
     }
 }
 

@@ -7,5 +7,7 @@ pub(crate) enum Sliced {
     /// They put the places that are left, and the call is made behind them.
     Placed,
     /// They read the pair at this place and the one behind it.
-    Read(usize),
+    PairsRead(usize),
+    /// They read the oldest sealed segment, and build the pair of it.
+    SegmentRead,
 }

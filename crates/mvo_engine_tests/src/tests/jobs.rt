@@ -42,8 +42,18 @@ const WHOLE: [Line; 15] = [
 ];
 
 /// Behind a rotation, so that the log has a sealed segment.
-const BY_STEPS: [Line; 39] = [
+const BY_STEPS: [Line; 47] = [
     (Store(SliceOf(Slice::Places)), NOTHING_TO_DO),
+    // A segment is read by slices, of which a checkpoint is to be made, and what is read is
+    // forgotten.
+    (Store(SliceOf(Slice::CheckpointRead)), NOTHING_TO_DO),
+    (Store(SliceOf(Slice::CheckpointForget)), NOTHING_TO_DO),
+    (Store(SliceOf(Slice::CheckpointBegin)), More),
+    (Rotate, BUSY),
+    (Checkpoint, BUSY),
+    (Store(SliceOf(Slice::CheckpointRead)), More),
+    (Store(SliceOf(Slice::CheckpointForget)), Ready),
+    (Store(SliceOf(Slice::CheckpointRead)), NOTHING_TO_DO),
     // A checkpoint runs, and no other job begins. It goes on by its steps: the merged pair's delta
     // file gains a number behind the new pair's own.
     (Store(Call(CheckpointRead)), More),
@@ -103,6 +113,8 @@ pub fn do_jobs<L: Run, D: Disk, G: Gate + Drop, R: Abort + Wait>(
     rotate_by_five(rt, engine, passes);
     follow_new(rt, alloc, engine, &BY_STEPS)?;
     reclaim_all(rt, engine);
+    // Those that are made by hand aren't counted.
+    same(rt, &engine.totals().merges, &1);
     Ok(())
 }
 
