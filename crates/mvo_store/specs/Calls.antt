@@ -54,6 +54,8 @@ pub data StoreStep : Type 0 where
   MergeReadOn : StoreStep
   -- to forget what is read of them
   MergeForget : StoreStep
+  -- to cut the end of a long file off that nobody names
+  Shorten : StoreStep
 
 -- ---- when it is refused
 
@@ -74,9 +76,10 @@ why_not_store s Place = why_not_place s
 why_not_store s (MergeBegin place) = why_not_merge place s
 why_not_store s MergeReadOn = why_not_merge_read s
 why_not_store s MergeForget = why_not_merge_read s
+why_not_store s Shorten = why_not_reclaim s
 
 -- What may refuse it where no cause stands: want of memory and a fault of the disk. Opening or
--- closing a gate and emptying a file take no memory, and taking a group, putting places and
+-- closing a gate and emptying or cutting a file take no memory, and taking a group, putting places and
 -- forgetting what is read ask for neither. What is read may break a rule.
 abbrev pub MayMeet : StoreStep → Refusal → Type 0
 MayMeet (Take g) e = ⊥
@@ -86,6 +89,7 @@ MayMeet (Call AppendOpen) e = e ≡ DiskFault
 MayMeet (Call (Step (Install Close))) e = e ≡ DiskFault
 MayMeet (Call (Step (Install Open))) e = e ≡ DiskFault
 MayMeet (Call Reclaim) e = e ≡ DiskFault
+MayMeet Shorten e = e ≡ DiskFault
 MayMeet (Call CheckpointRead) e = (e ≡ OutOfMemory) ⊎ ((e ≡ DiskFault) ⊎ IsMisread e)
 MayMeet (Call (MergeRead place)) e = (e ≡ OutOfMemory) ⊎ ((e ≡ DiskFault) ⊎ IsMisread e)
 MayMeet (Call (Step MergeDelta)) e = (e ≡ OutOfMemory) ⊎ ((e ≡ DiskFault) ⊎ IsMisread e)
@@ -210,6 +214,7 @@ Makes d Place old new = HasPlaced (IsHonest (d.moment new.disk)) old new
 Makes d (MergeBegin place) old new = HasBegunReading place old new
 Makes d MergeReadOn old new = HasReadOn d old new
 Makes d MergeForget old new = new ≡ record old { jobs = without_reading old.jobs }
+Makes d Shorten old new = new ≡ record old { disk = new.disk }
 
 -- so it does, and no call of the device failed
 pub record IsMade {D : Type 0} (d : Ghosts D) (call : StoreStep) (old new : StoreData D) : Type 0
@@ -337,6 +342,7 @@ MayWrite d honest s (Call RotateWrite) n = IsLeastFree s.manifest [] n
 MayWrite d honest s (Call (Step step)) n = IsFileOf step s n
 MayWrite d honest s (Slice step) n = IsFileOf step s n
 MayWrite d honest s (Call Reclaim) n = IsReclaimable d honest s n
+MayWrite d honest s Shorten n = IsUnused s.manifest s.jobs n
 MayWrite d honest s call n = ⊥
 
 -- so far as the disk has answered as written behind it

@@ -165,7 +165,7 @@ impl<D: Disk> Store<D> {
         self.write_due(Due::Data)
     }
 
-    /// Writes the next slice of the data file of the checkpoint that runs, of at most 4 MiB, and
+    /// Writes the next slice of the data file of the checkpoint that runs, of at most 256 KiB, and
     /// syncs it: the first gives the file new content, and the others stand behind it. More comes
     /// with each but the last, and Ready with that: then the delta files are due. While a slice is
     /// due, `checkpoint_data` is too, which writes the whole file.

@@ -189,7 +189,7 @@ impl<D: Disk> Store<D> {
         None
     }
 
-    /// Makes the next 16,384 changes that the checkpoint that runs, or the merge whose files are
+    /// Makes the next 2,048 changes that the checkpoint that runs, or the merge whose files are
     /// written, makes of the places: a key without a row loses its place, and a record gets one.
     /// More comes with each slice but the last, and Ready with that. `install_open` makes those
     /// that are left, so it takes the less time the more slices come before it. It asks the disk
