@@ -12,7 +12,7 @@ use Rattle.mvo_store.specs.declared.done.Done.TheVariants.{Installed}
 use Rattle.mvo_store.specs.Wholes.{AreToRefusal, IsCheckpoint, install, rotation, merge}
 use Rattle.mvo_store.proofs.Taken.{IsQuiet}
 use Rattle.mvo_engine.specs.declared.slice.Slice.{Slice}
-use Rattle.mvo_engine.specs.declared.slice.Slice.TheVariants.{Checkpoint, Merge, Places, MergeBegin, MergeRead, MergeForget, CheckpointBegin, CheckpointRead, CheckpointForget}
+use Rattle.mvo_engine.specs.declared.slice.Slice.TheVariants.{Checkpoint, Merge, Places, MergeBegin, MergeRead, MergeForget, CheckpointBegin, CheckpointRead, CheckpointForget, Shorten}
 use Rattle.mvo_engine.specs.declared.sliced.Sliced.{Sliced}
 use Rattle.mvo_engine.specs.Calls.{asked_by}
 use Rattle.mvo_engine.specs.Jobs.{IsAloneWith, IsCallAlone, IsOneCallAlone, slices_of, opens_a_manifest, IsInstallAnswer}
@@ -70,3 +70,4 @@ quiet_slice MergeForget = tt
 quiet_slice CheckpointBegin = tt
 quiet_slice CheckpointRead = tt
 quiet_slice CheckpointForget = tt
+quiet_slice Shorten = tt

@@ -4,7 +4,7 @@ use Rattle.mvo_types.specs.declared.refusal.Refusal.{Refusal}
 use Rattle.mvo_disk.specs.declared.disk.Disk.{Ghosts}
 use Rattle.mvo_store.specs.declared.install.generation.Generation.{Generation}
 use Rattle.mvo_store.specs.declared.call.StoreCall.{StoreCall}
-use Rattle.mvo_store.specs.declared.call.StoreCall.TheVariants.{Step, CheckpointRead as ReadToCheckpoint, MergeRead as ReadToMerge}
+use Rattle.mvo_store.specs.declared.call.StoreCall.TheVariants.{Step, RotateWrite, CheckpointRead as ReadToCheckpoint, MergeRead as ReadToMerge, Reclaim}
 use Rattle.mvo_store.specs.declared.jobs.due.Due.TheVariants.{Data, MergeData, Install}
 use Rattle.mvo_store.specs.declared.install.install_step.InstallStep.TheVariants.{Close, Open}
 use Rattle.mvo_store.specs.declared.jobs.progress.Progress.{Progress}
@@ -12,9 +12,9 @@ use Rattle.mvo_store.specs.declared.jobs.progress.Progress.TheVariants.{More, Re
 use Rattle.mvo_store.specs.declared.done.Done.{Done}
 use Rattle.mvo_store.specs.declared.done.Done.TheVariants.{Installed, Progress as Progressed}
 use Rattle.mvo_engine.specs.declared.slice.Slice.{Slice}
-use Rattle.mvo_engine.specs.declared.slice.Slice.TheVariants.{Checkpoint, Merge, Places, MergeBegin, MergeRead, MergeForget, CheckpointBegin, CheckpointRead, CheckpointForget}
+use Rattle.mvo_engine.specs.declared.slice.Slice.TheVariants.{Checkpoint, Merge, Places, MergeBegin, MergeRead, MergeForget, CheckpointBegin, CheckpointRead, CheckpointForget, Shorten}
 use Rattle.mvo_engine.specs.declared.sliced.Sliced.{Sliced}
-use Rattle.mvo_engine.specs.declared.sliced.Sliced.TheVariants.{Written, Placed, PairsRead, SegmentRead}
+use Rattle.mvo_engine.specs.declared.sliced.Sliced.TheVariants.{Written, Placed, Shortened, PairsRead, SegmentRead}
 use Rattle.mvo_engine.specs.declared.read_slices.ReadSlices.{ReadSlices}
 use Rattle.mvo_engine.specs.States.{StoreState}
 use Rattle.mvo_engine.specs.Calls.{IsLockedCall, IsLockedSlice}
@@ -50,6 +50,8 @@ abbrev pub slices_of : StoreCall → Option Sliced
 slices_of (Step Data) = Some (Written Checkpoint)
 slices_of (Step MergeData) = Some (Written Merge)
 slices_of (Step (Install Close)) = Some Placed
+slices_of RotateWrite = Some Shortened
+slices_of Reclaim = Some Shortened
 slices_of (ReadToMerge place) = Some (PairsRead place)
 slices_of ReadToCheckpoint = Some SegmentRead
 slices_of call = None
@@ -69,6 +71,18 @@ abbrev pub IsBehindPlaces : {D : Type 0} → Ghosts D → StoreCall → Result D
 IsBehindPlaces d call result =
     ((came : Result (Unit {0}) Refusal) × AreSlicesAlone d Places came)
     × IsOneCallAlone d call result
+
+-- so it goes on where long files were cut, and else this is the refusal
+abbrev pub GoesOnBehind : Result (Unit {0}) Refusal → (Result Done Refusal → Type 0)
+    → Result Done Refusal → Type 0
+GoesOnBehind (Ok _) P result = P result
+GoesOnBehind (Err e) P result = result ≡ Err e
+
+-- long files that nobody names are cut by slices first
+abbrev pub IsBehindCuts : {D : Type 0} → Ghosts D → (Result Done Refusal → Type 0)
+    → Result Done Refusal → Type 0
+IsBehindCuts d P result =
+    (came : Result (Unit {0}) Refusal) × AreSlicesAlone d Shorten came × GoesOnBehind came P result
 
 -- by which slices two pairs are read, and a segment
 abbrev pub of_pairs : ℕ → ReadSlices
@@ -104,8 +118,9 @@ abbrev pub IsInSlices : {D : Type 0} → Ghosts D → Sliced → StoreCall → R
     → Type 0
 IsInSlices d (Written slice) call result = IsDataAlone d slice result
 IsInSlices d Placed call result = IsBehindPlaces d call result
-IsInSlices d (PairsRead place) call result = IsReadAlone d (of_pairs place) result
-IsInSlices d SegmentRead call result = IsReadAlone d of_segment result
+IsInSlices d Shortened call result = IsBehindCuts d (IsOneCallAlone d call) result
+IsInSlices d (PairsRead place) call result = IsBehindCuts d (IsReadAlone d (of_pairs place)) result
+IsInSlices d SegmentRead call result = IsBehindCuts d (IsReadAlone d of_segment) result
 
 abbrev pub IsAloneWith : {D : Type 0} → Ghosts D → Option Sliced → StoreCall
     → Result Done Refusal → Type 0
@@ -113,7 +128,8 @@ IsAloneWith d None call result = IsOneCallAlone d call result
 IsAloneWith d (Some sliced) call result = IsInSlices d sliced call result
 
 -- A call alone; but a data file is written by slices, a segment and two pairs are read by slices,
--- and before a manifest is installed the places of its records are put by slices.
+-- and before a manifest is installed the places of its records are put by slices. Before a job
+-- begins, or a file is reclaimed, long files that nobody names are cut by slices.
 abbrev pub IsCallAlone : {D : Type 0} → Ghosts D → Unit {0} → StoreCall → Result Done Refusal
     → Unit {0} → Type 0
 IsCallAlone d _ call result _ = IsAloneWith d (slices_of call) call result

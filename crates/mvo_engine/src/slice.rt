@@ -20,4 +20,6 @@ pub enum Slice {
     CheckpointRead,
     /// What is read and built of it is forgotten.
     CheckpointForget,
+    /// The end of a long file is cut off that nobody names.
+    Shorten,
 }

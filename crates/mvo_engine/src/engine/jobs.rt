@@ -23,7 +23,7 @@ impl<L: Run, D: Disk, G: Gate + Drop> Engine<L, D, G> {
     ghost use Rattle.mvo_store.specs.Wholes.{AreToRefusal, IsCheckpoint, rotation, merge};
     ghost use Rattle.mvo_engine.specs.Jobs.{IsCallAlone, IsInSlices, IsDataAlone, IsBehindPlaces};
     ghost use Rattle.mvo_engine.specs.Jobs.{IsOneCallAlone, AreSlicesAlone, IsSliceAlone, told_of};
-    ghost use Rattle.mvo_engine.specs.Jobs.{IsReadAlone, IsReadOnAlone};
+    ghost use Rattle.mvo_engine.specs.Jobs.{IsReadAlone, IsReadOnAlone, IsBehindCuts};
     ghost use Rattle.mvo_store.specs.declared.call.StoreCall.TheVariants.{Step};
     ghost use Rattle.mvo_store.specs.declared.jobs.due.Due.TheVariants.{Install as InstallDue};
     ghost use Rattle.mvo_store.specs.declared.install.install_step.InstallStep.TheVariants.{Open};
@@ -75,7 +75,8 @@ impl<L: Run, D: Disk, G: Gate + Drop> Engine<L, D, G> {
 
     // A call of the store in a turn of its own, which is given back behind it; but a data file is
     // written by slices, a segment and two pairs are read by slices, and so are the places put
-    // before a manifest is installed, each in a turn of its own.
+    // before a manifest is installed, each in a turn of its own. Before a job begins, and before a
+    // file is reclaimed, long files that nobody names are cut by slices.
     pub(crate) fn call_in_turn<R: Wait>(&self, rt: &R, call: StoreCall) -> Result<Done, Refusal>
         ensures { IsCallAlone D.Disk tt call result tt }
     {
@@ -101,8 +102,9 @@ impl<L: Run, D: Disk, G: Gate + Drop> Engine<L, D, G> {
         match sliced {
             Sliced::Written(slice) => self.data_in_turns(rt, slice),
             Sliced::Placed => self.behind_places(rt, call),
-            Sliced::PairsRead(place) => self.read_in_turns(rt, ReadSlices::of_pairs(place)),
-            Sliced::SegmentRead => self.read_in_turns(rt, ReadSlices::of_segment()),
+            Sliced::Shortened => self.behind_cuts(rt, call),
+            Sliced::PairsRead(place) => self.read_behind_cuts(rt, ReadSlices::of_pairs(place)),
+            Sliced::SegmentRead => self.read_behind_cuts(rt, ReadSlices::of_segment()),
         }
     }
 
@@ -112,6 +114,26 @@ impl<L: Run, D: Disk, G: Gate + Drop> Engine<L, D, G> {
     {
         match self.slices_in_turns(rt, slice) {
             Ok(()) => Ok(Done::Progress(Progress::More)),
+            Err(refusal) => Err(refusal),
+        }
+    }
+
+    // Cuts long files that nobody names, and makes the call.
+    fn behind_cuts<R: Wait>(&self, rt: &R, call: StoreCall) -> Result<Done, Refusal>
+        ensures { IsBehindCuts D.Disk (IsOneCallAlone D.Disk call) result }
+    {
+        match self.slices_in_turns(rt, Slice::Shorten) {
+            Ok(()) => self.one_call_in_turn(rt, call),
+            Err(refusal) => Err(refusal),
+        }
+    }
+
+    // The same, and reads what a job is made of.
+    fn read_behind_cuts<R: Wait>(&self, rt: &R, slices: ReadSlices) -> Result<Done, Refusal>
+        ensures { IsBehindCuts D.Disk (IsReadAlone D.Disk slices) result }
+    {
+        match self.slices_in_turns(rt, Slice::Shorten) {
+            Ok(()) => self.read_in_turns(rt, slices),
             Err(refusal) => Err(refusal),
         }
     }
@@ -230,6 +252,7 @@ fn slices_of(call: StoreCall) -> Option<Sliced>
         StoreCall::Step(Due::Install(InstallStep::Close)) => Some(Sliced::Placed),
         StoreCall::MergeRead(place) => Some(Sliced::PairsRead(place)),
         StoreCall::CheckpointRead => Some(Sliced::SegmentRead),
+        StoreCall::RotateWrite | StoreCall::Reclaim => Some(Sliced::Shortened),
         _ => None,
     }
 }

@@ -42,8 +42,10 @@ const WHOLE: [Line; 15] = [
 ];
 
 /// Behind a rotation, so that the log has a sealed segment.
-const BY_STEPS: [Line; 47] = [
+const BY_STEPS: [Line; 48] = [
     (Store(SliceOf(Slice::Places)), NOTHING_TO_DO),
+    // No file is long that nobody names.
+    (Store(SliceOf(Slice::Shorten)), Ready),
     // A segment is read by slices, of which a checkpoint is to be made, and what is read is
     // forgotten.
     (Store(SliceOf(Slice::CheckpointRead)), NOTHING_TO_DO),
@@ -110,7 +112,7 @@ pub fn do_jobs<L: Run, D: Disk, G: Gate + Drop, R: Abort + Wait>(
     passes: &AtomicU64,
 ) -> Result<(), Refusal> {
     follow_new(rt, alloc, engine, &WHOLE)?;
-    rotate_by_five(rt, engine, passes);
+    rotate_by_six(rt, engine, passes);
     follow_new(rt, alloc, engine, &BY_STEPS)?;
     reclaim_all(rt, engine);
     // Those that are made by hand aren't counted.
@@ -118,16 +120,16 @@ pub fn do_jobs<L: Run, D: Disk, G: Gate + Drop, R: Abort + Wait>(
     Ok(())
 }
 
-// A rotation takes the lock of the store five times: once for each step, and once for the places,
-// of which it puts none.
-fn rotate_by_five<L: Run, D: Disk, G: Gate + Drop, R: Abort + Wait>(
+// A rotation takes the lock of the store six times: once for each step, once for the long files that
+// nobody names, of which there is none, and once for the places, of which it puts none.
+fn rotate_by_six<L: Run, D: Disk, G: Gate + Drop, R: Abort + Wait>(
     rt: &R,
     engine: &Engine<L, D, G>,
     passes: &AtomicU64,
 ) {
     passes.store(0, Ordering::SeqCst);
     same(rt, &installed(engine.rotate(rt)), &Number(6));
-    same(rt, &passes.load(Ordering::SeqCst), &5);
+    same(rt, &passes.load(Ordering::SeqCst), &6);
 }
 
 // There is an end to what is emptied.
