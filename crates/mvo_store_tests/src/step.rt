@@ -55,6 +55,8 @@ pub(crate) enum Step {
     /// The step of a job that comes next, that of a merge first.
     Due,
     Reclaim,
+    /// Cuts the end of a long file off that nobody names.
+    Shorten,
 }
 
 /// The steps of jobs that run.
@@ -172,6 +174,7 @@ impl Step {
             Step::MergeInSlices(place) => installed(merge_in_slices(store, place)),
             Step::Due => due(store),
             Step::Reclaim => emptied(store.reclaim()),
+            Step::Shorten => written(store.shorten_slice()),
             step => step.of_job(store),
         })
     }
