@@ -151,16 +151,31 @@ module _ {D : Type 0} (d : Ghosts D) (old new : D) (m : ManifestData) (rows : Ma
         durable = λ n used. synced.durable n (used_below m was.own.is n used) used;
       }
 
-  opened_with : HaveReadings (d.content new) m places.at no_jobs → IsUp d opened_store rows
-  opened_with reading =
+  pub opened_up : IsUp d opened_store rows
+  opened_up =
       let log = loaded.log.last in
       let rows_are = loaded.log.rows_are ∙ ap (after_groups (rows_of loaded.lives)) log.all in
       let are : HavePlacesSoFar m.pairs loaded.lives no_jobs places.at = record { at = places.at; are = have.are loaded.lives loaded.live; so_far = refl } in
       let known = known_stays (d.content old) (d.content new) m 1024 marks (λ n _. ap is_old (synced.content n)) knows in
-      search (rules, arith, settled_opened, known, log.mark_is, log.stands, log.few, synced.count)
-
-  pub opened_up : IsUp d opened_store rows
-  opened_up = opened_with (no_readings (d.content new) m places.at)
+      record {
+        up = refl;
+        parts = parts_loaded (d.content old) m rows mark gate loaded;
+        settled = settled_opened;
+        rows_are = rows_are;
+        mark_is = log.mark_is;
+        marks = known;
+        last = is;
+        gate = log.stands.place;
+        few = log.few;
+        pending = tt;
+        written = λ e. absurd (cc e);
+        jobs = tt;
+        apart = tt;
+        reading = no_readings (d.content new) m places.at;
+        places = are;
+        room_for = tt;
+        room = omega (arith, synced.count, few);
+      }
 
   pub opened_keeps : HasSlots (d.content old) → KeepsRows d opened_store rows
   opened_keeps slots = up_keeps d opened_store rows opened_up (slots_as (d.content old) (d.content new) (synced.content 0) (synced.content 1) slots)

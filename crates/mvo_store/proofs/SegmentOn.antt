@@ -162,7 +162,6 @@ module _ (m : ManifestData) (ready : MayReadCheckpoint m) (at : PlaceMap) (conte
   pub turn_never : SegmentHas LAST_FORMAT.version (oldest_file m) m.checkpoint_mark Sealed (content (oldest_file m)) (Err e) → IsStoppedBeside content may m at e
   turn_never says x settled are = absurd (read_never content may m x settled ready.sealed e (says, λ z is. has_only LAST_FORMAT.version (oldest_file m) m.checkpoint_mark Sealed (content (oldest_file m)) (Err e) z says is))
 
-
 pub turn_stops : (m : ManifestData) (ready : MayReadCheckpoint m) (at : PlaceMap) (content : Image) (may : ℕ → List ℕ → Type 0) (r : Result (Unit {0}) Refusal) → IfErr r (λ e. SegmentHas LAST_FORMAT.version (oldest_file m) m.checkpoint_mark Sealed (content (oldest_file m)) (Err e)) → IfErr r (IsStoppedBeside content may m at)
 turn_stops m ready at content may (Ok a) says = tt
 turn_stops m ready at content may (Err e) says = turn_never m ready at content may e says

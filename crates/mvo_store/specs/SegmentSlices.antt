@@ -21,7 +21,8 @@ use Rattle.mvo_store.specs.Safe.{IsSafeCheckpoint}
 use Rattle.mvo_store.specs.SegmentRead.{oldest_file, MayBeRead, IsReadOf, IsNextRead, IsBeingBuilt, IsBeingBuiltOf}
 use Rattle.mvo_store.specs.Steps.{IsPlannedRead}
 
--- of some groups, of which this is made beside some places, a checkpoint may be made up to this mark
+-- of some groups, of which this is made beside some places, a checkpoint may be made up to this
+-- mark
 abbrev pub MayPlanOf : ManifestData → ℕ → BuiltCheckpoint → Type 0
 MayPlanOf m mark made = (at : PlaceMap) × (groups : List GroupData) × MayPlan m groups mark
     × IsBuiltCheckpointOf at m.pairs groups made

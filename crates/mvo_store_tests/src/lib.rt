@@ -42,6 +42,8 @@ mod reply;
 #[cfg(test)]
 mod runs;
 #[cfg(test)]
+mod segments;
+#[cfg(test)]
 mod slices;
 #[cfg(test)]
 mod spent;

@@ -207,8 +207,8 @@ fn end_building(
     }
 }
 
-/// Reads or builds the next slice, or plans the checkpoint behind all. Refused, it is as it was, but
-/// for want of memory while its pair is built: then it is let go.
+/// Reads or builds the next slice, or plans the checkpoint behind all. Refused, it is as it was,
+/// but for want of memory while its pair is built: then it is let go.
 fn read_next<D: Disk>(
     alloc: Global,
     disk: &mut D,
