@@ -1,6 +1,6 @@
 -- A store keeps its rows over a step, and each slot its gate. What each way through a call comes to, where no cause of a refusal stands.
-use Rattle.std.proofs.Common.{◌≡◌, ◌≢◌, inl, inr, ℕ, ◌<◌, ◌≤◌, true, false, List, [], Option, Some, None, sym, subst, ◌∙◌, arith, ◌&&◌, ⊎_elim, length, refl, ◌+◌, ◌^◌, Ok, Err, Bool}
-use Rattle.std.specs.Prelude.{⊤}
+use Rattle.std.proofs.Common.{◌≡◌, ◌≢◌, inl, inr, ℕ, ◌<◌, ◌≤◌, true, false, List, [], ◌∷◌, Option, Some, None, sym, subst, ◌∙◌, arith, ◌&&◌, ⊎_elim, length, refl, ◌+◌, ◌^◌, Ok, Err, Bool}
+use Rattle.std.specs.Prelude.{⊤, not}
 use Rattle.std.proofs.lemmas.Bool.{cases_eq}
 use Rattle.mvo_types.specs.Keys.{Map}
 use Rattle.mvo_disk.specs.declared.disk.Disk.{Ghosts}
@@ -23,7 +23,8 @@ use Rattle.mvo_store.specs.Writing.{StillGives}
 use Rattle.mvo_store.specs.Safe.{IsSafe, AreSafe, IsStoreSound}
 use Rattle.mvo_types.specs.declared.limits.TheConstants.{MAX_SEGMENTS}
 use Rattle.mvo_types.specs.declared.refusal.Refusal.{Refusal}
-use Rattle.mvo_types.specs.declared.refusal.Refusal.TheVariants.{DiskFault, OutOfMemory}
+use Rattle.mvo_types.specs.declared.refusal.Refusal.TheVariants.{DiskFault, OutOfMemory, Down, NothingToDo, Busy}
+use Rattle.mvo_types.specs.Causes.{when, first_cause}
 use Rattle.mvo_format.specs.declared.header.TheConstants.{HEADER_LEN}
 use Rattle.mvo_store.specs.declared.limits.TheConstants.{MAX_GENERATION}
 use Rattle.mvo_store.specs.declared.install.install_step.InstallStep.TheVariants.{Open}
@@ -187,6 +188,15 @@ may_step step s e = grind arith
 -- the gate of a manifest may be opened
 pub may_open : {D : Type 0} (s : StoreData D) → why_not_install_open s ≡ None → (is_step_due (Install Open) s.jobs ≡ true) × ((s.written && has_rotation s.jobs) ≡ false)
 may_open s e = grind arith
+
+-- what refuses its step refuses it first
+first_two_of : (a b c : Bool) (x y z r : Refusal) → first_cause (when a x ∷ when b y ∷ []) ≡ Some r → first_cause (when a x ∷ when b y ∷ when c z ∷ []) ≡ Some r
+first_two_of true b c x y z r e = e
+first_two_of false true c x y z r e = e
+first_two_of false false c x y z r e = absurd (cc e)
+
+pub due_first : {D : Type 0} (s : StoreData D) (r : Refusal) → why_not_due (Install Open) s ≡ Some r → why_not_install_open s ≡ Some r
+due_first s r e = first_two_of s.down (not (is_step_due (Install Open) s.jobs)) (s.written && has_rotation s.jobs) Down NothingToDo Busy r e
 
 -- the last file of a merge may be written
 pub may_end : {D : Type 0} (s : StoreData D) → why_not_merge_delta s ≡ None → (is_step_due MergeDelta s.jobs ≡ true) × (has_checkpoint s.jobs ≡ false)

@@ -1,6 +1,6 @@
 -- A segment that is read in slices, and its pair that is built in slices: what a slice makes of them.
 use Rattle.std.proofs.Common.{◌≡◌, ◌⊎◌, inl, inr, ⊎_elim, ℕ, ◌+◌, ◌<◌, ◌≤◌, List, length, get_or, Option, Some, None, Result, Ok, Err, refl, sym, ap, subst, ◌∙◌}
-use Rattle.std.specs.Prelude.{OnErr, IfErr}
+use Rattle.std.specs.Prelude.{OnOk, OnErr, IfErr}
 use Rattle.mvo_types.specs.declared.ids.Stamp.{Stamp}
 use Rattle.mvo_types.specs.declared.refusal.Refusal.{Refusal}
 use Rattle.mvo_types.specs.declared.refusal.Refusal.TheVariants.{OutOfMemory}
@@ -23,17 +23,21 @@ use Rattle.mvo_recovery.specs.image.Opens.{Image}
 use Rattle.mvo_recovery.specs.Parts.{Parts}
 use Rattle.mvo_recovery.specs.Settled.{IsSettled}
 use Rattle.mvo_load.specs.Framed.{IsFramedTo, IsAllFramed, IsStopOrOnly}
-use Rattle.mvo_load.specs.Read.{IsMisread}
+use Rattle.mvo_load.specs.Read.{IsMisread, IsDiskUnchanged, HasRead}
+use Rattle.mvo_disk.specs.declared.disk.Disk.{Ghosts}
+use Rattle.mvo_pair.specs.Answers.{IsOnly}
+use Rattle.mvo_recovery.specs.image.Files.{SegmentIs}
+use Rattle.mvo_frame.proofs.Slices.{has_only}
 use Rattle.mvo_load.proofs.Framed.{told_only}
 use Rattle.mvo_store.specs.declared.checkpoint.checkpointing.Checkpointing.{Checkpointing}
 use Rattle.mvo_store.specs.declared.checkpoint.checkpoint_job.CheckpointJob.{CheckpointJob}
-use Rattle.mvo_store.specs.declared.checkpoint.checkpoint_job.CheckpointJob.TheVariants.{Reading as Reads}
+use Rattle.mvo_store.specs.declared.checkpoint.checkpoint_job.CheckpointJob.TheVariants.{Reading as Reads, Running as Runs}
 use Rattle.mvo_store.specs.declared.checkpoint.reading.CheckpointReading.{CheckpointReading}
 use Rattle.mvo_store.specs.declared.checkpoint.reading.CheckpointReading.TheVariants.{Frames, Whole, Pair}
 use Rattle.mvo_store.specs.Planning.{MayPlan, CountsFit, IsPlanRefusal, IsPlanned, IsNewCheckpoint, IsReadCheckpoint, IsStoppedBeside}
 use Rattle.mvo_store.specs.SegmentRead.{oldest_file, MayReadCheckpoint, IsFramesRead, IsWholeRead, IsPairBuilt, IsWholeOf, IsPairOf, IsSafeSegmentRead, IsSegmentRead}
-use Rattle.mvo_store.specs.SegmentSlices.{MayPlanOf, IsSegmentFurther, IsSegmentPlanned, IsKeptOrLetGo}
-use Rattle.mvo_store.proofs.Checkpoints.{may_plan_of, safe_planned, read_to, counts_are, read_stands, read_never, plan_why, plan_stop}
+use Rattle.mvo_store.specs.SegmentSlices.{MayPlanOf, IsEndedPlan, IsEndedPlanTo, IsSegmentFurther, IsSegmentPlanned, IsSegmentSliceTo, IsKeptOrLetGo}
+use Rattle.mvo_store.proofs.Checkpoints.{may_plan_of, safe_planned, read_to, counts_are, read_stands, read_never, plan_why, plan_stop, plan_count}
 
 -- ---- a refusal of what the segment of a settled manifest holds
 
@@ -103,49 +107,61 @@ module _ (m : ManifestData) (is : IsManifest m) (ready : MayReadCheckpoint m) (a
   pub may_plan_made : IsPairBuilt m at mark.0 (Ready made) → MayPlanOf m mark.0 made
   may_plan_made h = (at, h.groups, may_plan h, h.built)
 
-  module _ (h : IsPairBuilt m at mark.0 (Ready made)) (taken : List ℕ) (c : Checkpointing) (planned : (at : PlaceMap) (groups : List GroupData) → IsBuiltCheckpointOf at m.pairs groups made → IsPlanned m taken at groups mark.0 c) (honest : Type 0) (content : Image) (may : ℕ → List ℕ → Type 0)
-      (of : honest → IsPairOf m at (content (oldest_file m)) mark.0 (Ready made)) (room : ℕ) (fits : length c.made.records ≤ room) where
+  module _ (h : IsPairBuilt m at mark.0 (Ready made)) (taken : List ℕ) (c : Checkpointing) (room : ℕ) (ended : IsEndedPlan m taken room mark.0 made c) (honest : Type 0) (content : Image) (may : ℕ → List ℕ → Type 0)
+      (of : honest → IsPairOf m at (content (oldest_file m)) mark.0 (Ready made)) where
     has_groups : (now : honest) → MayPlan m (of now).groups mark.0
     has_groups now = may_plan_of m is ready (of now).groups mark.0 (content (oldest_file m), (of now).has) (of now).mark_is
 
     pub planned_segment : IsSegmentPlanned honest content may m at room taken (Pair mark (Ready made)) c
     planned_segment =
-        let p = planned at h.groups h.built in
+        let p = ended.planned at h.groups h.built in
         record {
           read = record {
             all = tt;
             some = read_to ⊥ content m h.groups mark.0 (may_plan h) h.mark_is (λ never. absurd never) taken c p.plan;
-            has = λ now. read_to (Unit {0}) content m (of now).groups mark.0 (has_groups now) (of now).mark_is (λ _. (of now).has) taken c (planned at (of now).groups (of now).built).plan;
+            has = λ now. read_to (Unit {0}) content m (of now).groups mark.0 (has_groups now) (of now).mark_is (λ _. (of now).has) taken c (ended.planned at (of now).groups (of now).built).plan;
           };
           safe = safe_planned m h.groups mark.0 (may_plan h) taken c p.plan p.known;
-          fits = fits;
-          stands = λ now x settled are. read_stands content may m x settled ready.sealed (of now).groups (segment_only (of now).groups (of now).has) at are mark.0 (of now).mark_is (has_groups now) taken c (planned at (of now).groups (of now).built);
+          fits = ended.fits;
+          stands = λ now x settled are. read_stands content may m x settled ready.sealed (of now).groups (segment_only (of now).groups (of now).has) at are mark.0 (of now).mark_is (has_groups now) taken c (ended.planned at (of now).groups (of now).built);
         }
       where
-        segment_only : (groups : List GroupData) → IsSegment LAST_FORMAT.version m.checkpoint_mark Sealed groups (content (oldest_file m)) → Rattle.mvo_pair.specs.Answers.IsOnly (Rattle.mvo_recovery.specs.image.Files.SegmentIs LAST_FORMAT.version (oldest_file m) m.checkpoint_mark Sealed (content (oldest_file m))) (Ok groups)
-        segment_only groups has = (has, λ z says. Rattle.mvo_frame.proofs.Slices.has_only LAST_FORMAT.version (oldest_file m) m.checkpoint_mark Sealed (content (oldest_file m)) (Ok groups) z has says)
+        segment_only : (groups : List GroupData) → IsSegment LAST_FORMAT.version m.checkpoint_mark Sealed groups (content (oldest_file m)) → IsOnly (SegmentIs LAST_FORMAT.version (oldest_file m) m.checkpoint_mark Sealed (content (oldest_file m))) (Ok groups)
+        segment_only groups has = (has, λ z says. has_only LAST_FORMAT.version (oldest_file m) m.checkpoint_mark Sealed (content (oldest_file m)) (Ok groups) z has says)
+
+  -- so it is of whichever comes
+  module _ (h : IsPairBuilt m at mark.0 (Ready made)) (taken : List ℕ) (room : ℕ) (honest : Type 0) (content : Image) (may : ℕ → List ℕ → Type 0) (of : honest → IsPairOf m at (content (oldest_file m)) mark.0 (Ready made)) where
+    ended_slice : (j : CheckpointJob) → IsEndedPlanTo m taken room mark.0 made j → IsSegmentSliceTo honest content may m at room taken (Pair mark (Ready made)) (Some j)
+    ended_slice (Reads r) e = absurd e
+    ended_slice (Runs c) e = planned_segment h taken c room e honest content may of
+
+    pub ended_done : (j : CheckpointJob) (r : Result (Unit {0}) Refusal) → OnOk r (IsEndedPlanTo m taken room mark.0 made j) → OnOk r (IsSegmentSliceTo honest content may m at room taken (Pair mark (Ready made)) (Some j))
+    ended_done j (Ok a) e = ended_slice j e
+    ended_done j (Err k) e = tt
 
   -- what refuses it
-  pub plan_why_made : (h : IsPairBuilt m at mark.0 (Ready made)) (e : Refusal) → ((at : PlaceMap) (groups : List GroupData) → IsBuiltCheckpointOf at m.pairs groups made → IsPlanRefusal (CountsFit m at groups) e) → (e ≡ OutOfMemory) ⊎ IsMisread e
-  plan_why_made h e refused = ⊎_elim (λ memory. inl memory) (λ broken. inr broken.0) (refused at h.groups h.built)
+  abbrev pub RefusesPlan : Result (Unit {0}) Refusal → Type 0
+  RefusesPlan r = (at : PlaceMap) (groups : List GroupData) → IsBuiltCheckpointOf at m.pairs groups made → IfErr r (IsPlanRefusal (CountsFit m at groups))
 
-  pub plan_stop_made : (content : Image) (may : ℕ → List ℕ → Type 0) → IsPairOf m at (content (oldest_file m)) mark.0 (Ready made) → (e : Refusal) → ((at : PlaceMap) (groups : List GroupData) → IsBuiltCheckpointOf at m.pairs groups made → IsPlanRefusal (CountsFit m at groups) e) → IsStoppedBeside content may m at e
-  plan_stop_made content may of e refused x settled are = plan_stop _ e (counts_are content may m x settled ready.sealed at are of.groups) (refused at of.groups of.built)
+  pub ended_why : IsPairBuilt m at mark.0 (Ready made) → (r : Result (Unit {0}) Refusal) → RefusesPlan r → IfErr r (λ e. IsStop e ⊎ IsMisread e)
+  ended_why h (Ok a) refused = tt
+  ended_why h (Err e) refused = plan_why _ e (refused at h.groups h.built)
+
+  pub ended_stop : (content : Image) (may : ℕ → List ℕ → Type 0) → IsPairOf m at (content (oldest_file m)) mark.0 (Ready made) → (r : Result (Unit {0}) Refusal) → RefusesPlan r → IfErr r (IsStoppedBeside content may m at)
+  ended_stop content may of (Ok a) refused = tt
+  ended_stop content may of (Err e) refused = λ x settled are. plan_stop _ e (counts_are content may m x settled ready.sealed at are of.groups) (refused at of.groups of.built)
+
+  -- no call of the device was made
+  pub ended_read : {D : Type 0} (d : Ghosts D) (disk : D) → IsDiskUnchanged d disk disk → IsPairBuilt m at mark.0 (Ready made) → (r : Result (Unit {0}) Refusal) → RefusesPlan r → HasRead d disk disk r
+  ended_read d disk u h (Ok a) refused = record { rest = u.rest; any_moment = u.any_moment; count = u.count }
+  ended_read d disk u h (Err e) refused = record { rest = u.rest; any_moment = u.any_moment; count = plan_count _ (d.fault_count disk) (d.fault_count disk) e u.count (refused at h.groups h.built) }
 
 -- ---- refusals of the stages
 
 module _ (m : ManifestData) (ready : MayReadCheckpoint m) (at : PlaceMap) (content : Image) (may : ℕ → List ℕ → Type 0) (e : Refusal) where
   pub turn_never : SegmentHas LAST_FORMAT.version (oldest_file m) m.checkpoint_mark Sealed (content (oldest_file m)) (Err e) → IsStoppedBeside content may m at e
-  turn_never says x settled are = absurd (read_never content may m x settled ready.sealed e (says, λ z is. Rattle.mvo_frame.proofs.Slices.has_only LAST_FORMAT.version (oldest_file m) m.checkpoint_mark Sealed (content (oldest_file m)) (Err e) z says is))
+  turn_never says x settled are = absurd (read_never content may m x settled ready.sealed e (says, λ z is. has_only LAST_FORMAT.version (oldest_file m) m.checkpoint_mark Sealed (content (oldest_file m)) (Err e) z says is))
 
-  pub memory_stops : e ≡ OutOfMemory → IsStoppedBeside content may m at e
-  memory_stops is x settled are = inl is
-
--- a stage that was refused is as it was
-pub kept_reading : (old new : CheckpointReading) (r : Result (Unit {0}) Refusal) → OnErr r (new ≡ old) → IfErr r (λ e. IsKeptOrLetGo e old (Some (Reads new)))
-kept_reading old new (Ok a) same = tt
-kept_reading old new (Err e) same = ap (λ (k : CheckpointReading). Reads k) same
-
-pub kept_job : (old : CheckpointReading) (new : CheckpointJob) (r : Result (Unit {0}) Refusal) → OnErr r (new ≡ Reads old) → IfErr r (λ e. IsKeptOrLetGo e old (Some new))
-kept_job old new (Ok a) same = tt
-kept_job old new (Err e) same = same
+pub turn_stops : (m : ManifestData) (ready : MayReadCheckpoint m) (at : PlaceMap) (content : Image) (may : ℕ → List ℕ → Type 0) (r : Result (Unit {0}) Refusal) → IfErr r (λ e. SegmentHas LAST_FORMAT.version (oldest_file m) m.checkpoint_mark Sealed (content (oldest_file m)) (Err e)) → IfErr r (IsStoppedBeside content may m at)
+turn_stops m ready at content may (Ok a) says = tt
+turn_stops m ready at content may (Err e) says = turn_never m ready at content may e says

@@ -32,7 +32,7 @@ use Rattle.mvo_store.specs.Placing.{places_so_far, HavePlacesSoFar}
 use Rattle.mvo_store.specs.Safe.{IsSafeWork, AreSafe, IsStoreSound}
 use Rattle.mvo_store.specs.Standing.{IsRunning, HaveJobs, ShareNone, JobsHaveRoom, JobHasRoom, IsUp}
 use Rattle.mvo_store.specs.Steps.{ComesOfSegment, IsSegmentReadOn, IsBegunSegment, IsPlannedRead}
-use Rattle.mvo_store.specs.Calls.{StoreStep, HasBegunSegment, HasReadSegmentOn, HasLetGo, IsStoreStep}
+use Rattle.mvo_store.specs.Calls.{StoreStep, HasBegunSegment, HasReadSegmentOn, HasLetPairGo, IsStoreStep}
 use Rattle.mvo_store.specs.Calls.StoreStep.{CheckpointBegin, CheckpointReadOn, CheckpointForget}
 use Rattle.mvo_store.proofs.Keeping.{OnlyNow, CountsNow, Begins, none_keeps_checkpoint, may_read, may_read_segment, stays_up, stays_safe, slots_as, still_leaves, all_others, looked_step, done_step}
 use Rattle.mvo_store.proofs.Turning.{is_segment, begins_beside_merge}
@@ -242,8 +242,8 @@ module _ {D : Type 0} {d : Ghosts D} {s : StoreData D} {call : StoreStep} (b : B
   abbrev left : Jobs
   left = Beside None g
 
-  abbrev without : Jobs → StoreData D
-  without k = record s { disk = new; jobs = k }
+  abbrev left_with : Jobs → StoreData D
+  left_with k = record s { disk = new; jobs = k }
 
   left_is : left ≡ without_segment_read s.jobs
   left_is = sym (ap without_segment_read is)
@@ -251,7 +251,7 @@ module _ {D : Type 0} {d : Ghosts D} {s : StoreData D} {call : StoreStep} (b : B
   same_left : reading_of left ≡ reading_of s.jobs
   same_left = beside_reads None (Some (Reads r)) g ∙ sym (ap reading_of is)
 
-  left_up : (rows : Map) → IsUp d s rows → IsUp d (without left) rows
+  left_up : (rows : Map) → IsUp d s rows → IsUp d (left_with left) rows
   left_up rows up = looked_up b new rest rows up s.places left
       (same_changes s.manifest.pairs up.parts.lives s.jobs left s.places.at (λ at. ap (λ (k : Jobs). places_so_far (next_installed k) at) (sym is)) up.places)
       (subst (JobsHaveRoom s.places) is up.room_for)
@@ -259,8 +259,8 @@ module _ {D : Type 0} {d : Ghosts D} {s : StoreData D} {call : StoreStep} (b : B
       (record { pairs = subst (HasReading (d.content s.disk) s.manifest) (sym same_left) up.reading.pairs; segment = tt }) count
 
   -- THE STORE IS SOUND without it.
-  pub left_sound : IsStoreSound d (without (without_segment_read s.jobs))
-  left_sound = subst (λ (k : Jobs). IsStoreSound d (without k)) left_is (record {
+  pub left_sound : IsStoreSound d (left_with (without_segment_read s.jobs))
+  left_sound = subst (λ (k : Jobs). IsStoreSound d (left_with k)) left_is (record {
     safe = stays_safe b.sound.safe new s.places left (subst (AreSafe s.manifest) is b.sound.safe.jobs) (share_merge g)
         (record { pairs = subst (IsSafeReading s.manifest) (sym same_left) b.sound.safe.reading.pairs; segment = tt }) (subst (JobsHaveRoom s.places) is b.sound.safe.room_for) count;
     up = λ honest. let now = b.sound.up (any_moment.later.honest honest) in (now.0, left_up now.0 now.1);

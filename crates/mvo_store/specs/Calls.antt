@@ -317,7 +317,7 @@ pub record HasLooked {D : Type 0} (d : Ghosts D) (old new : StoreData D) : Type 
   pub no_fault : HasNoFault d old new
 
 -- The pair of the checkpoint was being built, and is let go: no checkpoint runs any more.
-pub record HasLetGo {D : Type 0} (d : Ghosts D) (old new : StoreData D) : Type 0 where
+pub record HasLetPairGo {D : Type 0} (d : Ghosts D) (old new : StoreData D) : Type 0 where
   pub was : IsBeingBuiltOf (segment_read_of old.jobs)
   pub after : new ≡ record old { disk = new.disk; jobs = without_segment_read old.jobs }
   pub no_fault : HasNoFault d old new
@@ -331,7 +331,7 @@ LeftByMemory d (Call (Step MergeDelta)) old new = HasLooked d old new
 LeftByMemory d (MergeBegin place) old new = HasLooked d old new
 LeftByMemory d MergeReadOn old new = HasLooked d old new
 LeftByMemory d CheckpointBegin old new = HasLooked d old new
-LeftByMemory d CheckpointReadOn old new = HasLooked d old new ⊎ HasLetGo d old new
+LeftByMemory d CheckpointReadOn old new = HasLooked d old new ⊎ HasLetPairGo d old new
 LeftByMemory d call old new = new ≡ old
 
 -- A file came back otherwise than it was written: the store is down, and nothing else of it has

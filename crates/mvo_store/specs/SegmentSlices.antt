@@ -16,17 +16,30 @@ use Rattle.mvo_store.specs.declared.merge.merge_job.MergeJob.{MergeJob}
 use Rattle.mvo_store.specs.declared.jobs.jobs.Jobs.{Jobs}
 use Rattle.mvo_store.specs.declared.jobs.jobs.Jobs.TheVariants.{Beside}
 use Rattle.mvo_store.specs.Jobs.{segment_read_of, without_segment_read}
-use Rattle.mvo_store.specs.Planning.{MayPlan, IsReadCheckpoint}
+use Rattle.mvo_store.specs.Planning.{MayPlan, IsPlanned, IsReadCheckpoint}
 use Rattle.mvo_store.specs.Safe.{IsSafeCheckpoint}
 use Rattle.mvo_store.specs.SegmentRead.{oldest_file, MayBeRead, IsReadOf, IsNextRead, IsBeingBuilt, IsBeingBuiltOf}
 use Rattle.mvo_store.specs.Steps.{IsPlannedRead}
 
--- of some groups, of which this is made beside some places, a checkpoint may be made up to this mark
+-- of some groups, of which this is made beside some places, a checkpoint may be made up to this
+-- mark
 abbrev pub MayPlanOf : ManifestData → ℕ → BuiltCheckpoint → Type 0
 MayPlanOf m mark made = (at : PlaceMap) × (groups : List GroupData) × MayPlan m groups mark
     × IsBuiltCheckpointOf at m.pairs groups made
 
 -- ---- what a slice comes to
+
+-- The checkpoint is planned of what is made, whatever groups that is of, and there is room for its
+-- places.
+pub record IsEndedPlan (m : ManifestData) (taken : List ℕ) (room mark : ℕ) (made : BuiltCheckpoint)
+    (c : Checkpointing) : Type 0 where
+  pub planned : (at : PlaceMap) (groups : List GroupData) →
+      IsBuiltCheckpointOf at m.pairs groups made → IsPlanned m taken at groups mark c
+  pub fits : length c.made.records ≤ room
+
+abbrev pub IsEndedPlanTo : ManifestData → List ℕ → ℕ → ℕ → BuiltCheckpoint → CheckpointJob → Type 0
+IsEndedPlanTo m taken room mark made (Reads r) = ⊥
+IsEndedPlanTo m taken room mark made (Runs c) = IsEndedPlan m taken room mark made c
 
 -- It is read or built further, and is safe and stands as it did.
 pub record IsSegmentFurther (honest : Type 0) (bytes : List ℕ) (m : ManifestData) (at : PlaceMap)

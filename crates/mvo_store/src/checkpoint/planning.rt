@@ -97,8 +97,8 @@ fn checkpointed(
 }
 
 /// A checkpoint of which this is made, up to a mark, where another job has taken the files of this
-/// pair. Refused, what is made comes back: OutOfMemory, or Corrupt with the delta file of a pair that
-/// would gain more numbers than its count can say.
+/// pair. Refused, what is made comes back: OutOfMemory, or Corrupt with the delta file of a pair
+/// that would gain more numbers than its count can say.
 pub fn planned_of(
     alloc: Global,
     manifest: &Manifest,

@@ -2,6 +2,8 @@
 ghost use Rattle.std.specs.Prelude.{◌≡◌, ◌⊎◌, ◌<◌, ◌+◌, ◌^◌, true, List, ℕ};
 ghost use Rattle.std.specs.Prelude.{IfOk, IfErr, OnOk, OnErr};
 ghost use Rattle.mvo_disk.specs.Disk.{IsHonest};
+ghost use Rattle.mvo_group.specs.Data.{GroupData};
+ghost use Rattle.mvo_ckpt.specs.Building.{IsBuiltCheckpointOf};
 ghost use Rattle.mvo_format.specs.declared.format.TheConstants.{LAST_FORMAT};
 ghost use Rattle.mvo_ckpt.specs.declared.building.Built.TheVariants.{More, Ready};
 ghost use Rattle.mvo_frame.specs.Slices.{IsReadTo, SegmentHas};
@@ -13,13 +15,13 @@ ghost use Rattle.mvo_store.specs.declared.checkpoint.checkpoint_job.CheckpointJo
 ghost use Rattle.mvo_store.specs.declared.checkpoint.reading.CheckpointReading.TheVariants.{Frames, Whole, Pair as PairRead};
 ghost use Rattle.mvo_store.specs.Files.{files_taken};
 ghost use Rattle.mvo_store.specs.Jobs.{is_segment_read, segment_read_of};
-ghost use Rattle.mvo_store.specs.Planning.{IsStoppedBeside};
+ghost use Rattle.mvo_store.specs.Planning.{CountsFit, IsPlanRefusal, IsStoppedBeside};
 ghost use Rattle.mvo_store.specs.SegmentRead.{oldest_file, MayReadCheckpoint, IsFramesRead};
 ghost use Rattle.mvo_store.specs.SegmentRead.{IsWholeRead, IsPairBuilt, MayBeRead};
 ghost use Rattle.mvo_store.specs.SegmentRead.{IsSafeSegmentRead, AreSafeSegmentRead, IsWholeOf};
 ghost use Rattle.mvo_store.specs.SegmentRead.{IsPairOf, IsReadOf, IsSegmentRead, HasSegmentRead};
 ghost use Rattle.mvo_store.specs.SegmentRead.{IsSegmentBegun, IsNextRead};
-ghost use Rattle.mvo_store.specs.SegmentSlices.{IsSegmentFurther, IsSegmentSlice};
+ghost use Rattle.mvo_store.specs.SegmentSlices.{IsSegmentFurther, IsEndedPlanTo};
 ghost use Rattle.mvo_store.specs.SegmentSlices.{IsSegmentSliceTo, IsKeptOrLetGo};
 ghost use Rattle.mvo_store.specs.SegmentSlices.{AreSegmentReadTo, AreKeptOrLetGo};
 
@@ -171,17 +173,14 @@ fn end_building(
 ) -> (CheckpointJob, Result<(), Refusal>)
     requires may { MayReadCheckpoint manifest.now }
     requires built { IsPairBuilt manifest.now places.old.at mark.0 (Ready made) }
-    ensures done { (honest : Type 0) (content : Image) (may : ℕ → List ℕ → Type 0) →
-        (honest → IsPairOf manifest.now places.old.at (content (oldest_file manifest.now)) mark.0
-        (Ready made)) → OnOk result.1 (IsSegmentSlice honest content may manifest.now
-        places.old.at places.new.room (files_taken other) (PairRead mark (Ready made)) result.0) }
+    ensures done { OnOk result.1 (IsEndedPlanTo manifest.now (files_taken other) places.new.room
+        mark.0 made result.0) }
     ensures err { OnErr result.1 (result.0 ≡ Reads (PairRead mark (Ready made))) }
     ensures same { OnErr result.1 (places.new ≡ places.old) }
     ensures places { places.new.at ≡ places.old.at }
-    ensures why { IfErr result.1 (λ e. (e ≡ OutOfMemory) ⊎ IsMisread e) }
-    ensures stop { (content : Image) (may : ℕ → List ℕ → Type 0) →
-        IsPairOf manifest.now places.old.at (content (oldest_file manifest.now)) mark.0
-        (Ready made) → IfErr result.1 (IsStoppedBeside content may manifest.now places.old.at) }
+    ensures refused { (at : PlaceMap) (groups : List GroupData) →
+        IsBuiltCheckpointOf at manifest.now.pairs groups made →
+        IfErr result.1 (IsPlanRefusal (CountsFit manifest.now at groups)) }
 {
     // A look: from then on the proof knows that the manifest keeps its rules.
     let _generation = manifest.generation();
@@ -208,8 +207,8 @@ fn end_building(
     }
 }
 
-/// Reads or builds the next slice, or plans the checkpoint behind all. Refused, it is as it was, but
-/// for want of memory while its pair is built: then it is let go.
+/// Reads or builds the next slice, or plans the checkpoint behind all. Refused, it is as it was,
+/// but for want of memory while its pair is built: then it is let go.
 fn read_next<D: Disk>(
     alloc: Global,
     disk: &mut D,
@@ -233,6 +232,8 @@ fn read_next<D: Disk>(
         (D.content disk.old) (D.may_leave disk.old) manifest.now places.old.at) }
     ensures read { HasRead D.Disk disk.old disk.new result.1 }
 {
+    // A look: from then on the proof knows that the manifest keeps its rules.
+    let _generation = manifest.generation();
     match reading {
         CheckpointReading::Frames(reader) => {
             let (reading, read) = read_slice(alloc, disk, manifest, reader);

@@ -1,4 +1,4 @@
-use Rattle.std.proofs.Common.{◌≡◌, ◌⊎◌, ◌×◌, ◌∙◌, inl, inr, refl, sym, ap, subst, Result, Ok, Err, Some}
+use Rattle.std.proofs.Common.{◌≡◌, ◌⊎◌, ◌∙◌, inl, inr, refl, sym, ap, subst, Result, Ok, Err, Some}
 use Rattle.std.specs.Prelude.{IfErr, OnOk, OnErr}
 use Rattle.mvo_types.specs.declared.refusal.Refusal.{Refusal}
 use Rattle.mvo_types.specs.declared.refusal.Refusal.TheVariants.{OutOfMemory}
