@@ -19,7 +19,7 @@ use mvo_places::Places;
 use std::alloc::{AllocError, Global};
 
 /// How many writes a slice of a checkpoint's building is to take.
-pub const SLICE_WRITES: usize = 16_384;
+pub const SLICE_WRITES: usize = 2_048;
 
 /// What a checkpoint writes, as far as it is built: the writes of the groups are taken from the
 /// last to the first, and then the pairs get the numbers that their delta files gain, in their

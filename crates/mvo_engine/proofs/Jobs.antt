@@ -12,7 +12,7 @@ use Rattle.mvo_store.specs.declared.done.Done.TheVariants.{Installed}
 use Rattle.mvo_store.specs.Wholes.{AreToRefusal, IsCheckpoint, install, rotation, merge}
 use Rattle.mvo_store.proofs.Taken.{IsQuiet}
 use Rattle.mvo_engine.specs.declared.slice.Slice.{Slice}
-use Rattle.mvo_engine.specs.declared.slice.Slice.TheVariants.{Checkpoint, Merge, Places, MergeBegin, MergeRead, MergeForget}
+use Rattle.mvo_engine.specs.declared.slice.Slice.TheVariants.{Checkpoint, Merge, Places, MergeBegin, MergeRead, MergeForget, CheckpointBegin, CheckpointRead, CheckpointForget, Shorten}
 use Rattle.mvo_engine.specs.declared.sliced.Sliced.{Sliced}
 use Rattle.mvo_engine.specs.Calls.{asked_by}
 use Rattle.mvo_engine.specs.Jobs.{IsAloneWith, IsCallAlone, IsOneCallAlone, slices_of, opens_a_manifest, IsInstallAnswer}
@@ -67,3 +67,7 @@ quiet_slice Places = tt
 quiet_slice (MergeBegin place) = tt
 quiet_slice MergeRead = tt
 quiet_slice MergeForget = tt
+quiet_slice CheckpointBegin = tt
+quiet_slice CheckpointRead = tt
+quiet_slice CheckpointForget = tt
+quiet_slice Shorten = tt

@@ -26,9 +26,11 @@ use Rattle.mvo_core.specs.WholeStanding.{StandsWhole, IsWholeStep, IsReadOnlyBeg
 use Rattle.mvo_store.specs.StoreData.{StoreData}
 use Rattle.mvo_store.specs.Seen.{mark_of}
 use Rattle.mvo_store.specs.Causes.{why_not_take}
-use Rattle.mvo_store.specs.Calls.{AnswersCall, AnswersSlice, AnswersPlaces, AnswersReading, IsStoreStep, StoreStep}
+use Rattle.mvo_store.specs.Calls.{AnswersCall, AnswersSlice, AnswersPlaces, AnswersReading, AnswersCheckpointReading, IsStoreStep, StoreStep}
 use Rattle.mvo_store.specs.Calls.StoreStep.{Take, Call, Slice as SliceOf, Place}
 use Rattle.mvo_store.specs.Calls.StoreStep.{MergeBegin as BeginMerge, MergeReadOn, MergeForget as ForgetMerge}
+use Rattle.mvo_store.specs.Calls.StoreStep.{CheckpointBegin as BeginCheckpoint, CheckpointReadOn, CheckpointForget as ForgetCheckpoint, Shorten as CutLong}
+use Rattle.mvo_store.specs.Reclaiming.{HasShortened}
 use Rattle.mvo_store.specs.declared.jobs.due.Due.TheVariants.{Data, MergeData, Install}
 use Rattle.mvo_store.specs.declared.install.generation.Generation.{Generation}
 use Rattle.mvo_store.specs.declared.install.install_step.InstallStep.TheVariants.{Open}
@@ -43,7 +45,7 @@ use Rattle.mvo_store.specs.declared.done.Done.{Done}
 use Rattle.mvo_store.specs.declared.done.Done.TheVariants.{Durable, Installed}
 use Rattle.mvo_engine.specs.declared.run.run.TheConstants.{MAX_SESSIONS}
 use Rattle.mvo_engine.specs.declared.slice.Slice.{Slice}
-use Rattle.mvo_engine.specs.declared.slice.Slice.TheVariants.{Checkpoint, Merge, Places, MergeBegin, MergeRead, MergeForget}
+use Rattle.mvo_engine.specs.declared.slice.Slice.TheVariants.{Checkpoint, Merge, Places, MergeBegin, MergeRead, MergeForget, CheckpointBegin, CheckpointRead, CheckpointForget, Shorten}
 use Rattle.mvo_core.specs.Receipts.{receipt}
 use Rattle.mvo_engine.specs.States.{CoreState, SendsState, StoreState, SessionState}
 
@@ -157,6 +159,10 @@ asked_by Places = Place
 asked_by (MergeBegin place) = BeginMerge place
 asked_by MergeRead = MergeReadOn
 asked_by MergeForget = ForgetMerge
+asked_by CheckpointBegin = BeginCheckpoint
+asked_by CheckpointRead = CheckpointReadOn
+asked_by CheckpointForget = ForgetCheckpoint
+asked_by Shorten = CutLong
 
 -- what is told of what has no answer
 abbrev pub told_with : Progress → Result (Unit {0}) Refusal → Result Progress Refusal
@@ -165,19 +171,24 @@ told_with progress (Err e) = Err e
 
 -- Whether more of these slices are left: behind what begins they are, and behind what is forgotten
 -- none.
-abbrev pub AnswersAsked : {D : Type 0} → Slice → StoreData D → Progress → Type 0
-AnswersAsked Checkpoint new progress = AnswersSlice Data new progress
-AnswersAsked Merge new progress = AnswersSlice MergeData new progress
-AnswersAsked Places new progress = AnswersPlaces new progress
-AnswersAsked (MergeBegin place) new progress = progress ≡ More
-AnswersAsked MergeRead new progress = AnswersReading new progress
-AnswersAsked MergeForget new progress = progress ≡ Ready
+abbrev pub AnswersAsked : {D : Type 0} → Ghosts D → Slice → StoreData D → StoreData D → Progress
+    → Type 0
+AnswersAsked d Checkpoint old new progress = AnswersSlice Data new progress
+AnswersAsked d Merge old new progress = AnswersSlice MergeData new progress
+AnswersAsked d Places old new progress = AnswersPlaces new progress
+AnswersAsked d (MergeBegin place) old new progress = progress ≡ More
+AnswersAsked d MergeRead old new progress = AnswersReading new progress
+AnswersAsked d MergeForget old new progress = progress ≡ Ready
+AnswersAsked d CheckpointBegin old new progress = progress ≡ More
+AnswersAsked d CheckpointRead old new progress = AnswersCheckpointReading new progress
+AnswersAsked d CheckpointForget old new progress = progress ≡ Ready
+AnswersAsked d Shorten old new progress = HasShortened d old progress new
 
--- A slice of what a job does: no group is received, and no mark published.
+-- A slice: no group is received, and no mark published.
 pub record IsLockedSlice {D : Type 0} (d : Ghosts D) (old : StoreState D) (slice : Slice)
     (result : Result Progress Refusal) (new : StoreState D) : Type 0 where
   pub step : IsStoreStep d old.store (asked_by slice) result new.store
-  pub answers : IfOk result (λ progress. AnswersAsked slice new.store progress)
+  pub answers : IfOk result (λ progress. AnswersAsked d slice old.store new.store progress)
   pub received : new.received ≡ old.received
   pub published : new.published ≡ old.published
 

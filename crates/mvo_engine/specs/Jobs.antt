@@ -4,7 +4,7 @@ use Rattle.mvo_types.specs.declared.refusal.Refusal.{Refusal}
 use Rattle.mvo_disk.specs.declared.disk.Disk.{Ghosts}
 use Rattle.mvo_store.specs.declared.install.generation.Generation.{Generation}
 use Rattle.mvo_store.specs.declared.call.StoreCall.{StoreCall}
-use Rattle.mvo_store.specs.declared.call.StoreCall.TheVariants.{Step, MergeRead as ReadToMerge}
+use Rattle.mvo_store.specs.declared.call.StoreCall.TheVariants.{Step, RotateWrite, CheckpointRead as ReadToCheckpoint, MergeRead as ReadToMerge, Reclaim}
 use Rattle.mvo_store.specs.declared.jobs.due.Due.TheVariants.{Data, MergeData, Install}
 use Rattle.mvo_store.specs.declared.install.install_step.InstallStep.TheVariants.{Close, Open}
 use Rattle.mvo_store.specs.declared.jobs.progress.Progress.{Progress}
@@ -12,9 +12,10 @@ use Rattle.mvo_store.specs.declared.jobs.progress.Progress.TheVariants.{More, Re
 use Rattle.mvo_store.specs.declared.done.Done.{Done}
 use Rattle.mvo_store.specs.declared.done.Done.TheVariants.{Installed, Progress as Progressed}
 use Rattle.mvo_engine.specs.declared.slice.Slice.{Slice}
-use Rattle.mvo_engine.specs.declared.slice.Slice.TheVariants.{Checkpoint, Merge, Places, MergeBegin, MergeRead, MergeForget}
+use Rattle.mvo_engine.specs.declared.slice.Slice.TheVariants.{Checkpoint, Merge, Places, MergeBegin, MergeRead, MergeForget, CheckpointBegin, CheckpointRead, CheckpointForget, Shorten}
 use Rattle.mvo_engine.specs.declared.sliced.Sliced.{Sliced}
-use Rattle.mvo_engine.specs.declared.sliced.Sliced.TheVariants.{Written, Placed, Read}
+use Rattle.mvo_engine.specs.declared.sliced.Sliced.TheVariants.{Written, Placed, Shortened, PairsRead, SegmentRead}
+use Rattle.mvo_engine.specs.declared.read_slices.ReadSlices.{ReadSlices}
 use Rattle.mvo_engine.specs.States.{StoreState}
 use Rattle.mvo_engine.specs.Calls.{IsLockedCall, IsLockedSlice}
 
@@ -49,7 +50,10 @@ abbrev pub slices_of : StoreCall → Option Sliced
 slices_of (Step Data) = Some (Written Checkpoint)
 slices_of (Step MergeData) = Some (Written Merge)
 slices_of (Step (Install Close)) = Some Placed
-slices_of (ReadToMerge place) = Some (Read place)
+slices_of RotateWrite = Some Shortened
+slices_of Reclaim = Some Shortened
+slices_of (ReadToMerge place) = Some (PairsRead place)
+slices_of ReadToCheckpoint = Some SegmentRead
 slices_of call = None
 
 -- what the call answers that the slices make
@@ -68,40 +72,64 @@ IsBehindPlaces d call result =
     ((came : Result (Unit {0}) Refusal) × AreSlicesAlone d Places came)
     × IsOneCallAlone d call result
 
--- where the reading of two pairs is refused, what is read of them is forgotten
-abbrev pub IsForgottenBehind : {D : Type 0} → Ghosts D → Result (Unit {0}) Refusal → Type 0
-IsForgottenBehind d (Ok _) = Unit {0}
-IsForgottenBehind d (Err e) = (told : Result Progress Refusal) × IsSliceAlone d MergeForget told
-
--- two pairs of which the reading has begun are read by slices
-abbrev pub IsReadAlone : {D : Type 0} → Ghosts D → Result Done Refusal → Type 0
-IsReadAlone d result = (came : Result (Unit {0}) Refusal) × AreSlicesAlone d MergeRead came
-    × IsForgottenBehind d came × (result ≡ made_by came)
-
--- so they are where it isn't refused to begin
-abbrev pub IsReadBehind : {D : Type 0} → Ghosts D → Result Progress Refusal
+-- so it goes on where long files were cut, and else this is the refusal
+abbrev pub GoesOnBehind : Result (Unit {0}) Refusal → (Result Done Refusal → Type 0)
     → Result Done Refusal → Type 0
-IsReadBehind d (Ok _) result = IsReadAlone d result
-IsReadBehind d (Err e) result = result ≡ Err e
+GoesOnBehind (Ok _) P result = P result
+GoesOnBehind (Err e) P result = result ≡ Err e
 
--- the pair at a place and the one behind it are read by slices, to be merged
-abbrev pub ArePairsAlone : {D : Type 0} → Ghosts D → ℕ → Result Done Refusal → Type 0
-ArePairsAlone d place result = (begun : Result Progress Refusal)
-    × IsSliceAlone d (MergeBegin place) begun × IsReadBehind d begun result
+-- long files that nobody names are cut by slices first
+abbrev pub IsBehindCuts : {D : Type 0} → Ghosts D → (Result Done Refusal → Type 0)
+    → Result Done Refusal → Type 0
+IsBehindCuts d P result =
+    (came : Result (Unit {0}) Refusal) × AreSlicesAlone d Shorten came × GoesOnBehind came P result
+
+-- by which slices two pairs are read, and a segment
+abbrev pub of_pairs : ℕ → ReadSlices
+of_pairs place = record { begin = MergeBegin place; on = MergeRead; forget = MergeForget }
+
+abbrev pub of_segment : ReadSlices
+of_segment = record { begin = CheckpointBegin; on = CheckpointRead; forget = CheckpointForget }
+
+-- where a reading is refused, what is read is forgotten
+abbrev pub IsForgottenBehind : {D : Type 0} → Ghosts D → Slice → Result (Unit {0}) Refusal
+    → Type 0
+IsForgottenBehind d forget (Ok _) = Unit {0}
+IsForgottenBehind d forget (Err e) = (told : Result Progress Refusal) × IsSliceAlone d forget told
+
+-- what has begun to be read is read on by slices
+abbrev pub IsReadOnAlone : {D : Type 0} → Ghosts D → ReadSlices → Result Done Refusal → Type 0
+IsReadOnAlone d slices result = (came : Result (Unit {0}) Refusal)
+    × AreSlicesAlone d slices.on came × IsForgottenBehind d slices.forget came
+    × (result ≡ made_by came)
+
+-- so it is where it isn't refused to begin
+abbrev pub IsReadBehind : {D : Type 0} → Ghosts D → ReadSlices → Result Progress Refusal
+    → Result Done Refusal → Type 0
+IsReadBehind d slices (Ok _) result = IsReadOnAlone d slices result
+IsReadBehind d slices (Err e) result = result ≡ Err e
+
+-- what a job is made of is read by slices
+abbrev pub IsReadAlone : {D : Type 0} → Ghosts D → ReadSlices → Result Done Refusal → Type 0
+IsReadAlone d slices result = (begun : Result Progress Refusal)
+    × IsSliceAlone d slices.begin begun × IsReadBehind d slices begun result
 
 abbrev pub IsInSlices : {D : Type 0} → Ghosts D → Sliced → StoreCall → Result Done Refusal
     → Type 0
 IsInSlices d (Written slice) call result = IsDataAlone d slice result
 IsInSlices d Placed call result = IsBehindPlaces d call result
-IsInSlices d (Read place) call result = ArePairsAlone d place result
+IsInSlices d Shortened call result = IsBehindCuts d (IsOneCallAlone d call) result
+IsInSlices d (PairsRead place) call result = IsBehindCuts d (IsReadAlone d (of_pairs place)) result
+IsInSlices d SegmentRead call result = IsBehindCuts d (IsReadAlone d of_segment) result
 
 abbrev pub IsAloneWith : {D : Type 0} → Ghosts D → Option Sliced → StoreCall
     → Result Done Refusal → Type 0
 IsAloneWith d None call result = IsOneCallAlone d call result
 IsAloneWith d (Some sliced) call result = IsInSlices d sliced call result
 
--- A call alone; but a data file is written by slices, two pairs are read by slices, and before a
--- manifest is installed the places of its records are put by slices.
+-- A call alone; but a data file is written by slices, a segment and two pairs are read by slices,
+-- and before a manifest is installed the places of its records are put by slices. Before a job
+-- begins, or a file is reclaimed, long files that nobody names are cut by slices.
 abbrev pub IsCallAlone : {D : Type 0} → Ghosts D → Unit {0} → StoreCall → Result Done Refusal
     → Unit {0} → Type 0
 IsCallAlone d _ call result _ = IsAloneWith d (slices_of call) call result

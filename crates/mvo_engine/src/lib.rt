@@ -19,6 +19,7 @@ mod one_call;
 mod outcome;
 mod place;
 mod program;
+mod read_slices;
 mod rolling_back;
 mod run;
 mod seen_durable;

@@ -214,8 +214,9 @@ impl<L: Run, D: Disk> LockedStore<L, D> {
     }
 
     /// As the call of `Store` that makes this slice: `checkpoint_slice`, `merge_slice`,
-    /// `place_slice`, `merge_begin`, which answers More, `merge_read_slice`, or `merge_forget`,
-    /// which answers Ready.
+    /// `place_slice`, `shorten_slice`; `merge_begin` and `checkpoint_begin`, which answer More;
+    /// `merge_read_slice`, `checkpoint_read_slice`; `merge_forget` and `checkpoint_forget`, which
+    /// answer Ready.
     pub fn slice(&mut self, slice: Slice) -> Result<Progress, Refusal>
         ensures { IsLockedSlice D.Disk self.old slice result self.new }
     {
@@ -254,7 +255,8 @@ impl<L: Run, D: Disk> LockedStore<L, D> {
 // A slice of what the store does.
 fn slice_of<D: Disk>(store: &mut Store<D>, slice: Slice) -> Result<Progress, Refusal>
     ensures step { IsStoreStep D.Disk store.old (asked_by slice) result store.new }
-    ensures answers { IfOk result (λ progress. AnswersAsked slice store.new progress) }
+    ensures answers { IfOk result (λ progress.
+        AnswersAsked D.Disk slice store.old store.new progress) }
 {
     match slice {
         Slice::Checkpoint => store.checkpoint_slice(),
@@ -263,6 +265,10 @@ fn slice_of<D: Disk>(store: &mut Store<D>, slice: Slice) -> Result<Progress, Ref
         Slice::MergeBegin(place) => told(store.merge_begin(place), Progress::More),
         Slice::MergeRead => store.merge_read_slice(),
         Slice::MergeForget => told(store.merge_forget(), Progress::Ready),
+        Slice::CheckpointBegin => told(store.checkpoint_begin(), Progress::More),
+        Slice::CheckpointRead => store.checkpoint_read_slice(),
+        Slice::CheckpointForget => told(store.checkpoint_forget(), Progress::Ready),
+        Slice::Shorten => store.shorten_slice(),
     }
 }
 

@@ -14,4 +14,12 @@ pub enum Slice {
     MergeRead,
     /// What is read of them is forgotten.
     MergeForget,
+    /// The oldest sealed segment begins to be read, of which a checkpoint is to be made.
+    CheckpointBegin,
+    /// It is read on, and then the pair is built of it.
+    CheckpointRead,
+    /// What is read and built of it is forgotten.
+    CheckpointForget,
+    /// The end of a long file is cut off that nobody names.
+    Shorten,
 }

@@ -6,6 +6,10 @@ pub(crate) enum Sliced {
     Written(Slice),
     /// They put the places that are left, and the call is made behind them.
     Placed,
+    /// They cut long files that nobody names, and the call is made behind them.
+    Shortened,
     /// They read the pair at this place and the one behind it.
-    Read(usize),
+    PairsRead(usize),
+    /// They read the oldest sealed segment, and build the pair of it.
+    SegmentRead,
 }

@@ -8,6 +8,13 @@ use std::time::Duration;
 /// How often who leads yields at most, to let others come back before the group is closed.
 const YIELDS: u32 = 4;
 
+/// How many turns of others who is to make a step of a job lets by at most, where some wait for the
+/// disk. A step takes a few times as long as a flush, so both come to about half of the time.
+const LET_BY: u64 = 5;
+
+/// How often the bell may ring meanwhile: behind each guard, and behind each turn.
+const RINGS: u64 = 4 * LET_BY;
+
 /// How many milliseconds who has had the turn, or asks for the store by name, lets others by at
 /// most: as long as a thread that was woken needs to go on, with room.
 const A_MOMENT: u64 = 1;
@@ -27,6 +34,8 @@ pub struct Turns {
     waiting: AtomicU64,
     /// How many turns are taken now: one, or none.
     taken: AtomicU64,
+    /// How many turns have ended.
+    ended: AtomicU64,
     /// 1 where the last step of a flush was refused, and else 0.
     refused: AtomicU64,
     bell: Bell,
@@ -39,6 +48,7 @@ impl Turns {
             asked: AtomicU64::new(0),
             waiting: AtomicU64::new(0),
             taken: AtomicU64::new(0),
+            ended: AtomicU64::new(0),
             refused: AtomicU64::new(0),
             bell: Bell::new(),
         }
@@ -63,15 +73,30 @@ impl Turns {
         }
     }
 
-    /// The turn, as a step of a job takes it. Those who wait for their commits are let by first:
-    /// the step before has rung, and they need a moment to be awake.
+    /// The turn, as a step of a job takes it. Those who wait for their commits are let by first.
     pub fn take<R: Wait>(&self, rt: &R) -> Turn<'_> {
-        let heard = self.bell.heard();
         if self.waiting.load(Ordering::SeqCst) != 0 {
-            self.bell
-                .sleep_up_to(rt, heard, Duration::from_millis(A_MOMENT));
+            self.let_some_by(rt);
         }
         Turn::new(self, self.in_group.lock(rt))
+    }
+
+    // Lets some turns of others end, or as many as come before nobody rings for a moment: the step
+    // before has rung, and who waits needs a moment to be awake.
+    fn let_some_by<R: Wait>(&self, rt: &R) {
+        let before = self.ended.load(Ordering::SeqCst);
+        for _ in 0..RINGS {
+            let heard = self.bell.heard();
+            let ended = self.ended.load(Ordering::SeqCst).wrapping_sub(before);
+            if ended >= LET_BY {
+                return;
+            }
+            self.bell
+                .sleep_up_to(rt, heard, Duration::from_millis(A_MOMENT));
+            if self.bell.heard() == heard {
+                return;
+            }
+        }
     }
 
     /// Lets who has the turn come to the store, for a moment. The turn isn't taken, so this may be
@@ -127,6 +152,7 @@ impl<'e> Drop for Turn<'e> {
     fn drop(self) {
         let Turn { turns, held } = self;
         turns.taken.fetch_sub(1, Ordering::SeqCst);
+        turns.ended.fetch_add(1, Ordering::SeqCst);
         drop(held);
         turns.ring();
     }

@@ -264,6 +264,7 @@ pub record IsReadOn (old : ReaderData) (most : ℕ) (bytes rest : List ℕ) (r :
   pub fewer : length rest ≤ length bytes
   pub gate_is : r.gate ≡ old.gate + (length bytes - length rest)
   pub few : length bytes - length rest ≤ most + MAX_FRAME_LEN
+  pub unmoved : length rest ≡ length bytes → r ≡ old
 
 pub on_none : (old : ReaderData) (most : ℕ) (bytes : List ℕ) → IsBytes bytes → IsReadOn old most bytes bytes old
 on_none old most bytes fits = record {
@@ -273,9 +274,13 @@ on_none old most bytes fits = record {
   fewer = omega arith;
   gate_is = omega arith;
   few = omega arith;
+  unmoved = λ same. refl;
 }
 
 module _ (old : ReaderData) (most : ℕ) (bytes rest : List ℕ) (r : ReaderData) (o : IsReadOn old most bytes rest r) where
+  pub on_unmoved : r.gate ≡ old.gate → r ≡ old
+  on_unmoved same = o.unmoved (omega (arith, same, o.gate_is, o.fewer))
+
   pub on_shorter : (later : List ℕ) (new : ReaderData) → IsGroupRead r rest (Some later) new → length later < length rest
   on_shorter later new s = step_some r.format r.file r.gate r.mark rest s.0 later o.fits s.1
 
@@ -290,6 +295,7 @@ module _ (old : ReaderData) (most : ℕ) (bytes rest : List ℕ) (r : ReaderData
         fewer = omega (arith, short, o.fewer);
         gate_is = ap (λ (x : ReaderData). x.gate) s.2 ∙ omega (arith, o.gate_is, o.fewer, short);
         few = omega (arith, o.fewer, short, lt, long);
+        unmoved = λ same. absurd (omega (arith, same, o.fewer, short));
       }
 
   module _ (upto start : ℕ) (all more : List ℕ) (is : IsReadTo upto start all old) (at : drop old.gate all ≡ bytes ++ more) where

@@ -2,6 +2,6 @@
 /// behind five bytes.
 pub const MAX_FRAME_LEN: usize = 4_194_309;
 
-/// How many bytes of frames a slice of a reading is to take: 2 MiB, and what the last of them has
+/// How many bytes of frames a slice of a reading is to take: 256 KiB, and what the last of them has
 /// beyond.
-pub const SLICE_LEN: usize = 2_097_152;
+pub const SLICE_LEN: usize = 262_144;

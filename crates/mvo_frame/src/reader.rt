@@ -122,9 +122,11 @@ impl SegmentReader {
         Ok(Some(later))
     }
 
-    // Reads on from the front of some bytes while fewer than so many of them are taken, and up to a
-    // closed gate. It stops in front of a group that isn't read, as where the bytes end in it.
-    fn read_on(&mut self, alloc: Global, bytes: &[u8], most: usize) -> Reached
+    /// Reads on from the front of some bytes, which are those from the gate on, however many: while
+    /// fewer than so many of them are taken, and up to a closed gate. It stops in front of a frame
+    /// that isn't read, since it isn't all there, or for want of memory. Where that is the first,
+    /// all is as it was, and nothing is told of the segment: `more` tells, of more bytes.
+    pub fn read_on(&mut self, alloc: Global, bytes: &[u8], most: usize) -> Reached
         ensures read { (upto start : ℕ) (all more : List ℕ) → IsReadTo upto start all self.old →
             drop self.old.gate all ≡ bytes.now ++ more → IsReadTo upto start all self.new }
         ensures end { (upto start : ℕ) (all more : List ℕ) → IsReadTo upto start all self.old →
@@ -134,6 +136,7 @@ impl SegmentReader {
         ensures grows { self.old.gate ≤ self.new.gate }
         ensures within { self.new.gate ≤ self.old.gate + length bytes.now }
         ensures most { self.new.gate ≤ self.old.gate + most + MAX_FRAME_LEN }
+        ensures unmoved { self.new.gate ≡ self.old.gate → self.new ≡ self.old }
     {
         let mut rest = bytes;
         while bytes.len() - rest.len() < most {

@@ -1,6 +1,6 @@
 -- A segment that is read in slices: what one more slice makes of it.
-use Rattle.std.proofs.Common.{◌≡◌, ◌⊎◌, inl, inr, ⊎_elim, ℕ, ◌+◌, ◌≤◌, List, ◌++◌, length, take, drop, Err, sym, ap, ◌∙◌, arith}
-use Rattle.std.proofs.lemmas.List.{length-take, take_all, take_at, drop_at}
+use Rattle.std.proofs.Common.{◌≡◌, ◌⊎◌, inl, inr, ⊎_elim, ℕ, ◌+◌, ◌≤◌, List, [], ◌++◌, length, take, drop, Err, sym, ap, ◌∙◌, take-append-drop, arith}
+use Rattle.std.proofs.lemmas.List.{append-nil, length-take, take_all, take_at, drop_at}
 use Rattle.mvo_types.specs.declared.refusal.Refusal.{Refusal}
 use Rattle.mvo_format.specs.declared.header.TheConstants.{HEADER_LEN}
 use Rattle.mvo_frame.specs.declared.kind.Kind.{Kind}
@@ -82,3 +82,30 @@ module _ (upto mark : ℕ) (honest later : Type 0) (bytes window : List ℕ) (ol
 
   pub reads_only : (file : ℕ) (e : Refusal) → ((all : List ℕ) → IsReadTo upto mark all old → IsWindow old.gate all window → IsToldOf upto file mark all e) → later → IsStop e ⊎ ((kind : Kind) → IsOnly (SegmentIs upto file mark kind bytes) (Err e))
   reads_only file e told now = ⊎_elim (λ m. inl (inl m)) (λ says. inr (told_only upto file mark bytes e says)) (told bytes (h.of_file (before now)) (of_window now))
+
+-- ---- one more slice of few bytes
+
+module _ (upto mark n : ℕ) (honest later : Type 0) (bytes window : List ℕ) (old : ReaderData) (h : IsFramedTo upto mark honest bytes old) (before : later → honest) (of : later → window ≡ take n (drop old.gate bytes)) (new : ReaderData) (read : (all more : List ℕ) → IsReadTo upto mark all old → drop old.gate all ≡ window ++ more → IsReadTo upto mark all new) where
+  abbrev some_bytes : List ℕ
+  some_bytes = take old.gate h.some.0 ++ window
+
+  some_at : drop old.gate some_bytes ≡ window ++ []
+  some_at = drop_at (take old.gate h.some.0) window old.gate (front_len upto mark old h.some.0 window h.some.1) ∙ sym (append-nil window)
+
+  file_at : later → drop old.gate bytes ≡ window ++ drop n (drop old.gate bytes)
+  file_at now = sym (take-append-drop n (drop old.gate bytes)) ∙ ap (λ (l : List ℕ). l ++ drop n (drop old.gate bytes)) (sym (of now))
+
+  some_read : IsReadTo upto mark some_bytes new
+  some_read = read some_bytes [] (with_others upto mark old h.some.0 window h.some.1) some_at
+
+  pub near_on : IsFramedTo upto mark later bytes new
+  near_on = record {
+    some = (some_bytes, some_read);
+    of_file = λ now. read bytes (drop n (drop old.gate bytes)) (h.of_file (before now)) (file_at now);
+  }
+
+  pub near_all : ((all more : List ℕ) → IsReadTo upto mark all old → drop old.gate all ≡ window ++ more → HasClosedGateAt new.gate all) → IsAllFramed upto mark later bytes new
+  near_all end = record {
+    some = (some_bytes, some_read, end some_bytes [] (with_others upto mark old h.some.0 window h.some.1) some_at);
+    of_file = λ now. end bytes (drop n (drop old.gate bytes)) (h.of_file (before now)) (file_at now);
+  }

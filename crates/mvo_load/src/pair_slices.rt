@@ -17,7 +17,7 @@ use mvo_types::Refusal;
 use std::alloc::Global;
 
 /// How many bytes of a data file are read at a time.
-pub const READ_LEN: usize = 2_097_152;
+pub const READ_LEN: usize = 262_144;
 
 /// Begins to read a pair on a disk, of a version up to this one, in slices: reads its delta file as
 /// far as its numbers reach, and the header of its data file.

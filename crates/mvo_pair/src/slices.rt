@@ -17,8 +17,8 @@ use mvo_format::Format;
 use mvo_types::Refusal;
 use std::alloc::Global;
 
-/// How many bytes of records a slice of a data file has at most: 4 MiB with the header.
-pub const SLICE_LEN: usize = 4_194_296;
+/// How many bytes of records a slice of a data file has at most: 256 KiB with the header.
+pub const SLICE_LEN: usize = 262_136;
 
 /// How many records, from the first on, fit into a slice.
 fn slice_count(entries: &[DataRecord]) -> usize

@@ -6,6 +6,8 @@ use Rattle.mvo_pair.specs.declared.pair.Pair.{Pair}
 use Rattle.mvo_manifest.specs.Data.{ManifestData}
 use Rattle.mvo_places.specs.Places.{PlaceTable}
 use Rattle.mvo_store.specs.declared.checkpoint.checkpointing.Checkpointing.{Checkpointing}
+use Rattle.mvo_store.specs.declared.checkpoint.checkpoint_job.CheckpointJob.{CheckpointJob}
+use Rattle.mvo_store.specs.declared.checkpoint.checkpoint_job.CheckpointJob.TheVariants.{Reading as Reads, Running as Runs}
 use Rattle.mvo_store.specs.declared.merge.merging.Merging.{Merging}
 use Rattle.mvo_store.specs.declared.merge.merge_job.MergeJob.{MergeJob}
 use Rattle.mvo_store.specs.declared.merge.merge_job.MergeJob.TheVariants.{Reading, Running}
@@ -42,26 +44,28 @@ share_free m p q data_file delta_file n has = go (either (eqb p.data_file n) (eq
     go (inr is) = not_of q p.delta_file n (or_parts (eqb p.data_file p.delta_file) (list_any (λ k. eqb k p.delta_file) (files_taken (Some q))) (free_untaken m (p.data_file ∷ files_taken (Some q)) p.delta_file delta_file)).1 is
 
 -- THE JOBS SHARE NO FILE.
-pub checkpoint_shares_none : (m : ManifestData) (c : Checkpointing) (g : Option MergeJob) → IsLeastFree m (files_taken (merge_pair (Beside None g))) c.pair.data_file → IsLeastFree m (c.pair.data_file ∷ files_taken (merge_pair (Beside None g))) c.pair.delta_file → ShareNone (Beside (Some c) g)
+pub checkpoint_shares_none : (m : ManifestData) (c : Checkpointing) (g : Option MergeJob) → IsLeastFree m (files_taken (merge_pair (Beside None g))) c.pair.data_file → IsLeastFree m (c.pair.data_file ∷ files_taken (merge_pair (Beside None g))) c.pair.delta_file → ShareNone (Beside (Some (Runs c)) g)
 checkpoint_shares_none m c None data_file delta_file = tt
 checkpoint_shares_none m c (Some (Reading r)) data_file delta_file = tt
 checkpoint_shares_none m c (Some (Running g)) data_file delta_file = share_free m c.pair g.seen.pair data_file delta_file
 
-pub merge_shares_none : (m : ManifestData) (c : Option Checkpointing) (g : Merging) → IsLeastFree m (files_taken (checkpoint_pair (Beside c None))) g.seen.pair.data_file → IsLeastFree m (g.seen.pair.data_file ∷ files_taken (checkpoint_pair (Beside c None))) g.seen.pair.delta_file → ShareNone (Beside c (Some (Running g)))
+pub merge_shares_none : (m : ManifestData) (c : Option CheckpointJob) (g : Merging) → IsLeastFree m (files_taken (checkpoint_pair (Beside c None))) g.seen.pair.data_file → IsLeastFree m (g.seen.pair.data_file ∷ files_taken (checkpoint_pair (Beside c None))) g.seen.pair.delta_file → ShareNone (Beside c (Some (Running g)))
 merge_shares_none m None g data_file delta_file = tt
-merge_shares_none m (Some c) g data_file delta_file = λ n. turned (job_takes_file (Checkpoint c) n) (job_takes_file (Merge g) n) (share_free m g.seen.pair c.pair data_file delta_file n)
+merge_shares_none m (Some (Reads r)) g data_file delta_file = tt
+merge_shares_none m (Some (Runs c)) g data_file delta_file = λ n. turned (job_takes_file (Checkpoint c) n) (job_takes_file (Merge g) n) (share_free m g.seen.pair c.pair data_file delta_file n)
 
 -- ---- what holds of each
 
 module _ (P : Job → Type 0) where
-  pub with_checkpoint_all : (c : Checkpointing) (g : Option MergeJob) → P (Checkpoint c) → AllByRecursion P (jobs_of (Beside None g)) → AllByRecursion P (jobs_of (Beside (Some c) g))
+  pub with_checkpoint_all : (c : Checkpointing) (g : Option MergeJob) → P (Checkpoint c) → AllByRecursion P (jobs_of (Beside None g)) → AllByRecursion P (jobs_of (Beside (Some (Runs c)) g))
   with_checkpoint_all c None now all = (now, tt)
   with_checkpoint_all c (Some (Reading r)) now all = (now, tt)
   with_checkpoint_all c (Some (Running g)) now all = (now, all)
 
-  pub with_merge_all : (c : Option Checkpointing) (g : Merging) → P (Merge g) → AllByRecursion P (jobs_of (Beside c None)) → AllByRecursion P (jobs_of (Beside c (Some (Running g))))
+  pub with_merge_all : (c : Option CheckpointJob) (g : Merging) → P (Merge g) → AllByRecursion P (jobs_of (Beside c None)) → AllByRecursion P (jobs_of (Beside c (Some (Running g))))
   with_merge_all None g now all = (now, tt)
-  with_merge_all (Some c) g now all = (all.0, (now, tt))
+  with_merge_all (Some (Reads r)) g now all = (now, tt)
+  with_merge_all (Some (Runs c)) g now all = (all.0, (now, tt))
 
 -- a merge needs no room
 pub merge_room : (places : PlaceTable) (g : Option MergeJob) → JobsHaveRoom places (Beside None g)

@@ -21,6 +21,8 @@ use Rattle.mvo_store.specs.declared.checkpoint.stage.CheckpointStage.TheVariants
 use Rattle.mvo_store.specs.declared.merge.stage.MergeStage.{MergeStage}
 use Rattle.mvo_store.specs.declared.merge.stage.MergeStage.TheVariants.{Data as MergeAtData, Delta as MergeAtDelta}
 use Rattle.mvo_store.specs.declared.checkpoint.checkpointing.Checkpointing.{Checkpointing}
+use Rattle.mvo_store.specs.declared.checkpoint.checkpoint_job.CheckpointJob.{CheckpointJob}
+use Rattle.mvo_store.specs.declared.checkpoint.checkpoint_job.CheckpointJob.TheVariants.{Reading as Reads, Running as Runs}
 use Rattle.mvo_store.specs.declared.merge.merging.Merging.{Merging}
 use Rattle.mvo_store.specs.declared.merge.merge_job.MergeJob.{MergeJob}
 use Rattle.mvo_store.specs.declared.merge.merge_job.MergeJob.TheVariants.{Reading, Running}
@@ -42,8 +44,8 @@ use Rattle.mvo_store.proofs.Working.{IsOfPair, RestsOn, IsNew, keeps_last, writt
 pub data IsDueIn (step : Due) : Jobs → Job → Type 0 where
   TheRotation : (fresh : Segment) (i : InstallData) → Install i.step ≡ step → IsDueIn step (RotationAlone fresh i) (Rotation fresh i)
   TheMerge : (seen : SeenPairs) (placed : ℕ) (i : InstallData) → Install i.step ≡ step → IsDueIn step (MergeAlone seen placed i) (MergeInstall seen placed i)
-  TheCheckpoint : (c : Checkpointing) (g : Option MergeJob) → due_of c.stage ≡ step → IsDueIn step (Beside (Some c) g) (Checkpoint c)
-  OfMerge : (c : Option Checkpointing) (g : Merging) → merge_due_of g.stage ≡ step → IsDueIn step (Beside c (Some (Running g))) (Merge g)
+  TheCheckpoint : (c : Checkpointing) (g : Option MergeJob) → due_of c.stage ≡ step → IsDueIn step (Beside (Some (Runs c)) g) (Checkpoint c)
+  OfMerge : (c : Option CheckpointJob) (g : Merging) → merge_due_of g.stage ≡ step → IsDueIn step (Beside c (Some (Running g))) (Merge g)
 
 module _ (step : Due) where
   -- the one of a list
@@ -58,15 +60,18 @@ module _ (step : Due) where
   due_in_jobs (RotationAlone fresh i) j e = let o = one_due (Rotation fresh i) j e in subst (IsDueIn step (RotationAlone fresh i)) o.0 (TheRotation fresh i o.1)
   due_in_jobs (MergeAlone seen placed i) j e = let o = one_due (MergeInstall seen placed i) j e in subst (IsDueIn step (MergeAlone seen placed i)) o.0 (TheMerge seen placed i o.1)
   due_in_jobs (Beside None None) j e = absurd (cc e)
-  due_in_jobs (Beside (Some c) None) j e = let o = one_due (Checkpoint c) j e in subst (IsDueIn step (Beside (Some c) None)) o.0 (TheCheckpoint c None o.1)
+  due_in_jobs (Beside (Some (Reads r)) None) j e = absurd (cc e)
+  due_in_jobs (Beside (Some (Reads r)) (Some (Reading q))) j e = absurd (cc e)
+  due_in_jobs (Beside (Some (Reads r)) (Some (Running g))) j e = let o = one_due (Merge g) j e in subst (IsDueIn step (Beside (Some (Reads r)) (Some (Running g)))) o.0 (OfMerge (Some (Reads r)) g o.1)
+  due_in_jobs (Beside (Some (Runs c)) None) j e = let o = one_due (Checkpoint c) j e in subst (IsDueIn step (Beside (Some (Runs c)) None)) o.0 (TheCheckpoint c None o.1)
   due_in_jobs (Beside None (Some (Reading r))) j e = absurd (cc e)
-  due_in_jobs (Beside (Some c) (Some (Reading r))) j e = let o = one_due (Checkpoint c) j e in subst (IsDueIn step (Beside (Some c) (Some (Reading r)))) o.0 (TheCheckpoint c (Some (Reading r)) o.1)
+  due_in_jobs (Beside (Some (Runs c)) (Some (Reading r))) j e = let o = one_due (Checkpoint c) j e in subst (IsDueIn step (Beside (Some (Runs c)) (Some (Reading r)))) o.0 (TheCheckpoint c (Some (Reading r)) o.1)
   due_in_jobs (Beside None (Some (Running g))) j e = let o = one_due (Merge g) j e in subst (IsDueIn step (Beside None (Some (Running g)))) o.0 (OfMerge None g o.1)
-  due_in_jobs (Beside (Some c) (Some (Running g))) j e = go (is_step_of step (Checkpoint c)) refl e
+  due_in_jobs (Beside (Some (Runs c)) (Some (Running g))) j e = go (is_step_of step (Checkpoint c)) refl e
     where
-      go : (b : Bool) → is_step_of step (Checkpoint c) ≡ b → cond b (Some (Checkpoint c)) (first_due step (Merge g ∷ [])) ≡ Some j → IsDueIn step (Beside (Some c) (Some (Running g))) j
-      go true is f = let same : Checkpoint c ≡ j = cc f in subst (IsDueIn step (Beside (Some c) (Some (Running g)))) same (TheCheckpoint c (Some (Running g)) (same_due (due_of c.stage) step is))
-      go false is f = let o = one_due (Merge g) j f in subst (IsDueIn step (Beside (Some c) (Some (Running g)))) o.0 (OfMerge (Some c) g o.1)
+      go : (b : Bool) → is_step_of step (Checkpoint c) ≡ b → cond b (Some (Checkpoint c)) (first_due step (Merge g ∷ [])) ≡ Some j → IsDueIn step (Beside (Some (Runs c)) (Some (Running g))) j
+      go true is f = let same : Checkpoint c ≡ j = cc f in subst (IsDueIn step (Beside (Some (Runs c)) (Some (Running g)))) same (TheCheckpoint c (Some (Running g)) (same_due (due_of c.stage) step is))
+      go false is f = let o = one_due (Merge g) j f in subst (IsDueIn step (Beside (Some (Runs c)) (Some (Running g)))) o.0 (OfMerge (Some (Runs c)) g o.1)
 
 -- a step of a checkpoint is none of a merge
 pub checkpoint_step : (stage : CheckpointStage) (step : Due) → due_of stage ≡ step → is_of_merge step ≡ false

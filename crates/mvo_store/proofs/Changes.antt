@@ -9,10 +9,13 @@ use Rattle.mvo_store.specs.declared.jobs.due.Due.{Due}
 use Rattle.mvo_store.specs.declared.jobs.jobs.Jobs.{Jobs}
 use Rattle.mvo_store.specs.declared.jobs.jobs.Jobs.TheVariants.{Rotation as RotationAlone, Merge as MergeAlone, Beside}
 use Rattle.mvo_store.specs.declared.checkpoint.checkpointing.Checkpointing.{Checkpointing}
+use Rattle.mvo_store.specs.declared.checkpoint.reading.CheckpointReading.{CheckpointReading}
+use Rattle.mvo_store.specs.declared.checkpoint.checkpoint_job.CheckpointJob.{CheckpointJob}
+use Rattle.mvo_store.specs.declared.checkpoint.checkpoint_job.CheckpointJob.TheVariants.{Reading as Reads, Running as Runs}
 use Rattle.mvo_store.specs.declared.merge.merge_job.MergeJob.{MergeJob}
 use Rattle.mvo_store.specs.declared.merge.merge_job.MergeJob.TheVariants.{Reading, Running}
-use Rattle.mvo_store.specs.Jobs.{keeps_checkpoint_out, is_of_merge, merge_by, checkpoint_behind, with_step, merge_job_upto, checkpoint_upto, jobs_upto, next_installed, after_install, reading_of, checkpoint_by}
-use Rattle.mvo_store.specs.Placing.{checkpoint_placed, with_places, places_so_far, HavePlacesSoFar}
+use Rattle.mvo_store.specs.Jobs.{keeps_checkpoint_out, is_of_merge, merge_by, with_step, merge_job_upto, checkpoint_job_upto, jobs_upto, next_installed, after_install, reading_of, checkpoint_by}
+use Rattle.mvo_store.specs.Placing.{checkpoint_job_placed, with_places, places_so_far, HavePlacesSoFar}
 use Rattle.mvo_store.proofs.Turning.{begins_beside_merge}
 
 -- ---- they are the same
@@ -20,6 +23,10 @@ use Rattle.mvo_store.proofs.Turning.{begins_beside_merge}
 -- where those of the jobs are
 pub same_changes : (ps : List Pair) (lives : List (List Numbered)) (old new : Jobs) (places : PlaceMap) → ((at : PlaceMap) → places_so_far (next_installed new) at ≡ places_so_far (next_installed old) at) → HavePlacesSoFar ps lives old places → HavePlacesSoFar ps lives new places
 same_changes ps lives old new places same have = record { at = have.at; are = have.are; so_far = have.so_far ∙ sym (same have.at) }
+
+-- where a checkpoint whose segment is read begins, or no longer runs
+pub segment_changes : (r : CheckpointReading) (g : Option MergeJob) (at : PlaceMap) → places_so_far (next_installed (Beside (Some (Reads r)) g)) at ≡ places_so_far (next_installed (Beside None g)) at
+segment_changes r g at = refl
 
 -- behind a step
 pub step_changes : (step : Due) (jobs : Jobs) (at : PlaceMap) → places_so_far (next_installed (with_step step jobs)) at ≡ places_so_far (next_installed jobs) at
@@ -30,11 +37,13 @@ step_changes step (Beside None g) at = go (is_of_merge step)
     go : (b : Bool) → places_so_far (next_installed (cond b (Beside None (merge_by g)) (Beside None g))) at ≡ at
     go true = refl
     go false = refl
-step_changes step (Beside (Some c) g) at = go (is_of_merge step)
+step_changes step (Beside (Some c) g) at = go c (is_of_merge step)
   where
-    go : (b : Bool) → places_so_far (next_installed (cond b (Beside (Some c) (merge_by g)) (Beside (Some (checkpoint_behind c)) g))) at ≡ places_so_far (next_installed (Beside (Some c) g)) at
-    go true = refl
-    go false = refl
+    go : (c : CheckpointJob) (b : Bool) → places_so_far (next_installed (cond b (Beside (Some c) (merge_by g)) (Beside (checkpoint_by (Some c)) g))) at ≡ places_so_far (next_installed (Beside (Some c) g)) at
+    go (Reads r) true = refl
+    go (Reads r) false = refl
+    go (Runs c) true = refl
+    go (Runs c) false = refl
 
 -- and behind a slice of a data file
 pub slice_changes : (upto : ℕ) (step : Due) (jobs : Jobs) (at : PlaceMap) → places_so_far (next_installed (jobs_upto upto step jobs)) at ≡ places_so_far (next_installed jobs) at
@@ -45,21 +54,24 @@ slice_changes upto step (Beside None g) at = go (is_of_merge step)
     go : (b : Bool) → places_so_far (next_installed (cond b (Beside None (option_map (merge_job_upto upto) g)) (Beside None g))) at ≡ at
     go true = refl
     go false = refl
-slice_changes upto step (Beside (Some c) g) at = go (is_of_merge step)
+slice_changes upto step (Beside (Some c) g) at = go c (is_of_merge step)
   where
-    go : (b : Bool) → places_so_far (next_installed (cond b (Beside (Some c) (option_map (merge_job_upto upto) g)) (Beside (Some (checkpoint_upto upto c)) g))) at ≡ places_so_far (next_installed (Beside (Some c) g)) at
-    go true = refl
-    go false = refl
+    go : (c : CheckpointJob) (b : Bool) → places_so_far (next_installed (cond b (Beside (Some c) (option_map (merge_job_upto upto) g)) (Beside (Some (checkpoint_job_upto upto c)) g))) at ≡ places_so_far (next_installed (Beside (Some c) g)) at
+    go (Reads r) true = refl
+    go (Reads r) false = refl
+    go (Runs c) true = refl
+    go (Runs c) false = refl
 
 -- and where a merge begins
-pub merge_changes : (c : Option Checkpointing) (g h : Option MergeJob) (at : PlaceMap) → places_so_far (next_installed (Beside c g)) at ≡ places_so_far (next_installed (Beside c h)) at
+pub merge_changes : (c : Option CheckpointJob) (g h : Option MergeJob) (at : PlaceMap) → places_so_far (next_installed (Beside c g)) at ≡ places_so_far (next_installed (Beside c h)) at
 merge_changes None g h at = refl
-merge_changes (Some c) g h at = refl
+merge_changes (Some (Reads r)) g h at = refl
+merge_changes (Some (Runs c)) g h at = refl
 
 -- ---- the merge whose pairs are read
 
 -- is the same, whatever checkpoint runs beside it
-pub beside_reads : (a b : Option Checkpointing) (g : Option MergeJob) → reading_of (Beside a g) ≡ reading_of (Beside b g)
+pub beside_reads : (a b : Option CheckpointJob) (g : Option MergeJob) → reading_of (Beside a g) ≡ reading_of (Beside b g)
 beside_reads a b None = refl
 beside_reads a b (Some (Reading r)) = refl
 beside_reads a b (Some (Running g)) = refl
@@ -90,20 +102,20 @@ slice_reads upto step (Beside c g) = go (is_of_merge step)
     by_merge (Some (Reading r)) = refl
     by_merge (Some (Running g)) = refl
 
-    go : (b : Bool) → reading_of (cond b (Beside c (option_map (merge_job_upto upto) g)) (Beside (option_map (checkpoint_upto upto) c) g)) ≡ reading_of (Beside c g)
+    go : (b : Bool) → reading_of (cond b (Beside c (option_map (merge_job_upto upto) g)) (Beside (option_map (checkpoint_job_upto upto) c) g)) ≡ reading_of (Beside c g)
     go true = by_merge g
-    go false = beside_reads (option_map (checkpoint_upto upto) c) c g
+    go false = beside_reads (option_map (checkpoint_job_upto upto) c) c g
 
 -- and behind a slice of places
 pub place_reads : (jobs : Jobs) → reading_of (with_places jobs) ≡ reading_of jobs
 place_reads (RotationAlone fresh i) = refl
 place_reads (MergeAlone seen placed i) = refl
-place_reads (Beside c g) = beside_reads (option_map checkpoint_placed c) c g
+place_reads (Beside c g) = beside_reads (option_map checkpoint_job_placed c) c g
 
 -- ---- there are none
 
 -- where a checkpoint begins
-pub checkpoint_changes : (c : Checkpointing) (g : Option MergeJob) (at : PlaceMap) → c.placed ≡ 0 → places_so_far (next_installed (Beside (Some c) g)) at ≡ at
+pub checkpoint_changes : (c : Checkpointing) (g : Option MergeJob) (at : PlaceMap) → c.placed ≡ 0 → places_so_far (next_installed (Beside (Some (Runs c)) g)) at ≡ at
 checkpoint_changes c g at none = ap (λ (n : ℕ). taken_upto c.pair.data_file c.made.records c.made.gone n at) none ∙ none_taken c.pair.data_file c.made.records c.made.gone at
 
 -- and behind an install

@@ -44,10 +44,12 @@ use Rattle.mvo_store.specs.declared.jobs.jobs.Jobs.{Jobs}
 use Rattle.mvo_store.specs.declared.jobs.jobs.Jobs.TheVariants.{Rotation as RotationAlone, Merge as MergeAlone, Beside}
 use Rattle.mvo_store.specs.StoreData.{StoreData, opening}
 use Rattle.mvo_store.specs.Causes.{why_not_due}
-use Rattle.mvo_store.specs.Jobs.{Job, job_takes_file, has_rotation, step_due, merge_due_of, job_due, is_step_due, stage_behind, with_step, after_step, next_installed, after_install, reading_of}
+use Rattle.mvo_store.specs.Jobs.{Job, job_takes_file, has_rotation, step_due, merge_due_of, job_due, is_step_due, stage_behind, with_step, after_step, next_installed, after_install, reading_of, segment_read_of}
 use Rattle.mvo_store.specs.Jobs.Job.{Rotation, Checkpoint, Merge, MergeInstall}
 use Rattle.mvo_store.specs.Standing.{IsRunning, HaveJobs, ShareNone, JobsHaveRoom, JobHasRoom, IsUp, MayBeLeft, HasSlots, HasBody, HasWork, MayTakeOver, HaveKeys}
 use Rattle.mvo_store.specs.PairsRead.{IsSafeReading, HasReading}
+use Rattle.mvo_store.specs.Reading.{AreSafeReadings, HaveReadings}
+use Rattle.mvo_store.specs.SegmentRead.{oldest_file, AreSafeSegmentRead, HasSegmentRead}
 use Rattle.mvo_store.specs.Safe.{IsWithin, IsAmong, IsSafeWork, AreSafe, HasNext, IsSafe, IsStoreSound}
 use Rattle.mvo_store.specs.Writing.{StandsWith, StillGives, IsFileDue, IsFileAt, IsMergeFileAt, WritesFile, WritesFor, HasMadeStep, TakesMemory, IsStepRefusal, IsOpened}
 use Rattle.mvo_store.specs.Calls.{why_not_store, MayMeet, Makes, HasStepped, IsFileOf, IsFileOfJob, MayTouch, KeepsOthers, IsStoreStep, rows_behind}
@@ -61,6 +63,7 @@ use Rattle.mvo_store.specs.declared.merge.stage.MergeStage.TheVariants.{Data as 
 use Rattle.mvo_store.specs.declared.merge.merging.Merging.{Merging}
 use Rattle.mvo_store.specs.declared.merge.merge_job.MergeJob.TheVariants.{Reading, Running}
 use Rattle.mvo_store.specs.declared.checkpoint.checkpointing.Checkpointing.{Checkpointing}
+use Rattle.mvo_store.specs.declared.checkpoint.checkpoint_job.CheckpointJob.TheVariants.{Running as Runs}
 use Rattle.mvo_store.specs.declared.merge.seen_pairs.SeenPairs.{SeenPairs}
 use Rattle.mvo_store.specs.Checkpoint.{gained, made_of, IsCheckpointInto}
 use Rattle.mvo_store.specs.Merging.{seen_with, pair_with, IsMergeReady}
@@ -73,6 +76,7 @@ use Rattle.mvo_store.proofs.Turning.{some_due, step_is, of_due, all_stepped, sha
 use Rattle.mvo_store.specs.Placing.{places_so_far, HavePlacesSoFar}
 use Rattle.mvo_store.proofs.Changes.{same_changes, as_they_are, step_changes, step_reads, install_changes}
 use Rattle.mvo_store.proofs.Readings.{reading_counted, reading_goes_on}
+use Rattle.mvo_store.proofs.Segments.{step_segment, segment_beside, opened_segment, opened_safe_segment}
 use Rattle.mvo_store.proofs.Still.{merge_safe_after, reading_safe_after}
 use Rattle.mvo_store.proofs.Olds.{step_stays, known_next}
 use Rattle.mvo_store.specs.Old.{KnowsOld, AreUnmarked}
@@ -252,7 +256,8 @@ module _ {D : Type 0} {d : Ghosts D} {s : StoreData D} (safe : IsSafe d s) {step
 
   pub stepped_safe : (new : D) → d.fault_count new ≡ d.fault_count s.disk → IsSafe d (record s { disk = new; jobs = with_step step s.jobs })
   stepped_safe new count = stays_safe safe new s.places (with_step step s.jobs)
-      (all_stepped (IsSafeWork s.manifest) (IsSafeWork s.manifest) due safe.jobs (step_safe s.manifest j safe_work) (λ c g e k p. p) (λ c g e k p. p)) (share_stepped due safe.apart) (subst (IsSafeReading s.manifest) (sym (step_reads step s.jobs)) safe.reading)
+      (all_stepped (IsSafeWork s.manifest) (IsSafeWork s.manifest) due safe.jobs (step_safe s.manifest j safe_work) (λ c g e k p. p) (λ c g e k p. p)) (share_stepped due safe.apart)
+      (record { pairs = subst (IsSafeReading s.manifest) (sym (step_reads step s.jobs)) safe.reading.pairs; segment = subst (AreSafeSegmentRead s.manifest s.places.at) (sym (step_segment step s.jobs)) safe.reading.segment })
       (all_stepped (JobHasRoom s.places) (JobHasRoom s.places) due safe.room_for (step_room s.places j safe_room) (λ c g e k p. p) (λ c g e k p. p)) count
 
 pub opened_safe : {D : Type 0} {d : Ghosts D} {s : StoreData D} (safe : IsSafe d s) {j : Job} (due : IsDueIn (Install Open) s.jobs j) → (new : D) (places : PlaceTable) (marks : List Bool) → (s.written && has_rotation s.jobs) ≡ false → d.fault_count new ≡ d.fault_count s.disk
@@ -263,7 +268,10 @@ opened_safe {D} {d} {s} safe {j} due new places marks free count = record {
   written = opened_next due s.segment s.written s.pending free safe.written;
   jobs = opened_jobs s.manifest due safe.jobs safe.apart;
   apart = share_installed s.jobs;
-  reading = opened_reading s.manifest due safe.jobs safe.reading;
+  reading = record {
+    pairs = opened_reading s.manifest due safe.jobs safe.reading.pairs;
+    segment = opened_safe_segment (manifest_after j s.manifest) places.at s.jobs;
+  };
   room_for = opened_room places s.jobs;
   room = subst (λ n. n + 1 < 2 ^ 64) (sym count) safe.room;
 }
@@ -307,17 +315,21 @@ module _ {D : Type 0} (d : Ghosts D) (s : StoreData D) (step : Due) (j : Job) (i
         let w = writes honest up.parts stood in
         let made = makes honest up.parts stood in
         let stands = made.stands (λ e. other (sym (step_is due_here) ∙ e)) in
-        let both = λ (c : Checkpointing) (g : Merging) (e : s.jobs ≡ Beside (Some c) (Some (Running g))). subst ShareNone e up.apart in
+        let both = λ (c : Checkpointing) (g : Merging) (e : s.jobs ≡ Beside (Some (Runs c)) (Some (Running g))). subst ShareNone e up.apart in
         stays_up d s rows up new s.places (with_step step s.jobs) stands.settled (w.rest.content s.segment.file (λ e. w.other (subst (IsLastFile s.manifest) e up.last)))
         (step_stays (d.content s.disk) (d.content new) (d.may_leave s.disk) s.manifest up.parts up.settled made.counts j stood.job.work w.file w.is w.rest.content)
         (all_stepped (IsRunning (d.content s.disk) (d.may_leave s.disk) s.manifest up.parts) (IsRunning (d.content new) (d.may_leave new) s.manifest up.parts) due_here up.jobs stands.job
         (λ c g e k runs. merge_stays (d.content s.disk) (d.content new) (d.may_leave s.disk) (d.may_leave new) s.manifest up.parts up.settled w.file w.rest c g (both c g e) (at_checkpoint s.manifest j c w.file k w.is) runs.work made.counts)
         (λ c g e k runs. checkpoint_stays (d.content s.disk) (d.content new) (d.may_leave s.disk) (d.may_leave new) s.manifest up.parts up.settled w.file w.rest c g (both c g e) (at_merge s.manifest j g w.file k w.is) (merge_work c g e k rows up) runs))
-        (share_stepped due_here up.apart) (subst (HasReading (d.content new) s.manifest) (sym (step_reads step s.jobs)) (reading_counted (d.content s.disk) (d.content new) s.manifest up.settled.installed.own.is up.parts.lives up.settled.installed.parts.live made.counts (reading_of s.jobs) up.reading))
+        (share_stepped due_here up.apart)
+        (record {
+          pairs = subst (HasReading (d.content new) s.manifest) (sym (step_reads step s.jobs)) (reading_counted (d.content s.disk) (d.content new) s.manifest up.settled.installed.own.is up.parts.lives up.settled.installed.parts.live made.counts (reading_of s.jobs) up.reading.pairs);
+          segment = subst (HasSegmentRead s.manifest s.places.at (d.content new (oldest_file s.manifest))) (sym (step_segment step s.jobs)) (segment_beside s.manifest s.places.at (d.content s.disk) (d.content new) up.settled.installed.own.is (d.may_leave s.disk) up.parts due_here stood.job.work w.file w.is w.rest.content up.reading.segment);
+        })
         (same_changes s.manifest.pairs up.parts.lives s.jobs (with_step step s.jobs) s.places.at (step_changes step s.jobs) up.places)
         (all_stepped (JobHasRoom s.places) (JobHasRoom s.places) due_here up.room_for (step_room s.places j (of_due (JobHasRoom s.places) due_here up.room_for)) (λ c g e k p. p) (λ c g e k p. p)) count
       where
-        merge_work : (c : Checkpointing) (g : Merging) → s.jobs ≡ Beside (Some c) (Some (Running g)) → j ≡ Merge g → (rows : Map) (up : IsUp d s rows) → HasWork (d.content s.disk) (d.may_leave s.disk) s.manifest up.parts (Merge g)
+        merge_work : (c : Checkpointing) (g : Merging) → s.jobs ≡ Beside (Some (Runs c)) (Some (Running g)) → j ≡ Merge g → (rows : Map) (up : IsUp d s rows) → HasWork (d.content s.disk) (d.may_leave s.disk) s.manifest up.parts (Merge g)
         merge_work c g e k rows up = subst (λ (i : Job). HasWork (d.content s.disk) (d.may_leave s.disk) s.manifest up.parts i) k (stands_of rows up).job.work
 
     -- memory or a fault refuses it
@@ -371,7 +383,7 @@ module _ {D : Type 0} (d : Ghosts D) (s : StoreData D) (rows : Map) (up : IsUp d
     named_stays next y settled n inside = rest.content n (λ e. named_is_no_slot next n settled.installed.own.is inside (subst (λ k. k < 2) (sym (e ∙ at)) (slot_below (m.generation + 1))))
 
     -- the store is up with it, with these places, marks and this segment
-    with_next : (next : ManifestData) (i : Installs (d.content s.disk) (d.may_leave s.disk) up.parts next) (places : PlaceTable) (left : List Bool) (segment : Segment) (jobs : Jobs) → KnowsOld (d.content new) next 1024 left → HaveJobs (d.content new) (d.may_leave new) next i.parts jobs → ShareNone jobs → HasReading (d.content new) next (reading_of jobs) → JobsHaveRoom places jobs → IsSettled (d.content new) (d.may_leave new) next i.parts → IsLastFile next segment.file
+    with_next : (next : ManifestData) (i : Installs (d.content s.disk) (d.may_leave s.disk) up.parts next) (places : PlaceTable) (left : List Bool) (segment : Segment) (jobs : Jobs) → KnowsOld (d.content new) next 1024 left → HaveJobs (d.content new) (d.may_leave new) next i.parts jobs → ShareNone jobs → HaveReadings (d.content new) next places.at jobs → JobsHaveRoom places jobs → IsSettled (d.content new) (d.may_leave new) next i.parts → IsLastFile next segment.file
         → segment.gate ≡ gate_of i.parts.last → segment.gate < MAX_SEGMENT_LEN → (s.written ≡ true → HasBody i.parts s.pending segment.gate segment.next (d.content new segment.file)) → HavePlacesSoFar next.pairs i.parts.lives jobs places.at
         → IsUp d (record s { disk = new; manifest = next; places = places; old_marks = left; segment = segment; jobs = jobs }) rows
     with_next next i places left segment jobs marks runs apart reading room settled last gate few written are =
@@ -380,7 +392,7 @@ module _ {D : Type 0} (d : Ghosts D) (s : StoreData D) (rows : Map) (up : IsUp d
         search (rules, arith)
 
     -- the segment that took frames takes them then
-    installed_up : (next : ManifestData) (i : Installs (d.content s.disk) (d.may_leave s.disk) up.parts next) (places : PlaceTable) (left : List Bool) (jobs : Jobs) → KnowsOld (d.content new) next 1024 left → HaveJobs (d.content new) (d.may_leave new) next i.parts jobs → ShareNone jobs → HasReading (d.content new) next (reading_of jobs) → JobsHaveRoom places jobs → IsSettled (d.content new) (d.may_leave new) next i.parts
+    installed_up : (next : ManifestData) (i : Installs (d.content s.disk) (d.may_leave s.disk) up.parts next) (places : PlaceTable) (left : List Bool) (jobs : Jobs) → KnowsOld (d.content new) next 1024 left → HaveJobs (d.content new) (d.may_leave new) next i.parts jobs → ShareNone jobs → HaveReadings (d.content new) next places.at jobs → JobsHaveRoom places jobs → IsSettled (d.content new) (d.may_leave new) next i.parts
         → i.parts.middle ≡ up.parts.middle → i.parts.last ≡ up.parts.last → IsLastFile next s.segment.file → HavePlacesSoFar next.pairs i.parts.lives jobs places.at
         → IsUp d (record s { disk = new; manifest = next; places = places; old_marks = left; jobs = jobs }) rows
     installed_up next i places left jobs marks runs apart reading room settled same_middle same_last last = with_next next i places left s.segment jobs marks runs apart reading room settled last (up.gate ∙ ap gate_of (sym same_last)) up.few
@@ -418,7 +430,7 @@ module _ {D : Type 0} (d : Ghosts D) (s : StoreData D) (rows : Map) (up : IsUp d
 
     -- THE STORE IS UP WITH IT, and with the jobs that run on.
     open_up : {j : Job} {i : InstallData} → Installing j i → HasWork (d.content s.disk) (d.may_leave s.disk) m up.parts j → (places : PlaceTable) (left : List Bool) → AreUnmarked (job_takes_file j) s.old_marks left → IsOpened d new m (manifest_after j m) → places.at ≡ places_after j up.places.at → (is_rotation j ≡ true → s.written ≡ false)
-        → (jobs : Jobs) → ((y : Parts) → HaveJobs (d.content new) (d.may_leave new) (manifest_after j m) y jobs) → ShareNone jobs → HasReading (d.content new) (manifest_after j m) (reading_of jobs) → JobsHaveRoom places jobs → ((at : PlaceMap) → places_so_far (next_installed jobs) at ≡ at)
+        → (jobs : Jobs) → ((y : Parts) → HaveJobs (d.content new) (d.may_leave new) (manifest_after j m) y jobs) → ShareNone jobs → HaveReadings (d.content new) (manifest_after j m) places.at jobs → JobsHaveRoom places jobs → ((at : PlaceMap) → places_so_far (next_installed jobs) at ≡ at)
         → IsUp d (record s { disk = new; manifest = manifest_after j m; places = places; old_marks = left; segment = segment_after j s.segment; jobs = jobs }) rows
     open_up (OfRotation fresh k) has places left un opened to free jobs runs apart reading room none =
         let i = installs (d.content s.disk) (d.may_leave s.disk) m up.parts up.settled (OfRotation fresh k) has in
@@ -482,4 +494,4 @@ module _ {D : Type 0} (d : Ghosts D) (s : StoreData D) (rows : Map) (up : IsUp d
       let i = installing j _ (due_installs m j Open (step_is due)) in
       let slot = slot_of_install m w.file i w.is in
       open_up new w.file slot w.rest count i stands.job.work places left un ((makes up.parts stands).opened (step_is due)) to (free_of due free) (after_install s.jobs)
-      (runs_on_after new w.file slot w.rest count due up.jobs up.apart safe.jobs) (share_installed s.jobs) (reads_on_after new w.file slot w.rest count due up.jobs up.reading) (opened_room places s.jobs) (install_changes s.jobs)
+      (runs_on_after new w.file slot w.rest count due up.jobs up.apart safe.jobs) (share_installed s.jobs) (record { pairs = reads_on_after new w.file slot w.rest count due up.jobs up.reading.pairs; segment = opened_segment (manifest_after j m) places.at (d.content new (oldest_file (manifest_after j m))) s.jobs }) (opened_room places s.jobs) (install_changes s.jobs)

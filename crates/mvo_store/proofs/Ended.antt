@@ -113,11 +113,11 @@ module _ {D : Type 0} {d : Ghosts D} {s : StoreData D} (b : EndsAlone d s) where
           let made = e.ended.makes honest up.parts stood in
           let stands = made.stands no_gate in
           stays_up d s rows up new s.places alone stands.settled (w.rest.content s.segment.file (λ f. w.other (subst (IsLastFile s.manifest) f up.last)))
-          (step_stays (d.content s.disk) (d.content new) (d.may_leave s.disk) s.manifest up.parts up.settled made.counts (Merge g) stood.job.work w.file w.is w.rest.content) (stands.job, tt) tt tt
+          (step_stays (d.content s.disk) (d.content new) (d.may_leave s.disk) s.manifest up.parts up.settled made.counts (Merge g) stood.job.work w.file w.is w.rest.content) (stands.job, tt) tt (record { pairs = tt; segment = tt })
           (same_changes s.manifest.pairs up.parts.lives s.jobs alone s.places.at (λ at. sym (ap (λ (k : Jobs). places_so_far (next_installed k) at) b.is)) up.places) (tt, tt) e.count
 
       ended_safe : IsSafe d ended
-      ended_safe = stays_safe b.begins.sound.safe new s.places alone (record { pair = safe_here.pair; within = omega arith; next_is = ap (λ (n : ManifestData). n.generation) e.ended.next_is }, tt) tt tt (tt, tt) e.count
+      ended_safe = stays_safe b.begins.sound.safe new s.places alone (record { pair = safe_here.pair; within = omega arith; next_is = ap (λ (n : ManifestData). n.generation) e.ended.next_is }, tt) tt (record { pairs = tt; segment = tt }) (tt, tt) e.count
 
       -- THE STORE IS SOUND WITH THE MERGE'S MANIFEST.
       pub ended_sound : IsStoreSound d (record s { disk = new; jobs = with_manifest next s.jobs })

@@ -1,6 +1,6 @@
 -- A store keeps its rows over a step, and each slot its gate. What each way through a call comes to, where no cause of a refusal stands.
-use Rattle.std.proofs.Common.{◌≡◌, ◌≢◌, inl, inr, ℕ, ◌<◌, ◌≤◌, true, false, List, [], Option, Some, None, sym, subst, ◌∙◌, arith, ◌&&◌, ⊎_elim, length, refl, ◌+◌, ◌^◌, Ok, Err, Bool}
-use Rattle.std.specs.Prelude.{⊤}
+use Rattle.std.proofs.Common.{◌≡◌, ◌≢◌, inl, inr, ℕ, ◌<◌, ◌≤◌, true, false, List, [], ◌∷◌, Option, Some, None, sym, subst, ◌∙◌, arith, ◌&&◌, ⊎_elim, length, refl, ◌+◌, ◌^◌, Ok, Err, Bool}
+use Rattle.std.specs.Prelude.{⊤, not}
 use Rattle.std.proofs.lemmas.Bool.{cases_eq}
 use Rattle.mvo_types.specs.Keys.{Map}
 use Rattle.mvo_disk.specs.declared.disk.Disk.{Ghosts}
@@ -18,23 +18,24 @@ use Rattle.mvo_store.proofs.Marks.{HeadersStay, known_stays}
 use Rattle.mvo_store.specs.StoreData.{StoreData, opening}
 use Rattle.mvo_store.specs.Standing.{IsUp, HasBody, HaveJobs, ShareNone, JobsHaveRoom, Gives, GivesOr, HasSlots, MayBeLeft, KeepsRows, IsKeeping, KeepsAllRows}
 use Rattle.mvo_store.specs.Placing.{HavePlacesSoFar}
-use Rattle.mvo_store.specs.PairsRead.{IsSafeReading, HasReading}
+use Rattle.mvo_store.specs.Reading.{AreSafeReadings, HaveReadings}
 use Rattle.mvo_store.specs.Writing.{StillGives}
 use Rattle.mvo_store.specs.Safe.{IsSafe, AreSafe, IsStoreSound}
 use Rattle.mvo_types.specs.declared.limits.TheConstants.{MAX_SEGMENTS}
 use Rattle.mvo_types.specs.declared.refusal.Refusal.{Refusal}
-use Rattle.mvo_types.specs.declared.refusal.Refusal.TheVariants.{DiskFault, OutOfMemory}
+use Rattle.mvo_types.specs.declared.refusal.Refusal.TheVariants.{DiskFault, OutOfMemory, Down, NothingToDo, Busy}
+use Rattle.mvo_types.specs.Causes.{when, first_cause}
 use Rattle.mvo_format.specs.declared.header.TheConstants.{HEADER_LEN}
 use Rattle.mvo_store.specs.declared.limits.TheConstants.{MAX_GENERATION}
 use Rattle.mvo_store.specs.declared.install.install_step.InstallStep.TheVariants.{Open}
 use Rattle.mvo_store.specs.declared.jobs.due.Due.{Due}
 use Rattle.mvo_store.specs.declared.jobs.due.Due.TheVariants.{MergeDelta, Install}
-use Rattle.mvo_store.specs.Causes.{replaces_last, why_not_take, why_not_rotate, why_not_checkpoint, why_not_merge, why_not_merge_read, why_not_due, why_not_merge_delta, why_not_install_open}
-use Rattle.mvo_store.specs.Jobs.{keeps_all_out, keeps_checkpoint_out, keeps_merge_out, has_checkpoint, has_rotation, is_step_due, is_merge_read, reading_of}
-use Rattle.mvo_store.specs.Planning.{MayReadCheckpoint}
+use Rattle.mvo_store.specs.Causes.{replaces_last, why_not_take, why_not_rotate, why_not_checkpoint, why_not_merge, why_not_merge_read, why_not_segment_read, why_not_due, why_not_merge_delta, why_not_install_open}
+use Rattle.mvo_store.specs.Jobs.{keeps_all_out, keeps_checkpoint_out, keeps_merge_out, has_checkpoint, has_rotation, is_step_due, is_merge_read, is_segment_read}
+use Rattle.mvo_store.specs.SegmentRead.{MayReadCheckpoint}
 use Rattle.mvo_store.specs.MergeReading.{MayReadMerge}
 use Rattle.mvo_store.specs.Calls.{StoreStep, why_not_store, MayMeet, IsRefused, Makes, HasNoFault, LeftByRefusal, LeftByMemory, MayTouch, KeepsOthers, IsStoreStep, rows_behind}
-use Rattle.mvo_store.specs.Calls.StoreStep.{Take, Call, MergeBegin, MergeReadOn}
+use Rattle.mvo_store.specs.Calls.StoreStep.{Take, Call, MergeBegin, MergeReadOn, CheckpointBegin, CheckpointReadOn}
 use Rattle.mvo_store.specs.declared.call.StoreCall.TheVariants.{AppendOpen, CheckpointRead, MergeRead, Step}
 
 -- ---- the slots
@@ -128,7 +129,7 @@ module _ {D : Type 0} (d : Ghosts D) where
 
     -- Its disk, its places and its jobs are others: the last segment stays, and which files are old, and the jobs stand.
     pub stays_up : (new : D) (places : PlaceTable) (jobs : Jobs) → IsSettled (d.content new) (d.may_leave new) s.manifest up.parts → d.content new s.segment.file ≡ d.content s.disk s.segment.file → HeadersStay (d.content s.disk) (d.content new) s.manifest
-        → HaveJobs (d.content new) (d.may_leave new) s.manifest up.parts jobs → ShareNone jobs → HasReading (d.content new) s.manifest (reading_of jobs) → HavePlacesSoFar s.manifest.pairs up.parts.lives jobs places.at → JobsHaveRoom places jobs → d.fault_count new ≡ d.fault_count s.disk → IsUp d (record s { disk = new; places = places; jobs = jobs }) rows
+        → HaveJobs (d.content new) (d.may_leave new) s.manifest up.parts jobs → ShareNone jobs → HaveReadings (d.content new) s.manifest places.at jobs → HavePlacesSoFar s.manifest.pairs up.parts.lives jobs places.at → JobsHaveRoom places jobs → d.fault_count new ≡ d.fault_count s.disk → IsUp d (record s { disk = new; places = places; jobs = jobs }) rows
     stays_up new places jobs settled last headers stands apart reading are room count =
         let written : s.written ≡ true → HasBody up.parts s.pending s.segment.gate s.segment.next (d.content new s.segment.file) = λ e. subst (λ (c : List ℕ). HasBody up.parts s.pending s.segment.gate s.segment.next c) (sym last) (up.written e) in
         let marks = known_stays (d.content s.disk) (d.content new) s.manifest 1024 s.old_marks headers up.marks in
@@ -188,6 +189,15 @@ may_step step s e = grind arith
 pub may_open : {D : Type 0} (s : StoreData D) → why_not_install_open s ≡ None → (is_step_due (Install Open) s.jobs ≡ true) × ((s.written && has_rotation s.jobs) ≡ false)
 may_open s e = grind arith
 
+-- what refuses its step refuses it first
+first_two_of : (a b c : Bool) (x y z r : Refusal) → first_cause (when a x ∷ when b y ∷ []) ≡ Some r → first_cause (when a x ∷ when b y ∷ when c z ∷ []) ≡ Some r
+first_two_of true b c x y z r e = e
+first_two_of false true c x y z r e = e
+first_two_of false false c x y z r e = absurd (cc e)
+
+pub due_first : {D : Type 0} (s : StoreData D) (r : Refusal) → why_not_due (Install Open) s ≡ Some r → why_not_install_open s ≡ Some r
+due_first s r e = first_two_of s.down (not (is_step_due (Install Open) s.jobs)) (s.written && has_rotation s.jobs) Down NothingToDo Busy r e
+
 -- the last file of a merge may be written
 pub may_end : {D : Type 0} (s : StoreData D) → why_not_merge_delta s ≡ None → (is_step_due MergeDelta s.jobs ≡ true) × (has_checkpoint s.jobs ≡ false)
 may_end s e = grind arith
@@ -222,6 +232,10 @@ may_read s e = grind arith
 pub may_read_on : {D : Type 0} (s : StoreData D) → why_not_merge_read s ≡ None → is_merge_read s.jobs ≡ true
 may_read_on s e = grind arith
 
+-- the segment of a checkpoint may be read on
+pub may_read_segment : {D : Type 0} (s : StoreData D) → why_not_segment_read s ≡ None → is_segment_read s.jobs ≡ true
+may_read_segment s e = grind arith
+
 -- a merge may begin
 pub may_merge_at : {D : Type 0} (place : ℕ) (s : StoreData D) → why_not_merge place s ≡ None → MayReadMerge s.manifest place
 may_merge_at place s e = grind arith
@@ -238,6 +252,8 @@ module _ {D : Type 0} (d : Ghosts D) where
   same_left (Call (Step MergeDelta)) s = record { after = refl; no_fault = refl }
   same_left (MergeBegin place) s = record { after = refl; no_fault = refl }
   same_left MergeReadOn s = record { after = refl; no_fault = refl }
+  same_left CheckpointBegin s = record { after = refl; no_fault = refl }
+  same_left CheckpointReadOn s = inl (record { after = refl; no_fault = refl })
   same_left call s = refl
 
   -- nothing changes
@@ -334,7 +350,7 @@ module _ {D : Type 0} {d : Ghosts D} {s : StoreData D} {call : StoreStep} (b : B
 
 module _ {D : Type 0} {d : Ghosts D} {s : StoreData D} (safe : IsSafe d s) where
   -- the disk, the places and the jobs are others
-  pub stays_safe : (new : D) (places : PlaceTable) (jobs : Jobs) → AreSafe s.manifest jobs → ShareNone jobs → IsSafeReading s.manifest (reading_of jobs) → JobsHaveRoom places jobs → d.fault_count new ≡ d.fault_count s.disk → IsSafe d (record s { disk = new; places = places; jobs = jobs })
+  pub stays_safe : (new : D) (places : PlaceTable) (jobs : Jobs) → AreSafe s.manifest jobs → ShareNone jobs → AreSafeReadings s.manifest places.at jobs → JobsHaveRoom places jobs → d.fault_count new ≡ d.fault_count s.disk → IsSafe d (record s { disk = new; places = places; jobs = jobs })
   stays_safe new places jobs is apart reading room count = record {
     file = safe.file;
     few = safe.few;

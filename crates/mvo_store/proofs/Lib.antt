@@ -14,6 +14,7 @@ pub mod Beside
 pub mod Turning
 pub mod Changes
 pub mod Readings
+pub mod Segments
 pub mod Beginning
 pub mod Still
 pub mod Dues
@@ -30,3 +31,5 @@ pub mod Forgotten
 pub mod PlacedStore
 pub mod ReadOn
 pub mod ReadStore
+pub mod SegmentOn
+pub mod SegmentStore

@@ -16,14 +16,14 @@ use Rattle.mvo_pair.specs.declared.pair.Pair.{Pair}
 use Rattle.mvo_manifest.specs.Data.{ManifestData}
 use Rattle.mvo_places.specs.Places.{PlaceTable}
 use Rattle.mvo_recovery.specs.Settled.{other_slot, IsUsed, FilesStay}
-use Rattle.mvo_recovery.proofs.Named.{slot_below, last_used, pairs_named}
+use Rattle.mvo_recovery.proofs.Named.{slot_below, last_used}
 use Rattle.mvo_store.specs.declared.jobs.jobs.Jobs.{Jobs}
 use Rattle.mvo_store.specs.StoreData.{StoreData, opening}
-use Rattle.mvo_store.specs.Jobs.{Job, jobs_of, reading_of, job_takes_file}
+use Rattle.mvo_store.specs.Jobs.{Job, jobs_of, job_takes_file}
 use Rattle.mvo_store.specs.Jobs.Job.{Rotation, Checkpoint, Merge, MergeInstall}
 use Rattle.mvo_store.specs.Standing.{HaveJobs, ShareNone, JobsHaveRoom, IsUp, MayBeLeft, HasSlots, HasWork}
 use Rattle.mvo_store.specs.Placing.{HavePlacesSoFar}
-use Rattle.mvo_store.specs.PairsRead.{HasReading}
+use Rattle.mvo_store.specs.Reading.{HaveReadings}
 use Rattle.mvo_store.specs.Safe.{IsStoreSound}
 use Rattle.mvo_store.specs.Calls.{MayMeet, Makes, IsStoreStep, rows_behind, StoreStep, HasNoFault, LeftByMemory}
 use Rattle.mvo_store.proofs.Keeping.{stays_up, AllLeave, CountsNow, slots_as, now_left, touched_left, Begins, fault_step, misread_step, all_others, done_step, looked_step, looked_safe}
@@ -34,7 +34,7 @@ use Rattle.mvo_load.specs.Old.{is_old}
 use Rattle.mvo_recovery.proofs.Framed.{files_stay_others, settled_all, settled_framed}
 use Rattle.mvo_store.specs.Reclaiming.{IsUnused, IsLeastDead}
 use Rattle.mvo_store.proofs.Logged.{unnamed_unused}
-use Rattle.mvo_store.proofs.Readings.{reading_framed}
+use Rattle.mvo_store.proofs.Segments.{readings_framed}
 
 -- ---- looks at the disk
 
@@ -45,12 +45,12 @@ misread_count before now e is count = absurd is
 
 module _ {D : Type 0} {d : Ghosts D} {s : StoreData D} {call : StoreStep} (b : Begins d s call) (new : D) (rest : AllStay (d.content s.disk) (d.content new) (d.may_leave s.disk) (d.may_leave new)) where
   -- the store stays up, whatever jobs run then
-  pub looked_up : (rows : Map) (up : IsUp d s rows) (places : PlaceTable) (jobs : Jobs) → HavePlacesSoFar s.manifest.pairs up.parts.lives jobs places.at → JobsHaveRoom places jobs → HaveJobs (d.content s.disk) (d.may_leave s.disk) s.manifest up.parts jobs → ShareNone jobs → HasReading (d.content s.disk) s.manifest (reading_of jobs) → d.fault_count new ≡ d.fault_count s.disk
+  pub looked_up : (rows : Map) (up : IsUp d s rows) (places : PlaceTable) (jobs : Jobs) → HavePlacesSoFar s.manifest.pairs up.parts.lives jobs places.at → JobsHaveRoom places jobs → HaveJobs (d.content s.disk) (d.may_leave s.disk) s.manifest up.parts jobs → ShareNone jobs → HaveReadings (d.content s.disk) s.manifest places.at jobs → d.fault_count new ≡ d.fault_count s.disk
       → IsUp d (record s { disk = new; places = places; jobs = jobs }) rows
   looked_up rows up places jobs are room has apart reading = stays_up d s rows up new places jobs (settled_all (d.content s.disk) (d.content new) (d.may_leave s.disk) (d.may_leave new) s.manifest up.parts rest up.settled) (rest.content s.segment.file) (λ n _. ap is_old (rest.content n))
       (jobs_framed (d.content s.disk) (d.content new) (d.may_leave s.disk) (d.may_leave new) s.manifest up.settled.installed.own.is up.parts up.settled.installed.parts up.parts.last (record { ends = λ r _ last. last; olds = λ n _. ap is_old (rest.content n) }) (jobs_of jobs)
       (each_job (λ j. HasWork (d.content s.disk) (d.may_leave s.disk) s.manifest up.parts j → FilesStay (RestsOn s.manifest j) (d.content s.disk) (d.content new) (d.may_leave s.disk) (d.may_leave new)) (λ j work. record { content = λ n _. rest.content n; images = λ n c _. rest.images n c }) (jobs_of jobs))
-      (rest.content (other_slot s.manifest)) has) apart (reading_framed (d.content s.disk) (d.content new) s.manifest (λ n _. rest.content n) (reading_of jobs) reading) are room
+      (rest.content (other_slot s.manifest)) has) apart (readings_framed (d.content s.disk) (d.content new) s.manifest up.settled.installed.own.is (λ n _. rest.content n) places.at jobs reading) are room
 
   -- so with those that run
   pub looked_same : d.fault_count new ≡ d.fault_count s.disk → (rows : Map) → IsUp d s rows → IsUp d (record s { disk = new }) rows
@@ -160,7 +160,7 @@ module _ {D : Type 0} {d : Ghosts D} {s : StoreData D} {call : StoreStep} (b : B
       (jobs_framed (d.content s.disk) (d.content new) (d.may_leave s.disk) (d.may_leave new) s.manifest up.settled.installed.own.is up.parts up.settled.installed.parts up.parts.last (record { ends = λ r _ last. last; olds = λ n last. ap is_old (used_stay.content n (last_used s.manifest n last)) }) (jobs_of s.jobs)
       (each_follows (λ j. job_takes_file j file ≡ false) (λ j. HasWork (d.content s.disk) (d.may_leave s.disk) s.manifest up.parts j → FilesStay (RestsOn s.manifest j) (d.content s.disk) (d.content new) (d.may_leave s.disk) (d.may_leave new)) (λ j not_taken work. rested_stay j not_taken) (jobs_of s.jobs) (none_take file (jobs_of s.jobs) free.untaken))
       (used_stay.content (other_slot s.manifest) (inl (slot_below (s.manifest.generation + 1)))) up.jobs) up.apart
-      (reading_framed (d.content s.disk) (d.content new) s.manifest (λ n has. used_stay.content n (inr (pairs_named s.manifest n has))) (reading_of s.jobs) up.reading) up.places up.room_for count
+      (readings_framed (d.content s.disk) (d.content new) s.manifest up.settled.installed.own.is (λ n has. used_stay.content n (inr has)) s.places.at s.jobs up.reading) up.places up.room_for count
 
   pub emptying_leaves : LeavesOnly d.moment d.left_since s.disk mid (AllOf (d.may_leave s.disk)) → LeavesOnly d.moment d.left_since mid new (Touched file (d.may_leave mid) (λ bytes. ⊤)) → AllLeave d s new
   emptying_leaves first second rows up slots = runs_on d.moment d.left_since s.disk mid new (MayBeLeft rows s.mark (opening s)) (Touched file (d.may_leave mid) (λ bytes. ⊤)) (looks_leave b mid looks first rows up slots) second

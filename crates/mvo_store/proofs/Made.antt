@@ -19,6 +19,8 @@ use Rattle.mvo_store.specs.declared.install.install_step.InstallStep.TheVariants
 use Rattle.mvo_store.specs.declared.jobs.jobs.Jobs.{Jobs}
 use Rattle.mvo_store.specs.declared.jobs.jobs.Jobs.TheVariants.{Beside}
 use Rattle.mvo_store.specs.declared.checkpoint.checkpointing.Checkpointing.{Checkpointing}
+use Rattle.mvo_store.specs.declared.checkpoint.checkpoint_job.CheckpointJob.{CheckpointJob}
+use Rattle.mvo_store.specs.declared.checkpoint.checkpoint_job.CheckpointJob.TheVariants.{Running as Runs}
 use Rattle.mvo_store.specs.declared.merge.merging.Merging.{Merging}
 use Rattle.mvo_store.specs.declared.merge.merge_job.MergeJob.{MergeJob}
 use Rattle.mvo_store.specs.declared.merge.merge_job.MergeJob.TheVariants.{Running}
@@ -26,12 +28,14 @@ use Rattle.mvo_store.specs.StoreData.{StoreData}
 use Rattle.mvo_store.specs.Causes.{replaces_last, why_not_due, why_not_install_open}
 use Rattle.mvo_store.specs.Files.{files_taken}
 use Rattle.mvo_store.specs.Merging.{seen_with, pair_with}
-use Rattle.mvo_store.specs.Jobs.{Job, job_takes_file, job_due, is_step_due, step_due, after_step, with_step, with_checkpoint, with_merge, next_installed, after_install, has_rotation, reading_of, merge_pair, checkpoint_pair}
+use Rattle.mvo_store.specs.Jobs.{Job, job_takes_file, job_due, is_step_due, step_due, after_step, with_step, with_checkpoint, with_merge, next_installed, after_install, has_rotation, reading_of, segment_read_of, merge_pair, checkpoint_pair}
 use Rattle.mvo_store.specs.Old.{AreUnmarked}
 use Rattle.mvo_store.specs.Planning.{IsNewCheckpoint, IsReadCheckpoint}
 use Rattle.mvo_store.specs.MergePlanning.{IsNewMerge}
 use Rattle.mvo_store.specs.MergeReading.{IsReadMerge}
 use Rattle.mvo_store.specs.PairsRead.{IsSafeReading, HasReading}
+use Rattle.mvo_store.specs.SegmentRead.{oldest_file, AreSafeSegmentRead, HasSegmentRead}
+use Rattle.mvo_store.proofs.Segments.{beside_segment}
 use Rattle.mvo_store.specs.Safe.{IsSafeCheckpoint, IsSafeMerge, IsSafeWork, AreSafe, IsSafe, IsStoreSound}
 use Rattle.mvo_store.specs.Standing.{IsRotating, IsRunning, HasWork, HaveJobs, ShareNone, JobsHaveRoom, JobHasRoom, IsUp, MayTakeOverOf, HaveKeysOf}
 use Rattle.mvo_store.specs.Steps.{manifest_after, places_after, manifest_by, segment_by, places_by, filled_by, IsNextBy, IsNextOf, IsCheckpointOf, IsMergeOf}
@@ -219,7 +223,7 @@ module _ {D : Type 0} {d : Ghosts D} {s : StoreData D} (b : Begins d s (Call Che
   g = merge_here.0
 
   abbrev now_run : Jobs
-  now_run = Beside (Some c) g
+  now_run = Beside (Some (Runs c)) g
 
   abbrev read : Jobs → StoreData D
   read jobs = record s { disk = new; places = places; jobs = jobs }
@@ -244,16 +248,16 @@ module _ {D : Type 0} {d : Ghosts D} {s : StoreData D} (b : Begins d s (Call Che
 
   -- the merge whose pairs are read, if one is, is the same
   same_reading : reading_of now_run ≡ reading_of s.jobs
-  same_reading = beside_reads (Some c) None g ∙ sym (ap reading_of merge_here.1)
+  same_reading = beside_reads (Some (Runs c)) None g ∙ sym (ap reading_of merge_here.1)
 
   read_up : IsHonest (d.moment new) → (rows : Map) → IsUp d s rows → IsUp d (read now_run) rows
   read_up honest rows up = looked_up b new rest rows up places now_run (as_they_are s.manifest.pairs up.parts.lives now_run places.at (λ at. checkpoint_changes c g at unplaced) (subst (λ (at : PlaceMap). ArePlaces s.manifest.pairs up.parts.lives at) (sym same) (are_free rows up))) have_room
-      (with_checkpoint_all (IsRunning (d.content s.disk) (d.may_leave s.disk) s.manifest up.parts) c g (stands honest up.parts up.settled (are_free rows up)) (subst (HaveJobs (d.content s.disk) (d.may_leave s.disk) s.manifest up.parts) merge_here.1 up.jobs)) apart (subst (HasReading (d.content s.disk) s.manifest) (sym same_reading) up.reading) count
+      (with_checkpoint_all (IsRunning (d.content s.disk) (d.may_leave s.disk) s.manifest up.parts) c g (stands honest up.parts up.settled (are_free rows up)) (subst (HaveJobs (d.content s.disk) (d.may_leave s.disk) s.manifest up.parts) merge_here.1 up.jobs)) apart (record { pairs = subst (HasReading (d.content s.disk) s.manifest) (sym same_reading) up.reading.pairs; segment = tt }) count
 
   -- THE STORE IS SOUND WITH THE CHECKPOINT.
   pub checkpoint_sound : IsStoreSound d (read (with_checkpoint c s.jobs))
   checkpoint_sound = subst (λ (k : Jobs). IsStoreSound d (read k)) jobs_are (record {
-    safe = stays_safe b.sound.safe new places now_run are_safe apart (subst (IsSafeReading s.manifest) (sym same_reading) b.sound.safe.reading) have_room count;
+    safe = stays_safe b.sound.safe new places now_run are_safe apart (record { pairs = subst (IsSafeReading s.manifest) (sym same_reading) b.sound.safe.reading.pairs; segment = tt }) have_room count;
     up = λ honest. let now = b.sound.up (any_moment.later.honest honest) in (now.0, read_up honest now.0 now.1);
   })
 
@@ -271,10 +275,10 @@ module _ {D : Type 0} {d : Ghosts D} {s : StoreData D} (b : Begins d s (Call Che
 module _ {D : Type 0} {d : Ghosts D} {s : StoreData D} {place : ℕ} (b : Begins d s (Call (MergeRead place))) (new : D) (rest : AllStay (d.content s.disk) (d.content new) (d.may_leave s.disk) (d.may_leave new)) (any_moment : LeavesOnly d.moment d.left_since s.disk new (AllOf (d.may_leave s.disk))) (count : d.fault_count new ≡ d.fault_count s.disk)
     (taken : Option Pair) (taken_is : taken ≡ checkpoint_pair s.jobs) (g : Merging) (safe : IsSafeMerge s.manifest g) (to : IsNewMerge (IsHonest (d.moment new)) (d.content s.disk) s.manifest (files_taken taken) place g) (stands : IsHonest (d.moment new) → IsReadMerge (d.content s.disk) (d.may_leave s.disk) s.manifest g) where
   -- the checkpoint that runs, if one does
-  checkpoint_here : (c : Option Checkpointing) × (s.jobs ≡ Beside c None)
+  checkpoint_here : (c : Option CheckpointJob) × (s.jobs ≡ Beside c None)
   checkpoint_here = begins_beside_checkpoint s.jobs (none_keeps_merge place s b.none)
 
-  abbrev c : Option Checkpointing
+  abbrev c : Option CheckpointJob
   c = checkpoint_here.0
 
   abbrev both_run : Jobs
@@ -289,6 +293,10 @@ module _ {D : Type 0} {d : Ghosts D} {s : StoreData D} {place : ℕ} (b : Begins
   to_both : IsNewMerge (IsHonest (d.moment new)) (d.content s.disk) s.manifest (files_taken (checkpoint_pair (Beside c None))) place g
   to_both = subst (λ (o : Option Pair). IsNewMerge (IsHonest (d.moment new)) (d.content s.disk) s.manifest (files_taken o) place g) (taken_is ∙ ap checkpoint_pair checkpoint_here.1) to
 
+  -- the checkpoint whose segment is read, if one is, is the same
+  same_segment : segment_read_of both_run ≡ segment_read_of s.jobs
+  same_segment = beside_segment c (Some (Running g)) None ∙ sym (ap segment_read_of checkpoint_here.1)
+
   both_apart : ShareNone both_run
   both_apart = merge_shares_none s.manifest c g to_both.plan.data_file to_both.plan.delta_file
 
@@ -300,12 +308,12 @@ module _ {D : Type 0} {d : Ghosts D} {s : StoreData D} {place : ℕ} (b : Begins
 
   merge_up : IsHonest (d.moment new) → (rows : Map) → IsUp d s rows → IsUp d (merging both_run) rows
   merge_up honest rows up = looked_up b new rest rows up s.places both_run (same_changes s.manifest.pairs up.parts.lives s.jobs both_run s.places.at (λ at. merge_changes c (Some (Running g)) None at ∙ ap (λ (k : Jobs). places_so_far (next_installed k) at) (sym checkpoint_here.1)) up.places) (both_room (subst (JobsHaveRoom s.places) checkpoint_here.1 up.room_for))
-      (with_merge_all (IsRunning (d.content s.disk) (d.may_leave s.disk) s.manifest up.parts) c g (stands honest up.parts up.places.at up.settled up.places.are) (subst (HaveJobs (d.content s.disk) (d.may_leave s.disk) s.manifest up.parts) checkpoint_here.1 up.jobs)) both_apart tt count
+      (with_merge_all (IsRunning (d.content s.disk) (d.may_leave s.disk) s.manifest up.parts) c g (stands honest up.parts up.places.at up.settled up.places.are) (subst (HaveJobs (d.content s.disk) (d.may_leave s.disk) s.manifest up.parts) checkpoint_here.1 up.jobs)) both_apart (record { pairs = tt; segment = subst (HasSegmentRead s.manifest s.places.at (d.content s.disk (oldest_file s.manifest))) (sym same_segment) up.reading.segment }) count
 
   -- THE STORE IS SOUND WITH THE MERGE.
   pub merge_sound : IsStoreSound d (merging (with_merge g s.jobs))
   merge_sound = subst (λ (k : Jobs). IsStoreSound d (merging k)) both_are (record {
-    safe = stays_safe b.sound.safe new s.places both_run both_safe both_apart tt (both_room (subst (JobsHaveRoom s.places) checkpoint_here.1 b.sound.safe.room_for)) count;
+    safe = stays_safe b.sound.safe new s.places both_run both_safe both_apart (record { pairs = tt; segment = subst (AreSafeSegmentRead s.manifest s.places.at) (sym same_segment) b.sound.safe.reading.segment }) (both_room (subst (JobsHaveRoom s.places) checkpoint_here.1 b.sound.safe.room_for)) count;
     up = λ honest. let now = b.sound.up (any_moment.later.honest honest) in (now.0, merge_up honest now.0 now.1);
   })
 

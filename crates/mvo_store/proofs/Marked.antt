@@ -14,6 +14,8 @@ use Rattle.mvo_recovery.specs.image.Opens.{OpeningOutcome}
 use Rattle.mvo_recovery.specs.image.Gives.{HaveGroups}
 use Rattle.mvo_recovery.specs.image.Files.{SegmentSays}
 use Rattle.mvo_store.specs.Placing.{HavePlacesSoFar}
+use Rattle.mvo_store.specs.Reading.{HaveReadings}
+use Rattle.mvo_places.specs.Places.{PlaceMap}
 use Rattle.mvo_store.specs.Standing.{Gives, IsUp, HasSlots, MayBeLeft, KeepsRows}
 use Rattle.mvo_types.specs.declared.refusal.Refusal.{Refusal}
 use Rattle.mvo_types.specs.declared.refusal.Refusal.TheVariants.{ClockSpent, AlreadyFormatted}
@@ -120,7 +122,11 @@ module _ (image : Image) (m : ManifestData) (rows : Map) (mark gate : ℕ) (load
 -- the store over what was read is safe
 pub opened_safe : {D : Type 0} (d : Ghosts D) (old new : D) (m : ManifestData) (places : PlaceTable) (marks : List Bool) (mark gate file : ℕ) → IsFile file → gate < MAX_SEGMENT_LEN → HasSynced d (IsUsed m) 1024 old new → d.fault_count old < MAX_FAULTS
     → IsSafe d (record { disk = new; manifest = m; places = places; old_marks = marks; segment = record { file = file; gate = gate; next = gate }; mark = mark; pending = None; written = false; jobs = no_jobs; down = false })
-opened_safe d old new m places marks mark gate file is few synced faults = record { file = is; few = few; written = λ e. absurd (cc e); jobs = tt; apart = tt; reading = tt; room_for = tt; room = omega (arith, synced.count, faults) }
+opened_safe d old new m places marks mark gate file is few synced faults = record { file = is; few = few; written = λ e. absurd (cc e); jobs = tt; apart = tt; reading = record { pairs = tt; segment = tt }; room_for = tt; room = omega (arith, synced.count, faults) }
+
+-- nothing is read
+no_readings : (content : Image) (m : ManifestData) (at : PlaceMap) → HaveReadings content m at no_jobs
+no_readings content m at = record { pairs = tt; segment = tt }
 
 module _ {D : Type 0} (d : Ghosts D) (old new : D) (m : ManifestData) (rows : Map) (mark gate file : ℕ) (loaded : IsLoaded (d.content old) m rows mark gate) (places : PlaceTable) (have : HavePlaces m.version (d.content old) m.pairs places.at) (marks : List Bool) (knows : KnowsOld (d.content old) m 1024 marks) (synced : HasSynced d (IsUsed m) 1024 old new) (is : IsLastFile m file) (few : d.fault_count old < MAX_FAULTS) where
   abbrev pub opened_store : StoreData D
@@ -151,7 +157,25 @@ module _ {D : Type 0} (d : Ghosts D) (old new : D) (m : ManifestData) (rows : Ma
       let rows_are = loaded.log.rows_are ∙ ap (after_groups (rows_of loaded.lives)) log.all in
       let are : HavePlacesSoFar m.pairs loaded.lives no_jobs places.at = record { at = places.at; are = have.are loaded.lives loaded.live; so_far = refl } in
       let known = known_stays (d.content old) (d.content new) m 1024 marks (λ n _. ap is_old (synced.content n)) knows in
-      search (rules, arith, settled_opened, known, log.mark_is, log.stands, log.few, synced.count)
+      record {
+        up = refl;
+        parts = parts_loaded (d.content old) m rows mark gate loaded;
+        settled = settled_opened;
+        rows_are = rows_are;
+        mark_is = log.mark_is;
+        marks = known;
+        last = is;
+        gate = log.stands.place;
+        few = log.few;
+        pending = tt;
+        written = λ e. absurd (cc e);
+        jobs = tt;
+        apart = tt;
+        reading = no_readings (d.content new) m places.at;
+        places = are;
+        room_for = tt;
+        room = omega (arith, synced.count, few);
+      }
 
   pub opened_keeps : HasSlots (d.content old) → KeepsRows d opened_store rows
   opened_keeps slots = up_keeps d opened_store rows opened_up (slots_as (d.content old) (d.content new) (synced.content 0) (synced.content 1) slots)

@@ -11,6 +11,7 @@ use Rattle.mvo_merge.specs.Moved.{HaveOwnKeys}
 use Rattle.mvo_merge.proofs.Kept.{own_keys}
 use Rattle.mvo_recovery.specs.Parts.{Parts}
 use Rattle.mvo_store.specs.declared.limits.TheConstants.{PLACES_A_SLICE}
+use Rattle.mvo_store.specs.declared.checkpoint.checkpoint_job.CheckpointJob.TheVariants.{Reading as Reads, Running as Runs}
 use Rattle.mvo_store.specs.declared.merge.merge_job.MergeJob.TheVariants.{Reading, Running}
 use Rattle.mvo_store.specs.declared.jobs.jobs.Jobs.{Jobs}
 use Rattle.mvo_store.specs.declared.jobs.jobs.Jobs.TheVariants.{Rotation as RotationAlone, Merge as MergeAlone, Beside}
@@ -20,11 +21,13 @@ use Rattle.mvo_store.specs.Jobs.Job.{Rotation, Checkpoint, Merge, MergeInstall}
 use Rattle.mvo_store.specs.Placing.{change_count, changes_behind, checkpoint_placed, with_places, places_so_far}
 use Rattle.mvo_store.specs.Standing.{IsRunning, HaveJobs, ShareNone, JobsHaveRoom, IsUp, MayTakeOverOf, HaveKeysOf}
 use Rattle.mvo_store.specs.PairsRead.{IsSafeReading, HasReading}
+use Rattle.mvo_store.specs.SegmentRead.{oldest_file}
 use Rattle.mvo_store.specs.Safe.{IsSafeWork, AreSafe, IsStoreSound}
 use Rattle.mvo_store.specs.Calls.{IsStoreStep}
 use Rattle.mvo_store.specs.Calls.StoreStep.{Place}
 use Rattle.mvo_store.proofs.Keeping.{OnlyNow, Begins, stays_up, stays_safe, still_leaves, all_others, done_step}
 use Rattle.mvo_store.proofs.Changes.{place_reads}
+use Rattle.mvo_store.proofs.Segments.{segment_placed, safe_placed_segment}
 use Rattle.mvo_store.proofs.Dues.{safe_take_over}
 
 -- ---- how many are made
@@ -59,10 +62,13 @@ all_placed P Q each (RotationAlone fresh i) all = (each (Rotation fresh i) all.0
 all_placed P Q each (MergeAlone seen placed i) all = (each (MergeInstall seen placed i) all.0, tt)
 all_placed P Q each (Beside None None) all = tt
 all_placed P Q each (Beside None (Some (Reading r))) all = tt
-all_placed P Q each (Beside (Some c) (Some (Reading r))) all = (each (Checkpoint c) all.0, tt)
+all_placed P Q each (Beside (Some (Reads q)) None) all = tt
+all_placed P Q each (Beside (Some (Reads q)) (Some (Reading r))) all = tt
+all_placed P Q each (Beside (Some (Reads q)) (Some (Running g))) all = (each (Merge g) all.0, tt)
+all_placed P Q each (Beside (Some (Runs c)) (Some (Reading r))) all = (each (Checkpoint c) all.0, tt)
 all_placed P Q each (Beside None (Some (Running g))) all = (each (Merge g) all.0, tt)
-all_placed P Q each (Beside (Some c) None) all = (each (Checkpoint c) all.0, tt)
-all_placed P Q each (Beside (Some c) (Some (Running g))) all = (each (Checkpoint c) all.0, (each (Merge g) all.1.0, tt))
+all_placed P Q each (Beside (Some (Runs c)) None) all = (each (Checkpoint c) all.0, tt)
+all_placed P Q each (Beside (Some (Runs c)) (Some (Running g))) all = (each (Checkpoint c) all.0, (each (Merge g) all.1.0, tt))
 
 -- what it has written stands
 placed_runs : (content : Image) (may : ℕ → List ℕ → Type 0) (m : ManifestData) (x : Parts) (j : Job) → IsRunning content may m x j → IsRunning content may m x (placed_job j)
@@ -81,16 +87,18 @@ share_placed : (jobs : Jobs) → ShareNone jobs → ShareNone (with_places jobs)
 share_placed (RotationAlone fresh i) apart = tt
 share_placed (MergeAlone seen placed i) apart = tt
 share_placed (Beside None g) apart = tt
-share_placed (Beside (Some c) None) apart = tt
-share_placed (Beside (Some c) (Some (Reading r))) apart = tt
-share_placed (Beside (Some c) (Some (Running g))) apart = apart
+share_placed (Beside (Some (Reads q)) g) apart = tt
+share_placed (Beside (Some (Runs c)) None) apart = tt
+share_placed (Beside (Some (Runs c)) (Some (Reading r))) apart = tt
+share_placed (Beside (Some (Runs c)) (Some (Running g))) apart = apart
 
 -- the places of what it installs may be put
 may_place : (m : ManifestData) (places : PlaceTable) (jobs : Jobs) → AreSafe m jobs → JobsHaveRoom places jobs → MayTakeOverOf places (next_installed jobs)
 may_place m places (RotationAlone fresh i) safe room = tt
 may_place m places (MergeAlone seen placed i) safe room = safe_take_over m places (MergeInstall seen placed i) safe.0 room.0
 may_place m places (Beside None g) safe room = tt
-may_place m places (Beside (Some c) g) safe room = safe_take_over m places (Checkpoint c) safe.0 room.0
+may_place m places (Beside (Some (Reads q)) g) safe room = tt
+may_place m places (Beside (Some (Runs c)) g) safe room = safe_take_over m places (Checkpoint c) safe.0 room.0
 
 -- the records of a merge have each a key of their own
 next_keys : (content : Image) (may : ℕ → List ℕ → Type 0) (m : ManifestData) (x : Parts) (jobs : Jobs) → HaveJobs content may m x jobs → HaveKeysOf (next_installed jobs)
@@ -99,7 +107,8 @@ next_keys content may m x (MergeAlone seen placed i) has =
     let merge = has.0.work.merge in
     subst HaveOwnKeys (sym merge.records) (own_keys merge.live_left merge.live_right merge.seen.apart)
 next_keys content may m x (Beside None g) has = tt
-next_keys content may m x (Beside (Some c) g) has = tt
+next_keys content may m x (Beside (Some (Reads q)) g) has = tt
+next_keys content may m x (Beside (Some (Runs c)) g) has = tt
 
 -- ---- the store
 
@@ -118,11 +127,13 @@ module _ {D : Type 0} {d : Ghosts D} {s : StoreData D} (b : Begins d s Place) wh
     up_so : (rows : Map) → IsUp d s rows → IsUp d after rows
     up_so rows up = stays_up d s rows up s.disk places (with_places s.jobs) up.settled refl (λ n _. refl)
         (all_placed (IsRunning (d.content s.disk) (d.may_leave s.disk) s.manifest up.parts) (IsRunning (d.content s.disk) (d.may_leave s.disk) s.manifest up.parts) (placed_runs (d.content s.disk) (d.may_leave s.disk) s.manifest up.parts) s.jobs up.jobs)
-        (share_placed s.jobs up.apart) (subst (HasReading (d.content s.disk) s.manifest) (sym (place_reads s.jobs)) up.reading) (record { at = up.places.at; are = up.places.are; so_far = took (keys_here rows up) up.places.at up.places.so_far }) (room up.room_for) refl
+        (share_placed s.jobs up.apart)
+        (record { pairs = subst (HasReading (d.content s.disk) s.manifest) (sym (place_reads s.jobs)) up.reading.pairs; segment = segment_placed s.manifest s.places.at places.at (d.content s.disk (oldest_file s.manifest)) s.jobs took up.reading.segment }) (record { at = up.places.at; are = up.places.are; so_far = took (keys_here rows up) up.places.at up.places.so_far }) (room up.room_for) refl
 
     pub placed_sound : IsStoreSound d after
     placed_sound = record {
-      safe = stays_safe b.sound.safe s.disk places (with_places s.jobs) (all_placed (IsSafeWork s.manifest) (IsSafeWork s.manifest) (placed_safe s.manifest) s.jobs b.sound.safe.jobs) (share_placed s.jobs b.sound.safe.apart) (subst (IsSafeReading s.manifest) (sym (place_reads s.jobs)) b.sound.safe.reading) (room b.sound.safe.room_for) refl;
+      safe = stays_safe b.sound.safe s.disk places (with_places s.jobs) (all_placed (IsSafeWork s.manifest) (IsSafeWork s.manifest) (placed_safe s.manifest) s.jobs b.sound.safe.jobs) (share_placed s.jobs b.sound.safe.apart)
+          (record { pairs = subst (IsSafeReading s.manifest) (sym (place_reads s.jobs)) b.sound.safe.reading.pairs; segment = safe_placed_segment s.manifest s.places.at places.at s.jobs took b.sound.safe.reading.segment }) (room b.sound.safe.room_for) refl;
       up = λ honest. let now = b.sound.up honest in (now.0, up_so now.0 now.1);
     }
 

@@ -19,6 +19,8 @@ use Rattle.mvo_store.specs.declared.install.install_step.InstallStep.TheVariants
 use Rattle.mvo_store.specs.declared.jobs.jobs.Jobs.{Jobs}
 use Rattle.mvo_store.specs.declared.jobs.jobs.Jobs.TheVariants.{Beside}
 use Rattle.mvo_store.specs.declared.checkpoint.checkpointing.Checkpointing.{Checkpointing}
+use Rattle.mvo_store.specs.declared.checkpoint.checkpoint_job.CheckpointJob.{CheckpointJob}
+use Rattle.mvo_store.specs.declared.checkpoint.checkpoint_job.CheckpointJob.TheVariants.{Reading as Reads, Running as Runs}
 use Rattle.mvo_store.specs.declared.checkpoint.stage.CheckpointStage.{CheckpointStage}
 use Rattle.mvo_store.specs.declared.checkpoint.stage.CheckpointStage.TheVariants.{Data as AtData, Delta as AtDelta}
 use Rattle.mvo_store.specs.declared.merge.stage.MergeStage.{MergeStage}
@@ -28,10 +30,11 @@ use Rattle.mvo_store.specs.declared.merge.merge_job.MergeJob.{MergeJob}
 use Rattle.mvo_store.specs.declared.merge.merge_job.MergeJob.TheVariants.{Reading, Running}
 use Rattle.mvo_store.specs.StoreData.{StoreData}
 use Rattle.mvo_store.specs.Causes.{why_not_due}
-use Rattle.mvo_store.specs.Jobs.{Job, jobs_of, step_due, job_due, is_of_data, slice_end_of, stage_upto, merge_stage_upto, checkpoint_upto, merge_upto, merge_job_upto, job_upto, jobs_upto, reading_of, sliced}
+use Rattle.mvo_store.specs.Jobs.{Job, jobs_of, step_due, job_due, is_of_data, slice_end_of, stage_upto, merge_stage_upto, checkpoint_upto, checkpoint_job_upto, merge_upto, merge_job_upto, job_upto, jobs_upto, reading_of, segment_read_of, sliced}
 use Rattle.mvo_store.specs.Jobs.Job.{Rotation, Checkpoint, Merge, MergeInstall}
 use Rattle.mvo_store.specs.Standing.{IsRunning, ShareNone, JobHasRoom, IsUp, HasWork}
 use Rattle.mvo_store.specs.PairsRead.{IsSafeReading, HasReading}
+use Rattle.mvo_store.specs.SegmentRead.{oldest_file, AreSafeSegmentRead, HasSegmentRead}
 use Rattle.mvo_store.specs.Safe.{IsWithin, IsAmong, IsMergeAmong, IsSafeWork, IsStoreSound}
 use Rattle.mvo_store.specs.Writing.{WritesFile, IsFileDue, IsStepTo, IsSliceStep, IsDueSlice}
 use Rattle.mvo_store.specs.Calls.{MayMeet, IsFileOfJob, KeepsOthers, IsStoreStep}
@@ -44,35 +47,37 @@ use Rattle.mvo_store.proofs.Olds.{step_stays}
 use Rattle.mvo_store.proofs.Dues.{safe_work, safe_room, stands_of, step_leaves, step_slots, at_checkpoint, at_merge, count_of, memory_left, refused_sound}
 use Rattle.mvo_store.proofs.Changes.{same_changes, slice_changes, slice_reads}
 use Rattle.mvo_store.proofs.Readings.{reading_counted}
+use Rattle.mvo_store.proofs.Segments.{slice_segment, segment_beside}
 use Rattle.mvo_store.proofs.Made.{IsDueAt}
 
 -- ---- the jobs, of which one is at another stage
 
 pub data IsBehind : Jobs → Job → Job → Jobs → Type 0 where
-  CheckpointAt : (c : Checkpointing) (stage : CheckpointStage) (g : Option MergeJob) → IsBehind (Beside (Some c) g) (Checkpoint c) (Checkpoint (record c { stage = stage })) (Beside (Some (record c { stage = stage })) g)
-  MergeAt : (c : Option Checkpointing) (g : Merging) (stage : MergeStage) → IsBehind (Beside c (Some (Running g))) (Merge g) (Merge (record g { stage = stage })) (Beside c (Some (Running (record g { stage = stage }))))
+  CheckpointAt : (c : Checkpointing) (stage : CheckpointStage) (g : Option MergeJob) → IsBehind (Beside (Some (Runs c)) g) (Checkpoint c) (Checkpoint (record c { stage = stage })) (Beside (Some (Runs (record c { stage = stage }))) g)
+  MergeAt : (c : Option CheckpointJob) (g : Merging) (stage : MergeStage) → IsBehind (Beside c (Some (Running g))) (Merge g) (Merge (record g { stage = stage })) (Beside c (Some (Running (record g { stage = stage }))))
 
 -- so they are behind a slice
 pub slice_behind : {step : Due} → is_of_data step ≡ true → {jobs : Jobs} {j : Job} → IsDueIn step jobs j → (n : ℕ) → IsBehind jobs j (job_upto n j) (jobs_upto n step jobs)
 slice_behind of_data (TheRotation fresh i at) n = absurd (cc (sym (subst (λ (s : Due). is_of_data s ≡ true) (sym at) of_data)))
 slice_behind of_data (TheMerge seen placed i at) n = absurd (cc (sym (subst (λ (s : Due). is_of_data s ≡ true) (sym at) of_data)))
 slice_behind {step} of_data (TheCheckpoint c g at) n =
-    subst (IsBehind (Beside (Some c) g) (Checkpoint c) (Checkpoint (checkpoint_upto n c))) (sym (ap (λ b. cond b (Beside (Some c) (option_map (merge_job_upto n) g)) (Beside (Some (checkpoint_upto n c)) g)) (checkpoint_step c.stage step at)))
+    subst (IsBehind (Beside (Some (Runs c)) g) (Checkpoint c) (Checkpoint (checkpoint_upto n c))) (sym (ap (λ b. cond b (Beside (Some (Runs c)) (option_map (merge_job_upto n) g)) (Beside (Some (Runs (checkpoint_upto n c))) g)) (checkpoint_step c.stage step at)))
     (CheckpointAt c (stage_upto n (length c.made.records)) g)
 slice_behind {step} of_data (OfMerge c g at) n =
-    subst (IsBehind (Beside c (Some (Running g))) (Merge g) (Merge (merge_upto n g))) (sym (ap (λ b. cond b (Beside c (Some (Running (merge_upto n g)))) (Beside (option_map (checkpoint_upto n) c) (Some (Running g)))) (merge_step g.stage step at)))
+    subst (IsBehind (Beside c (Some (Running g))) (Merge g) (Merge (merge_upto n g))) (sym (ap (λ b. cond b (Beside c (Some (Running (merge_upto n g)))) (Beside (option_map (checkpoint_job_upto n) c) (Some (Running g)))) (merge_step g.stage step at)))
     (MergeAt c g (merge_stage_upto n (length g.seen.made.records)))
 
 -- With that one at the other stage, and the other one as another fact says of it.
 all_behind : (P Q : Job → Type 0) {jobs jobs' : Jobs} {j behind : Job} → IsBehind jobs j behind jobs' → AllByRecursion P (jobs_of jobs) → Q behind
-    → ((c : Checkpointing) (g : Merging) → jobs ≡ Beside (Some c) (Some (Running g)) → j ≡ Checkpoint c → P (Merge g) → Q (Merge g))
-    → ((c : Checkpointing) (g : Merging) → jobs ≡ Beside (Some c) (Some (Running g)) → j ≡ Merge g → P (Checkpoint c) → Q (Checkpoint c))
+    → ((c : Checkpointing) (g : Merging) → jobs ≡ Beside (Some (Runs c)) (Some (Running g)) → j ≡ Checkpoint c → P (Merge g) → Q (Merge g))
+    → ((c : Checkpointing) (g : Merging) → jobs ≡ Beside (Some (Runs c)) (Some (Running g)) → j ≡ Merge g → P (Checkpoint c) → Q (Checkpoint c))
     → AllByRecursion Q (jobs_of jobs')
 all_behind P Q (CheckpointAt c stage None) all now of_merge of_checkpoint = (now, tt)
 all_behind P Q (CheckpointAt c stage (Some (Reading r))) all now of_merge of_checkpoint = (now, tt)
 all_behind P Q (CheckpointAt c stage (Some (Running g))) all now of_merge of_checkpoint = (now, (of_merge c g refl refl all.1.0, tt))
 all_behind P Q (MergeAt None g stage) all now of_merge of_checkpoint = (now, tt)
-all_behind P Q (MergeAt (Some c) g stage) all now of_merge of_checkpoint = (of_checkpoint c g refl refl all.0, (now, tt))
+all_behind P Q (MergeAt (Some (Reads r)) g stage) all now of_merge of_checkpoint = (now, tt)
+all_behind P Q (MergeAt (Some (Runs c)) g stage) all now of_merge of_checkpoint = (of_checkpoint c g refl refl all.0, (now, tt))
 
 -- it takes no file
 share_behind : {jobs jobs' : Jobs} {j behind : Job} → IsBehind jobs j behind jobs' → ShareNone jobs → ShareNone jobs'
@@ -80,7 +85,8 @@ share_behind (CheckpointAt c stage None) apart = tt
 share_behind (CheckpointAt c stage (Some (Reading r))) apart = tt
 share_behind (CheckpointAt c stage (Some (Running g))) apart = apart
 share_behind (MergeAt None g stage) apart = tt
-share_behind (MergeAt (Some c) g stage) apart = apart
+share_behind (MergeAt (Some (Reads r)) g stage) apart = tt
+share_behind (MergeAt (Some (Runs c)) g stage) apart = apart
 
 -- ---- safety
 
@@ -161,21 +167,26 @@ module _ {D : Type 0} {d : Ghosts D} {s : StoreData D} {step : Due} (of_data : i
         let w = e.writes honest up.parts stood in
         let made = e.makes honest up.parts stood in
         let stands = made.stands (λ gate. no_gate step of_data (sym (step_is here) ∙ gate)) in
-        let both = λ (c : Checkpointing) (g : Merging) (is : s.jobs ≡ Beside (Some c) (Some (Running g))). subst ShareNone is up.apart in
+        let both = λ (c : Checkpointing) (g : Merging) (is : s.jobs ≡ Beside (Some (Runs c)) (Some (Running g))). subst ShareNone is up.apart in
         stays_up d s rows up new s.places (jobs_upto upto step s.jobs) stands.settled (w.rest.content s.segment.file (λ is. w.other (subst (IsLastFile s.manifest) is up.last)))
         (step_stays (d.content s.disk) (d.content new) (d.may_leave s.disk) s.manifest up.parts up.settled made.counts b.job stood.job.work w.file w.is w.rest.content)
         (all_behind (IsRunning (d.content s.disk) (d.may_leave s.disk) s.manifest up.parts) (IsRunning (d.content new) (d.may_leave new) s.manifest up.parts) behind up.jobs stands.job
         (λ c g is k runs. merge_stays (d.content s.disk) (d.content new) (d.may_leave s.disk) (d.may_leave new) s.manifest up.parts up.settled w.file w.rest c g (both c g is) (at_checkpoint s.manifest b.job c w.file k w.is) runs.work made.counts)
         (λ c g is k runs. checkpoint_stays (d.content s.disk) (d.content new) (d.may_leave s.disk) (d.may_leave new) s.manifest up.parts up.settled w.file w.rest c g (both c g is) (at_merge s.manifest b.job g w.file k w.is)
         (subst (λ (i : Job). HasWork (d.content s.disk) (d.may_leave s.disk) s.manifest up.parts i) k stood.job.work) runs))
-        (share_behind behind up.apart) (subst (HasReading (d.content new) s.manifest) (sym (slice_reads upto step s.jobs)) (reading_counted (d.content s.disk) (d.content new) s.manifest up.settled.installed.own.is up.parts.lives up.settled.installed.parts.live made.counts (reading_of s.jobs) up.reading))
+        (share_behind behind up.apart)
+        (record {
+          pairs = subst (HasReading (d.content new) s.manifest) (sym (slice_reads upto step s.jobs)) (reading_counted (d.content s.disk) (d.content new) s.manifest up.settled.installed.own.is up.parts.lives up.settled.installed.parts.live made.counts (reading_of s.jobs) up.reading.pairs);
+          segment = subst (HasSegmentRead s.manifest s.places.at (d.content new (oldest_file s.manifest))) (sym (slice_segment upto step s.jobs)) (segment_beside s.manifest s.places.at (d.content s.disk) (d.content new) up.settled.installed.own.is (d.may_leave s.disk) up.parts here stood.job.work w.file w.is w.rest.content up.reading.segment);
+        })
         (same_changes s.manifest.pairs up.parts.lives s.jobs (jobs_upto upto step s.jobs) s.places.at (slice_changes upto step s.jobs) up.places)
         (all_behind (JobHasRoom s.places) (JobHasRoom s.places) behind up.room_for (upto_room s.places upto b.job (of_due (JobHasRoom s.places) here up.room_for)) (λ c g is k p. p) (λ c g is k p. p)) e.count
 
     pub slice_sound : IsStoreSound d after
     slice_sound = record {
       safe = stays_safe b.begins.sound.safe new s.places (jobs_upto upto step s.jobs)
-          (all_behind (IsSafeWork s.manifest) (IsSafeWork s.manifest) behind b.begins.sound.safe.jobs (upto_safe s.manifest upto b.job (safe_work b.begins.sound.safe here)) (λ c g is k p. p) (λ c g is k p. p)) (share_behind behind b.begins.sound.safe.apart) (subst (IsSafeReading s.manifest) (sym (slice_reads upto step s.jobs)) b.begins.sound.safe.reading)
+          (all_behind (IsSafeWork s.manifest) (IsSafeWork s.manifest) behind b.begins.sound.safe.jobs (upto_safe s.manifest upto b.job (safe_work b.begins.sound.safe here)) (λ c g is k p. p) (λ c g is k p. p)) (share_behind behind b.begins.sound.safe.apart)
+          (record { pairs = subst (IsSafeReading s.manifest) (sym (slice_reads upto step s.jobs)) b.begins.sound.safe.reading.pairs; segment = subst (AreSafeSegmentRead s.manifest s.places.at) (sym (slice_segment upto step s.jobs)) b.begins.sound.safe.reading.segment })
           (all_behind (JobHasRoom s.places) (JobHasRoom s.places) behind b.begins.sound.safe.room_for (upto_room s.places upto b.job (safe_room b.begins.sound.safe here)) (λ c g is k p. p) (λ c g is k p. p)) e.count;
       up = λ honest. let now = b.begins.sound.up (e.honest honest) in (now.0, up_so honest now.0 now.1);
     }

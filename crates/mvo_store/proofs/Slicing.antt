@@ -23,6 +23,9 @@ use Rattle.mvo_store.specs.declared.install.install_step.InstallStep.TheVariants
 use Rattle.mvo_store.specs.declared.jobs.due.Due.TheVariants.{Data, MergeData, Install}
 use Rattle.mvo_store.specs.declared.jobs.jobs.Jobs.TheVariants.{Rotation as RotationAlone, Merge as MergeAlone, Beside}
 use Rattle.mvo_store.specs.declared.checkpoint.checkpointing.Checkpointing.{Checkpointing}
+use Rattle.mvo_store.specs.declared.checkpoint.checkpoint_job.CheckpointJob.{CheckpointJob}
+use Rattle.mvo_store.specs.declared.checkpoint.checkpoint_job.CheckpointJob.TheVariants.{Reading as Reads, Running as Runs}
+use Rattle.mvo_store.specs.declared.checkpoint.reading.CheckpointReading.{CheckpointReading}
 use Rattle.mvo_store.specs.declared.checkpoint.stage.CheckpointStage.{CheckpointStage}
 use Rattle.mvo_store.specs.declared.checkpoint.stage.CheckpointStage.TheVariants.{Data as AtData, Delta as AtDelta, Install as AtInstall}
 use Rattle.mvo_store.specs.declared.merge.stage.MergeStage.{MergeStage}
@@ -205,24 +208,30 @@ no_checkpoint (AtInstall Body) = refl
 no_checkpoint (AtInstall Open) = refl
 
 -- a checkpoint's
-pub data_due : (c : Checkpointing) (g : Option MergeJob) → job_due Data (Beside (Some c) g) ≡ first_due Data (Checkpoint c ∷ [])
+pub data_due : (c : Checkpointing) (g : Option MergeJob) → job_due Data (Beside (Some (Runs c)) g) ≡ first_due Data (Checkpoint c ∷ [])
 data_due c g = ap (λ (o : Option Job). cond (is_step_of Data (Checkpoint c)) (Some (Checkpoint c)) o) (no_merge g)
 
 pub no_data_due : (g : Option MergeJob) → job_due Data (Beside None g) ≡ None
 no_data_due g = no_merge g
 
+pub no_data_read : (r : CheckpointReading) (g : Option MergeJob) → job_due Data (Beside (Some (Reads r)) g) ≡ None
+no_data_read r g = no_merge g
+
 -- a merge's
-pub merge_data_due : (c : Option Checkpointing) (g : Merging) → job_due MergeData (Beside c (Some (Running g))) ≡ first_due MergeData (Merge g ∷ [])
+pub merge_data_due : (c : Option CheckpointJob) (g : Merging) → job_due MergeData (Beside c (Some (Running g))) ≡ first_due MergeData (Merge g ∷ [])
 merge_data_due None g = refl
-merge_data_due (Some c) g = ap (λ b. cond b (Some (Checkpoint c)) (first_due MergeData (Merge g ∷ []))) (no_checkpoint c.stage)
+merge_data_due (Some (Reads r)) g = refl
+merge_data_due (Some (Runs c)) g = ap (λ b. cond b (Some (Checkpoint c)) (first_due MergeData (Merge g ∷ []))) (no_checkpoint c.stage)
 
-pub no_merge_data_due : (c : Option Checkpointing) → job_due MergeData (Beside c None) ≡ None
+pub no_merge_data_due : (c : Option CheckpointJob) → job_due MergeData (Beside c None) ≡ None
 no_merge_data_due None = refl
-no_merge_data_due (Some c) = ap (λ b. cond b (Some (Checkpoint c)) None) (no_checkpoint c.stage)
+no_merge_data_due (Some (Reads r)) = refl
+no_merge_data_due (Some (Runs c)) = ap (λ b. cond b (Some (Checkpoint c)) None) (no_checkpoint c.stage)
 
-pub no_merge_data_read : (c : Option Checkpointing) (r : MergeReading) → job_due MergeData (Beside c (Some (Reading r))) ≡ None
+pub no_merge_data_read : (c : Option CheckpointJob) (r : MergeReading) → job_due MergeData (Beside c (Some (Reading r))) ≡ None
 no_merge_data_read None r = refl
-no_merge_data_read (Some c) r = ap (λ b. cond b (Some (Checkpoint c)) None) (no_checkpoint c.stage)
+no_merge_data_read (Some (Reads q)) r = refl
+no_merge_data_read (Some (Runs c)) r = ap (λ b. cond b (Some (Checkpoint c)) None) (no_checkpoint c.stage)
 
 -- none of those that run alone
 install_number : (k : InstallStep) → (eqb (step_number (Install k)) (step_number Data) ≡ false) × (eqb (step_number (Install k)) (step_number MergeData) ≡ false)

@@ -32,8 +32,11 @@ use Rattle.mvo_store.specs.Causes.{why_not_take, why_not_append_body, why_not_ap
 use Rattle.mvo_store.specs.Causes.{replaces_last, why_not_rotate, why_not_checkpoint, why_not_merge}
 use Rattle.mvo_store.specs.Causes.{why_not_due, why_not_merge_delta, why_not_install_open}
 use Rattle.mvo_store.specs.Causes.{why_not_place, why_not_merge_read, why_not_reclaim}
-use Rattle.mvo_store.specs.Jobs.{Job, no_jobs, job_due, is_step_due, is_merge_read, without_reading, with_step, sliced, slices_left, with_manifest, progress_of}
+use Rattle.mvo_store.specs.Causes.{why_not_segment_read}
+use Rattle.mvo_store.specs.Jobs.{Job, no_jobs, job_due, is_step_due, is_merge_read, without_reading, is_segment_read, segment_read_of, without_segment_read, with_step, sliced, slices_left, with_manifest, progress_of}
 use Rattle.mvo_store.specs.Steps.{IsRotationOf, IsCheckpointOf, IsMergeOf, IsBegunReading, IsMergeReadOn, HasInstalledNext, HasPlaced}
+use Rattle.mvo_store.specs.Steps.{IsBegunSegment, IsSegmentReadOn}
+use Rattle.mvo_store.specs.SegmentRead.{IsBeingBuiltOf}
 use Rattle.mvo_store.specs.Placing.{are_places_left}
 use Rattle.mvo_store.specs.Files.{IsLeastFree}
 use Rattle.mvo_store.specs.Merging.{merged_at, pair_with}
@@ -54,6 +57,14 @@ pub data StoreStep : Type 0 where
   MergeReadOn : StoreStep
   -- to forget what is read of them
   MergeForget : StoreStep
+  -- to begin to read the oldest sealed segment, of which a checkpoint is to be made, in slices
+  CheckpointBegin : StoreStep
+  -- to read the next slice of it, or build one of its pair
+  CheckpointReadOn : StoreStep
+  -- to forget what is read and built of it
+  CheckpointForget : StoreStep
+  -- to cut the end of a long file off that nobody names
+  Shorten : StoreStep
 
 -- ---- when it is refused
 
@@ -74,23 +85,31 @@ why_not_store s Place = why_not_place s
 why_not_store s (MergeBegin place) = why_not_merge place s
 why_not_store s MergeReadOn = why_not_merge_read s
 why_not_store s MergeForget = why_not_merge_read s
+why_not_store s CheckpointBegin = why_not_checkpoint s
+why_not_store s CheckpointReadOn = why_not_segment_read s
+why_not_store s CheckpointForget = why_not_segment_read s
+why_not_store s Shorten = why_not_reclaim s
 
 -- What may refuse it where no cause stands: want of memory and a fault of the disk. Opening or
--- closing a gate and emptying a file take no memory, and taking a group, putting places and
--- forgetting what is read ask for neither. What is read may break a rule.
+-- closing a gate and emptying or cutting a file take no memory, and taking a group, putting places
+-- and forgetting what is read ask for neither. What is read may break a rule.
 abbrev pub MayMeet : StoreStep → Refusal → Type 0
 MayMeet (Take g) e = ⊥
 MayMeet Place e = ⊥
 MayMeet MergeForget e = ⊥
+MayMeet CheckpointForget e = ⊥
 MayMeet (Call AppendOpen) e = e ≡ DiskFault
 MayMeet (Call (Step (Install Close))) e = e ≡ DiskFault
 MayMeet (Call (Step (Install Open))) e = e ≡ DiskFault
 MayMeet (Call Reclaim) e = e ≡ DiskFault
+MayMeet Shorten e = e ≡ DiskFault
 MayMeet (Call CheckpointRead) e = (e ≡ OutOfMemory) ⊎ ((e ≡ DiskFault) ⊎ IsMisread e)
 MayMeet (Call (MergeRead place)) e = (e ≡ OutOfMemory) ⊎ ((e ≡ DiskFault) ⊎ IsMisread e)
 MayMeet (Call (Step MergeDelta)) e = (e ≡ OutOfMemory) ⊎ ((e ≡ DiskFault) ⊎ IsMisread e)
 MayMeet (MergeBegin place) e = (e ≡ OutOfMemory) ⊎ ((e ≡ DiskFault) ⊎ IsMisread e)
 MayMeet MergeReadOn e = (e ≡ OutOfMemory) ⊎ ((e ≡ DiskFault) ⊎ IsMisread e)
+MayMeet CheckpointBegin e = (e ≡ OutOfMemory) ⊎ ((e ≡ DiskFault) ⊎ IsMisread e)
+MayMeet CheckpointReadOn e = (e ≡ OutOfMemory) ⊎ ((e ≡ DiskFault) ⊎ IsMisread e)
 MayMeet call e = (e ≡ OutOfMemory) ⊎ (e ≡ DiskFault)
 
 -- the first cause that stands is the refusal
@@ -168,6 +187,22 @@ pub record HasReadOn {D : Type 0} (d : Ghosts D) (old new : StoreData D) : Type 
       old.jobs new.jobs
   pub after : HasNewJobs old new
 
+-- A checkpoint of the oldest sealed segment runs, of which no group is read yet.
+pub record HasBegunSegment {D : Type 0} (old new : StoreData D) : Type 0 where
+  pub checkpoint : IsBegunSegment old.manifest old.jobs new.jobs
+  pub after : HasNewJobs old new
+
+-- The checkpoint that runs has more of its segment read or of its pair built, or all, and then
+-- nothing of it is written yet.
+pub record HasReadSegmentOn {D : Type 0} (d : Ghosts D) (old new : StoreData D) : Type 0 where
+  pub checkpoint : IsSegmentReadOn (IsHonest (d.moment new.disk)) (d.content old.disk) old.manifest
+      old.jobs new.jobs
+  pub after : new ≡ record old {
+    disk = new.disk;
+    places = record old.places { room = new.places.room };
+    jobs = new.jobs;
+  }
+
 -- the job whose step this was has it behind it, and the other one is as it was
 abbrev pub HasStepped : {D : Type 0} → Due → StoreData D → StoreData D → Type 0
 HasStepped step old new =
@@ -210,6 +245,10 @@ Makes d Place old new = HasPlaced (IsHonest (d.moment new.disk)) old new
 Makes d (MergeBegin place) old new = HasBegunReading place old new
 Makes d MergeReadOn old new = HasReadOn d old new
 Makes d MergeForget old new = new ≡ record old { jobs = without_reading old.jobs }
+Makes d CheckpointBegin old new = HasBegunSegment old new
+Makes d CheckpointReadOn old new = HasReadSegmentOn d old new
+Makes d CheckpointForget old new = new ≡ record old { jobs = without_segment_read old.jobs }
+Makes d Shorten old new = new ≡ record old { disk = new.disk }
 
 -- so it does, and no call of the device failed
 pub record IsMade {D : Type 0} (d : Ghosts D) (call : StoreStep) (old new : StoreData D) : Type 0
@@ -238,6 +277,10 @@ AnswersPlaces new progress = progress ≡ slices_left (are_places_left new.jobs)
 -- whether more of the pairs that are to be merged is left to be read
 abbrev pub AnswersReading : {D : Type 0} → StoreData D → Progress → Type 0
 AnswersReading new progress = progress ≡ slices_left (is_merge_read new.jobs)
+
+-- whether more of the segment is left to be read, or of its pair to be built and planned
+abbrev pub AnswersCheckpointReading : {D : Type 0} → StoreData D → Progress → Type 0
+AnswersCheckpointReading new progress = progress ≡ slices_left (is_segment_read new.jobs)
 
 -- the generation of the installed manifest
 abbrev pub AnswersGeneration : {D : Type 0} → StoreData D → ℕ → Type 0
@@ -273,13 +316,22 @@ pub record HasLooked {D : Type 0} (d : Ghosts D) (old new : StoreData D) : Type 
   pub after : new ≡ record old { disk = new.disk }
   pub no_fault : HasNoFault d old new
 
--- a call that reads files first has looked at the disk before memory is refused
+-- The pair of the checkpoint was being built, and is let go: no checkpoint runs any more.
+pub record HasLetPairGo {D : Type 0} (d : Ghosts D) (old new : StoreData D) : Type 0 where
+  pub was : IsBeingBuiltOf (segment_read_of old.jobs)
+  pub after : new ≡ record old { disk = new.disk; jobs = without_segment_read old.jobs }
+  pub no_fault : HasNoFault d old new
+
+-- A call that reads files first has looked at the disk before memory is refused. Where a pair is
+-- being built, it is let go.
 abbrev pub LeftByMemory : {D : Type 0} → Ghosts D → StoreStep → StoreData D → StoreData D → Type 0
 LeftByMemory d (Call CheckpointRead) old new = HasLooked d old new
 LeftByMemory d (Call (MergeRead place)) old new = HasLooked d old new
 LeftByMemory d (Call (Step MergeDelta)) old new = HasLooked d old new
 LeftByMemory d (MergeBegin place) old new = HasLooked d old new
 LeftByMemory d MergeReadOn old new = HasLooked d old new
+LeftByMemory d CheckpointBegin old new = HasLooked d old new
+LeftByMemory d CheckpointReadOn old new = HasLooked d old new ⊎ HasLetPairGo d old new
 LeftByMemory d call old new = new ≡ old
 
 -- A file came back otherwise than it was written: the store is down, and nothing else of it has
@@ -337,6 +389,7 @@ MayWrite d honest s (Call RotateWrite) n = IsLeastFree s.manifest [] n
 MayWrite d honest s (Call (Step step)) n = IsFileOf step s n
 MayWrite d honest s (Slice step) n = IsFileOf step s n
 MayWrite d honest s (Call Reclaim) n = IsReclaimable d honest s n
+MayWrite d honest s Shorten n = IsUnused s.manifest s.jobs n
 MayWrite d honest s call n = ⊥
 
 -- so far as the disk has answered as written behind it

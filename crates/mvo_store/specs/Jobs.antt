@@ -13,6 +13,9 @@ use Rattle.mvo_store.specs.declared.install.install.Install.{Install as InstallD
 use Rattle.mvo_store.specs.declared.checkpoint.stage.CheckpointStage.{CheckpointStage}
 use Rattle.mvo_store.specs.declared.checkpoint.stage.CheckpointStage.TheVariants.{Data as AtData, Delta as AtDelta, Install as AtInstall}
 use Rattle.mvo_store.specs.declared.checkpoint.checkpointing.Checkpointing.{Checkpointing}
+use Rattle.mvo_store.specs.declared.checkpoint.reading.CheckpointReading.{CheckpointReading}
+use Rattle.mvo_store.specs.declared.checkpoint.checkpoint_job.CheckpointJob.{CheckpointJob}
+use Rattle.mvo_store.specs.declared.checkpoint.checkpoint_job.CheckpointJob.TheVariants.{Reading as Reads, Running as Runs}
 use Rattle.mvo_store.specs.declared.merge.stage.MergeStage.{MergeStage}
 use Rattle.mvo_store.specs.declared.merge.stage.MergeStage.TheVariants.{Data as MergeAtData, Delta as MergeAtDelta}
 use Rattle.mvo_store.specs.declared.merge.merging.Merging.{Merging}
@@ -39,17 +42,19 @@ pub data Job : Type 0 where
 abbrev pub no_jobs : Jobs
 no_jobs = Beside None None
 
-abbrev pub checkpoint_alone : Option Checkpointing → List Job
+-- one whose segment is read takes no file, and none of its steps is due
+abbrev pub checkpoint_alone : Option CheckpointJob → List Job
 checkpoint_alone None = []
-checkpoint_alone (Some c) = Checkpoint c ∷ []
+checkpoint_alone (Some (Reads r)) = []
+checkpoint_alone (Some (Runs c)) = Checkpoint c ∷ []
 
--- one whose pairs are read takes no file, and none of its steps is due
+-- so it is with one whose pairs are read
 abbrev pub merge_alone : Option MergeJob → List Job
 merge_alone None = []
 merge_alone (Some (Reading g)) = []
 merge_alone (Some (Running g)) = Merge g ∷ []
 
--- each of them, but a merge whose pairs are read
+-- each of them, but a checkpoint whose segment is read, and a merge whose pairs are
 abbrev pub jobs_of : Jobs → List Job
 jobs_of (RotationAlone fresh i) = Rotation fresh i ∷ []
 jobs_of (MergeAlone seen placed i) = MergeInstall seen placed i ∷ []
@@ -62,6 +67,14 @@ reading_of jobs = None
 
 abbrev pub is_merge_read : Jobs → Bool
 is_merge_read jobs = is_some (reading_of jobs)
+
+-- the checkpoint whose segment is read
+abbrev pub segment_read_of : Jobs → Option CheckpointReading
+segment_read_of (Beside (Some (Reads r)) g) = Some r
+segment_read_of jobs = None
+
+abbrev pub is_segment_read : Jobs → Bool
+is_segment_read jobs = is_some (segment_read_of jobs)
 
 -- ---- which of them keep another out
 
@@ -158,12 +171,14 @@ install_of (Checkpoint c) = install_at c.next c.stage
 install_of (Merge g) = None
 install_of (MergeInstall g placed i) = Some i
 
--- The job whose manifest is the next to be installed. A merge that isn't ready has none.
+-- The job whose manifest is the next to be installed. A merge that isn't ready has none, nor has a
+-- checkpoint whose segment is read.
 abbrev pub next_installed : Jobs → Option Job
 next_installed (RotationAlone fresh i) = Some (Rotation fresh i)
 next_installed (MergeAlone seen placed i) = Some (MergeInstall seen placed i)
 next_installed (Beside None g) = None
-next_installed (Beside (Some c) g) = Some (Checkpoint c)
+next_installed (Beside (Some (Reads r)) g) = None
+next_installed (Beside (Some (Runs c)) g) = Some (Checkpoint c)
 
 -- ---- which files they take
 
@@ -181,7 +196,7 @@ takes_file jobs n = list_any (λ j. job_takes_file j n) (jobs_of jobs)
 
 -- the pair of a checkpoint
 abbrev pub checkpoint_pair : Jobs → Option Pair
-checkpoint_pair (Beside (Some c) g) = Some c.pair
+checkpoint_pair (Beside (Some (Runs c)) g) = Some c.pair
 checkpoint_pair jobs = None
 
 -- that of a merge whose files aren't all written
@@ -193,8 +208,13 @@ merge_pair jobs = None
 
 -- a checkpoint, where none is kept out
 abbrev pub with_checkpoint : Checkpointing → Jobs → Jobs
-with_checkpoint c (Beside None g) = Beside (Some c) g
+with_checkpoint c (Beside None g) = Beside (Some (Runs c)) g
 with_checkpoint c jobs = jobs
+
+-- so where its segment is read first
+abbrev pub with_segment_read : CheckpointReading → Jobs → Jobs
+with_segment_read r (Beside None g) = Beside (Some (Reads r)) g
+with_segment_read r jobs = jobs
 
 -- a merge, where none is kept out
 abbrev pub with_merge : Merging → Jobs → Jobs
@@ -210,6 +230,11 @@ with_reading g jobs = jobs
 abbrev pub without_reading : Jobs → Jobs
 without_reading (Beside c (Some (Reading g))) = Beside c None
 without_reading jobs = jobs
+
+-- but a checkpoint whose segment is
+abbrev pub without_segment_read : Jobs → Jobs
+without_segment_read (Beside (Some (Reads r)) g) = Beside None g
+without_segment_read jobs = jobs
 
 -- ---- what a step makes of them
 
@@ -243,9 +268,13 @@ after_step (Checkpoint c) = Checkpoint (checkpoint_behind c)
 after_step (Merge g) = Merge (with_data_file g)
 after_step (MergeInstall g placed i) = MergeInstall g placed (stepped i)
 
-abbrev pub checkpoint_by : Option Checkpointing → Option Checkpointing
+abbrev pub checkpoint_job_by : CheckpointJob → CheckpointJob
+checkpoint_job_by (Reads r) = Reads r
+checkpoint_job_by (Runs c) = Runs (checkpoint_behind c)
+
+abbrev pub checkpoint_by : Option CheckpointJob → Option CheckpointJob
 checkpoint_by None = None
-checkpoint_by (Some c) = Some (checkpoint_behind c)
+checkpoint_by (Some c) = Some (checkpoint_job_by c)
 
 abbrev pub merge_job_by : MergeJob → MergeJob
 merge_job_by (Reading g) = Reading g
@@ -291,7 +320,7 @@ progress_at older (AtDelta written) = if nat_lt written older then More else Rea
 progress_at older (AtInstall step) = More
 
 abbrev pub progress_of : Jobs → Progress
-progress_of (Beside (Some c) g) = progress_at (length c.made.deltas) c.stage
+progress_of (Beside (Some (Runs c)) g) = progress_at (length c.made.deltas) c.stage
 progress_of jobs = More
 
 -- ---- what a slice of a data file makes of them
@@ -325,6 +354,10 @@ merge_stage_upto upto all = if nat_lt upto all then MergeAtData upto else MergeA
 abbrev pub checkpoint_upto : ℕ → Checkpointing → Checkpointing
 checkpoint_upto upto c = record c { stage = stage_upto upto (length c.made.records) }
 
+abbrev pub checkpoint_job_upto : ℕ → CheckpointJob → CheckpointJob
+checkpoint_job_upto upto (Reads r) = Reads r
+checkpoint_job_upto upto (Runs c) = Runs (checkpoint_upto upto c)
+
 abbrev pub merge_upto : ℕ → Merging → Merging
 merge_upto upto g = record g { stage = merge_stage_upto upto (length g.seen.made.records) }
 
@@ -341,7 +374,7 @@ job_upto upto j = j
 abbrev pub jobs_upto : ℕ → Due → Jobs → Jobs
 jobs_upto upto step (Beside c g) =
     if is_of_merge step then Beside c (option_map (merge_job_upto upto) g)
-    else Beside (option_map (checkpoint_upto upto) c) g
+    else Beside (option_map (checkpoint_job_upto upto) c) g
 jobs_upto upto step jobs = jobs
 
 -- so it is behind the next slice

@@ -8,6 +8,8 @@ use Rattle.mvo_places.specs.Places.{PlaceMap, ArePlaces, taken_upto}
 use Rattle.mvo_merge.specs.Moved.{moved}
 use Rattle.mvo_store.specs.declared.limits.TheConstants.{PLACES_A_SLICE}
 use Rattle.mvo_store.specs.declared.checkpoint.checkpointing.Checkpointing.{Checkpointing}
+use Rattle.mvo_store.specs.declared.checkpoint.checkpoint_job.CheckpointJob.{CheckpointJob}
+use Rattle.mvo_store.specs.declared.checkpoint.checkpoint_job.CheckpointJob.TheVariants.{Reading as Reads, Running as Runs}
 use Rattle.mvo_store.specs.declared.jobs.jobs.Jobs.{Jobs}
 use Rattle.mvo_store.specs.declared.jobs.jobs.Jobs.TheVariants.{Rotation as RotationAlone, Merge as MergeAlone, Beside}
 use Rattle.mvo_store.specs.Jobs.{Job, next_installed}
@@ -51,17 +53,22 @@ changes_behind placed all =
 abbrev pub checkpoint_placed : Checkpointing → Checkpointing
 checkpoint_placed c = record c { placed = changes_behind c.placed (change_count c.made) }
 
+abbrev pub checkpoint_job_placed : CheckpointJob → CheckpointJob
+checkpoint_job_placed (Reads r) = Reads r
+checkpoint_job_placed (Runs c) = Runs (checkpoint_placed c)
+
 -- a checkpoint, or a merge whose files are written, has a slice more behind it
 abbrev pub with_places : Jobs → Jobs
 with_places (RotationAlone fresh i) = RotationAlone fresh i
 with_places (MergeAlone seen placed i) =
     MergeAlone seen (changes_behind placed (length seen.made.records)) i
-with_places (Beside c g) = Beside (option_map checkpoint_placed c) g
+with_places (Beside c g) = Beside (option_map checkpoint_job_placed c) g
 
 -- some of its changes are left
-abbrev pub is_checkpoint_left : Option Checkpointing → Bool
+abbrev pub is_checkpoint_left : Option CheckpointJob → Bool
 is_checkpoint_left None = false
-is_checkpoint_left (Some c) = nat_lt c.placed (change_count c.made)
+is_checkpoint_left (Some (Reads r)) = false
+is_checkpoint_left (Some (Runs c)) = nat_lt c.placed (change_count c.made)
 
 abbrev pub are_places_left : Jobs → Bool
 are_places_left (RotationAlone fresh i) = false

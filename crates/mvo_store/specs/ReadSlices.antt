@@ -16,7 +16,7 @@ use Rattle.mvo_load.specs.Read.{IsMisread}
 use Rattle.mvo_load.specs.Sliced.{IsReadUpTo, IsSliceOf}
 use Rattle.mvo_merge.specs.Merged.{MergedData}
 use Rattle.mvo_merge.specs.SoFar.{with_left, with_right}
-use Rattle.mvo_store.specs.declared.checkpoint.checkpointing.Checkpointing.{Checkpointing}
+use Rattle.mvo_store.specs.declared.checkpoint.checkpoint_job.CheckpointJob.{CheckpointJob}
 use Rattle.mvo_store.specs.declared.merge.merging.Merging.{Merging}
 use Rattle.mvo_store.specs.declared.merge.reading.MergeReading.{MergeReading}
 use Rattle.mvo_store.specs.declared.merge.merge_job.MergeJob.{MergeJob}
@@ -103,7 +103,7 @@ IsSliceTo honest content may m taken old (Running g) =
 
 -- so it is of the merge that is read, beside the checkpoint that runs, if one does
 pub record IsSliceBeside (honest : Type 0) (content : Image) (may : ℕ → List ℕ → Type 0)
-    (m : ManifestData) (taken : List ℕ) (c : Option Checkpointing) (old : MergeReading)
+    (m : ManifestData) (taken : List ℕ) (c : Option CheckpointJob) (old : MergeReading)
     (new : Jobs) : Type 0 where
   pub merge : MergeJob
   pub is : new ≡ Beside c (Some merge)

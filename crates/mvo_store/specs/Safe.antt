@@ -23,9 +23,9 @@ use Rattle.mvo_store.specs.declared.merge.stage.MergeStage.TheVariants.{Data as 
 use Rattle.mvo_store.specs.declared.merge.merging.Merging.{Merging}
 use Rattle.mvo_store.specs.declared.jobs.jobs.Jobs.{Jobs}
 use Rattle.mvo_store.specs.declared.limits.TheConstants.{MAX_GENERATION}
-use Rattle.mvo_store.specs.Jobs.{Job, jobs_of, reading_of}
+use Rattle.mvo_store.specs.Jobs.{Job, jobs_of}
 use Rattle.mvo_store.specs.Placing.{change_count}
-use Rattle.mvo_store.specs.PairsRead.{IsSafeReading}
+use Rattle.mvo_store.specs.Reading.{AreSafeReadings}
 use Rattle.mvo_store.specs.Jobs.Job.{Rotation, Checkpoint, Merge, MergeInstall}
 use Rattle.mvo_store.specs.Checkpoint.{next_of}
 use Rattle.mvo_store.specs.Merging.{StandStill, MayBecome}
@@ -109,7 +109,7 @@ pub record IsSafe {D : Type 0} (d : Ghosts D) (s : StoreData D) : Type 0 where
   pub written : s.written ≡ true → HasNext s.pending s.segment.next
   pub jobs : AreSafe s.manifest s.jobs
   pub apart : ShareNone s.jobs
-  pub reading : IsSafeReading s.manifest (reading_of s.jobs)
+  pub reading : AreSafeReadings s.manifest s.places.at s.jobs
   pub room_for : JobsHaveRoom s.places s.jobs
   pub room : d.fault_count s.disk + 1 < 2 ^ 64
 

@@ -26,6 +26,7 @@ use Rattle.mvo_store.specs.declared.install.install_step.InstallStep.TheVariants
 use Rattle.mvo_store.specs.declared.install.install.Install.{Install as InstallData}
 use Rattle.mvo_store.specs.declared.merge.seen_pairs.SeenPairs.{SeenPairs}
 use Rattle.mvo_store.specs.declared.checkpoint.checkpointing.Checkpointing.{Checkpointing}
+use Rattle.mvo_store.specs.declared.checkpoint.checkpoint_job.CheckpointJob.TheVariants.{Running as Runs}
 use Rattle.mvo_store.specs.declared.merge.merging.Merging.{Merging}
 use Rattle.mvo_store.specs.declared.merge.merge_job.MergeJob.TheVariants.{Running}
 use Rattle.mvo_store.specs.declared.jobs.jobs.Jobs.{Jobs}
@@ -35,8 +36,8 @@ use Rattle.mvo_store.specs.Merging.{IsMerging, IsMergeWritten, IsMergeReady}
 use Rattle.mvo_load.specs.Old.{is_old}
 use Rattle.mvo_store.specs.Old.{KnowsOld}
 use Rattle.mvo_store.specs.Placing.{change_count, HavePlacesSoFar}
-use Rattle.mvo_store.specs.PairsRead.{HasReading}
-use Rattle.mvo_store.specs.Jobs.{Job, jobs_of, reading_of, install_of, job_takes_file}
+use Rattle.mvo_store.specs.Reading.{HaveReadings}
+use Rattle.mvo_store.specs.Jobs.{Job, jobs_of, install_of, job_takes_file}
 use Rattle.mvo_store.specs.Jobs.Job.{Rotation, Checkpoint, Merge, MergeInstall}
 use Rattle.mvo_store.specs.StoreData.{StoreData, opening}
 
@@ -102,7 +103,7 @@ ShareNoFile j k = (n : ℕ) → job_takes_file j n ≡ true → job_takes_file k
 
 -- a checkpoint and a merge beside one another share no file
 abbrev pub ShareNone : Jobs → Type 0
-ShareNone (Beside (Some c) (Some (Running g))) = ShareNoFile (Checkpoint c) (Merge g)
+ShareNone (Beside (Some (Runs c)) (Some (Running g))) = ShareNoFile (Checkpoint c) (Merge g)
 ShareNone jobs = Unit {0}
 
 -- each of those that run stands beside the manifest
@@ -176,7 +177,7 @@ pub record IsUp {D : Type 0} (d : Ghosts D) (s : StoreData D) (rows : Map) : Typ
       (d.content s.disk s.segment.file)
   pub jobs : HaveJobs (d.content s.disk) (d.may_leave s.disk) s.manifest parts s.jobs
   pub apart : ShareNone s.jobs
-  pub reading : HasReading (d.content s.disk) s.manifest (reading_of s.jobs)
+  pub reading : HaveReadings (d.content s.disk) s.manifest s.places.at s.jobs
   pub places : HavePlacesSoFar s.manifest.pairs parts.lives s.jobs s.places.at
   pub room_for : JobsHaveRoom s.places s.jobs
   pub room : d.fault_count s.disk + 1 < 2 ^ 64

@@ -59,13 +59,14 @@ impl<D: Disk + Drop> Drop for Store<D> {
 impl<D: Disk> Model for Store<D> {
     ghost use Rattle.std.specs.Prelude.{◌≡◌, false};
     ghost use Rattle.std.specs.Coded.{codes};
+    ghost use Rattle.mvo_hash.specs.Table.{coded_table};
     ghost use Rattle.mvo_places.specs.Places.{coded_places};
     ghost use Rattle.mvo_store.specs.StoreData.{StoreData};
     ghost use Rattle.mvo_store.specs.Safe.{IsStoreSound};
 
     ghost Value = { StoreData D };
 
-    ghost coded = { Prim.hlevel (codes, coded_places) };
+    ghost coded = { Prim.hlevel (codes, coded_places, coded_table) };
 
     ghost use Rattle.mvo_store.specs.View.{store_data};
 

@@ -46,6 +46,13 @@ pub(crate) fn hold(rt: &impl Abort, disk: &MemDisk, files: &[(u16, &[u8])]) {
     }
 }
 
+/// The files of both disks hold the same.
+pub(crate) fn are_same(rt: &impl Abort, first: &MemDisk, second: &MemDisk) {
+    for file in 0..16 {
+        same_at(rt, file as usize, &first.bytes(file), &second.bytes(file));
+    }
+}
+
 /// The file begins with these bytes.
 pub(crate) fn begins(rt: &impl Abort, disk: &MemDisk, file: u16, bytes: &[u8]) {
     holds(rt, file < 16);

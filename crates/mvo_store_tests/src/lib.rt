@@ -42,6 +42,10 @@ mod reply;
 #[cfg(test)]
 mod runs;
 #[cfg(test)]
+mod segments;
+#[cfg(test)]
+mod shortening;
+#[cfg(test)]
 mod slices;
 #[cfg(test)]
 mod spent;

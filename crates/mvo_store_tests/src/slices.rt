@@ -70,8 +70,8 @@ fn a_merged_pair_is_written_in_a_slice(rt: HostRuntime) -> Result<(), Fail> {
     has_row(&rt, &rows_on(&rt, rt.alloc(), disk, 4)?, b"b")
 }
 
-/// How many rows each group puts: four groups have three more than fit into a slice.
-const ROWS: u64 = 255;
+/// How many rows each group puts: four groups have one more than fit into a slice.
+const ROWS: u64 = 16;
 
 /// The group of a round, from 0 on.
 fn long_group(alloc: Global, round: u64) -> Result<Group, Fail> {
@@ -135,8 +135,8 @@ fn two_slices_are_a_data_file(rt: HostRuntime) -> Result<(), Fail> {
     append(alloc, &mut store, 4)?;
     follow(&rt, alloc, &mut store, &TO_THE_END)?;
     let disk = store.into_disk();
-    same(&rt, &disk.bytes(4).len(), &(8 + 1_020 * 4_123));
-    same(&rt, &rows_on(&rt, alloc, disk, 10)?.len(), &1_275);
+    same(&rt, &disk.bytes(4).len(), &(8 + 64 * 4_123));
+    same(&rt, &rows_on(&rt, alloc, disk, 10)?.len(), &80);
     Ok(())
 }
 
@@ -144,7 +144,7 @@ fn two_slices_are_a_data_file(rt: HostRuntime) -> Result<(), Fail> {
 fn a_stop_between_slices_leaves_the_rows(rt: HostRuntime) -> Result<(), Fail> {
     let alloc = rt.alloc();
     let disk = stopped(between_slices(&rt, alloc)?.into_disk())?;
-    same(&rt, &rows_on(&rt, alloc, disk, 8)?.len(), &1_020);
+    same(&rt, &rows_on(&rt, alloc, disk, 8)?.len(), &64);
     Ok(())
 }
 
@@ -162,10 +162,6 @@ fn a_whole_file_comes_behind_a_slice(rt: HostRuntime) -> Result<(), Fail> {
     let mut store = between_slices(&rt, alloc)?;
     follow(&rt, alloc, &mut store, &WHOLE_INSTEAD)?;
     follow(&rt, alloc, &mut store, &INSTALLED)?;
-    same(
-        &rt,
-        &rows_on(&rt, alloc, store.into_disk(), 8)?.len(),
-        &1_020,
-    );
+    same(&rt, &rows_on(&rt, alloc, store.into_disk(), 8)?.len(), &64);
     Ok(())
 }

@@ -24,6 +24,12 @@ pub(crate) enum Step {
     Append(Body),
     RotateWrite,
     CheckpointRead,
+    /// Begins to read its segment.
+    CheckpointBegin,
+    /// The next slice of it.
+    CheckpointReadSlice,
+    /// Forgets what is read of it.
+    CheckpointForget,
     CheckpointData,
     /// The next slice of its data file.
     CheckpointSlice,
@@ -55,6 +61,8 @@ pub(crate) enum Step {
     /// The step of a job that comes next, that of a merge first.
     Due,
     Reclaim,
+    /// Cuts the end of a long file off that nobody names.
+    Shorten,
 }
 
 /// The steps of jobs that run.
@@ -164,6 +172,7 @@ impl Step {
             Step::Append(body) => take_and_append(store, alloc, body)?,
             Step::RotateWrite => done(store.rotate_write()),
             Step::CheckpointRead => done(store.checkpoint_read()),
+            Step::CheckpointBegin => done(store.checkpoint_begin()),
             Step::MergeRead(place) => done(store.merge_read(place)),
             Step::MergeBegin(place) => done(store.merge_begin(place)),
             Step::Rotate => installed(rotate(store)),
@@ -172,6 +181,7 @@ impl Step {
             Step::MergeInSlices(place) => installed(merge_in_slices(store, place)),
             Step::Due => due(store),
             Step::Reclaim => emptied(store.reclaim()),
+            Step::Shorten => written(store.shorten_slice()),
             step => step.of_job(store),
         })
     }
@@ -179,6 +189,8 @@ impl Step {
     /// What a step of a job that runs is answered.
     fn of_job(self, store: &mut Store<MemDisk>) -> Reply {
         match self {
+            Step::CheckpointReadSlice => written(store.checkpoint_read_slice()),
+            Step::CheckpointForget => done(store.checkpoint_forget()),
             Step::CheckpointData => done(store.checkpoint_data()),
             Step::CheckpointSlice => written(store.checkpoint_slice()),
             Step::CheckpointDelta => written(store.checkpoint_delta()),

@@ -7,6 +7,7 @@ use super::Engine;
 use super::call_by_call::CallByCall;
 use crate::gate::Gate;
 use crate::place::Place;
+use crate::read_slices::ReadSlices;
 use crate::run::Run;
 use crate::slice::Slice;
 use crate::sliced::Sliced;
@@ -22,7 +23,7 @@ impl<L: Run, D: Disk, G: Gate + Drop> Engine<L, D, G> {
     ghost use Rattle.mvo_store.specs.Wholes.{AreToRefusal, IsCheckpoint, rotation, merge};
     ghost use Rattle.mvo_engine.specs.Jobs.{IsCallAlone, IsInSlices, IsDataAlone, IsBehindPlaces};
     ghost use Rattle.mvo_engine.specs.Jobs.{IsOneCallAlone, AreSlicesAlone, IsSliceAlone, told_of};
-    ghost use Rattle.mvo_engine.specs.Jobs.{ArePairsAlone, IsReadAlone};
+    ghost use Rattle.mvo_engine.specs.Jobs.{IsReadAlone, IsReadOnAlone, IsBehindCuts};
     ghost use Rattle.mvo_store.specs.declared.call.StoreCall.TheVariants.{Step};
     ghost use Rattle.mvo_store.specs.declared.jobs.due.Due.TheVariants.{Install as InstallDue};
     ghost use Rattle.mvo_store.specs.declared.install.install_step.InstallStep.TheVariants.{Open};
@@ -73,9 +74,19 @@ impl<L: Run, D: Disk, G: Gate + Drop> Engine<L, D, G> {
     }
 
     // A call of the store in a turn of its own, which is given back behind it; but a data file is
-    // written by slices, two pairs are read by slices, and so are the places put before a manifest
-    // is installed, each in a turn of its own.
+    // written by slices, a segment and two pairs are read by slices, and so are the places put
+    // before a manifest is installed, each in a turn of its own. Before a job begins, and before a
+    // file is reclaimed, long files that nobody names are cut by slices.
     pub(crate) fn call_in_turn<R: Wait>(&self, rt: &R, call: StoreCall) -> Result<Done, Refusal>
+        ensures { IsCallAlone D.Disk tt call result tt }
+    {
+        let done = self.uncounted_in_turn(rt, call);
+        self.counting.count_call(call, &done);
+        done
+    }
+
+    // So it is made, and isn't counted.
+    fn uncounted_in_turn<R: Wait>(&self, rt: &R, call: StoreCall) -> Result<Done, Refusal>
         ensures { IsCallAlone D.Disk tt call result tt }
     {
         match slices_of(call) {
@@ -91,7 +102,9 @@ impl<L: Run, D: Disk, G: Gate + Drop> Engine<L, D, G> {
         match sliced {
             Sliced::Written(slice) => self.data_in_turns(rt, slice),
             Sliced::Placed => self.behind_places(rt, call),
-            Sliced::Read(place) => self.pairs_in_turns(rt, place),
+            Sliced::Shortened => self.behind_cuts(rt, call),
+            Sliced::PairsRead(place) => self.read_behind_cuts(rt, ReadSlices::of_pairs(place)),
+            Sliced::SegmentRead => self.read_behind_cuts(rt, ReadSlices::of_segment()),
         }
     }
 
@@ -105,25 +118,45 @@ impl<L: Run, D: Disk, G: Gate + Drop> Engine<L, D, G> {
         }
     }
 
-    // Reads the pair at a place and the one behind it.
-    fn pairs_in_turns<R: Wait>(&self, rt: &R, place: usize) -> Result<Done, Refusal>
-        ensures { ArePairsAlone D.Disk place result }
+    // Cuts long files that nobody names, and makes the call.
+    fn behind_cuts<R: Wait>(&self, rt: &R, call: StoreCall) -> Result<Done, Refusal>
+        ensures { IsBehindCuts D.Disk (IsOneCallAlone D.Disk call) result }
     {
-        match self.slice_in_turn(rt, Slice::MergeBegin(place)) {
-            Ok(_) => self.read_in_turns(rt),
+        match self.slices_in_turns(rt, Slice::Shorten) {
+            Ok(()) => self.one_call_in_turn(rt, call),
             Err(refusal) => Err(refusal),
         }
     }
 
-    // Reads them on up to their end. Where that is refused, what is read is forgotten: nobody goes
-    // on with it, and others would wait for it.
-    fn read_in_turns<R: Wait>(&self, rt: &R) -> Result<Done, Refusal>
-        ensures { IsReadAlone D.Disk result }
+    // The same, and reads what a job is made of.
+    fn read_behind_cuts<R: Wait>(&self, rt: &R, slices: ReadSlices) -> Result<Done, Refusal>
+        ensures { IsBehindCuts D.Disk (IsReadAlone D.Disk slices) result }
     {
-        match self.slices_in_turns(rt, Slice::MergeRead) {
+        match self.slices_in_turns(rt, Slice::Shorten) {
+            Ok(()) => self.read_in_turns(rt, slices),
+            Err(refusal) => Err(refusal),
+        }
+    }
+
+    // Reads what a job is made of.
+    fn read_in_turns<R: Wait>(&self, rt: &R, slices: ReadSlices) -> Result<Done, Refusal>
+        ensures { IsReadAlone D.Disk slices result }
+    {
+        match self.slice_in_turn(rt, slices.begin) {
+            Ok(_) => self.read_on_in_turns(rt, slices),
+            Err(refusal) => Err(refusal),
+        }
+    }
+
+    // Reads it on up to its end. Where that is refused, what is read is forgotten: nobody goes on
+    // with it, and others would wait for it.
+    fn read_on_in_turns<R: Wait>(&self, rt: &R, slices: ReadSlices) -> Result<Done, Refusal>
+        ensures { IsReadOnAlone D.Disk slices result }
+    {
+        match self.slices_in_turns(rt, slices.on) {
             Ok(()) => Ok(Done::Progress(Progress::More)),
             Err(refusal) => {
-                let _ = self.slice_in_turn(rt, Slice::MergeForget);
+                let _ = self.slice_in_turn(rt, slices.forget);
                 Err(refusal)
             }
         }
@@ -169,15 +202,6 @@ impl<L: Run, D: Disk, G: Gate + Drop> Engine<L, D, G> {
 
     // The call alone.
     fn one_call_in_turn<R: Wait>(&self, rt: &R, call: StoreCall) -> Result<Done, Refusal>
-        ensures { IsOneCallAlone D.Disk call result }
-    {
-        let done = self.uncounted_in_turn(rt, call);
-        self.counting.count_call(call, &done);
-        done
-    }
-
-    // So it is made, and isn't counted.
-    fn uncounted_in_turn<R: Wait>(&self, rt: &R, call: StoreCall) -> Result<Done, Refusal>
         ensures { IsOneCallAlone D.Disk call result }
     {
         if opens_a_manifest(call) {
@@ -226,7 +250,9 @@ fn slices_of(call: StoreCall) -> Option<Sliced>
         StoreCall::Step(Due::Data) => Some(Sliced::Written(Slice::Checkpoint)),
         StoreCall::Step(Due::MergeData) => Some(Sliced::Written(Slice::Merge)),
         StoreCall::Step(Due::Install(InstallStep::Close)) => Some(Sliced::Placed),
-        StoreCall::MergeRead(place) => Some(Sliced::Read(place)),
+        StoreCall::MergeRead(place) => Some(Sliced::PairsRead(place)),
+        StoreCall::CheckpointRead => Some(Sliced::SegmentRead),
+        StoreCall::RotateWrite | StoreCall::Reclaim => Some(Sliced::Shortened),
         _ => None,
     }
 }

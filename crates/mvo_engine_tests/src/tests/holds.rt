@@ -13,9 +13,9 @@ use std::sync::atomic::{AtomicU64, Ordering};
 use std::test::Fail;
 
 /// What a clock says, each time that it is asked: at the beginning of a hold, and at its end. A
-/// flush holds the lock twice, a rotation five times, and who makes its own commit durable once.
-const MOMENTS: [u64; 16] = [
-    2, 7, 10, 30, 40, 43, 50, 100, 100, 100, 100, 100, 100, 100, 200, 290,
+/// flush holds the lock twice, a rotation six times, and who makes its own commit durable once.
+const MOMENTS: [u64; 18] = [
+    2, 7, 10, 30, 40, 43, 50, 100, 100, 100, 100, 100, 100, 100, 100, 100, 200, 290,
 ];
 
 /// A gate whose clock says these. It counts how often it was asked.

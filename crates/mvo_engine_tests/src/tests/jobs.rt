@@ -42,8 +42,20 @@ const WHOLE: [Line; 15] = [
 ];
 
 /// Behind a rotation, so that the log has a sealed segment.
-const BY_STEPS: [Line; 39] = [
+const BY_STEPS: [Line; 48] = [
     (Store(SliceOf(Slice::Places)), NOTHING_TO_DO),
+    // No file is long that nobody names.
+    (Store(SliceOf(Slice::Shorten)), Ready),
+    // A segment is read by slices, of which a checkpoint is to be made, and what is read is
+    // forgotten.
+    (Store(SliceOf(Slice::CheckpointRead)), NOTHING_TO_DO),
+    (Store(SliceOf(Slice::CheckpointForget)), NOTHING_TO_DO),
+    (Store(SliceOf(Slice::CheckpointBegin)), More),
+    (Rotate, BUSY),
+    (Checkpoint, BUSY),
+    (Store(SliceOf(Slice::CheckpointRead)), More),
+    (Store(SliceOf(Slice::CheckpointForget)), Ready),
+    (Store(SliceOf(Slice::CheckpointRead)), NOTHING_TO_DO),
     // A checkpoint runs, and no other job begins. It goes on by its steps: the merged pair's delta
     // file gains a number behind the new pair's own.
     (Store(Call(CheckpointRead)), More),
@@ -100,22 +112,24 @@ pub fn do_jobs<L: Run, D: Disk, G: Gate + Drop, R: Abort + Wait>(
     passes: &AtomicU64,
 ) -> Result<(), Refusal> {
     follow_new(rt, alloc, engine, &WHOLE)?;
-    rotate_by_five(rt, engine, passes);
+    rotate_by_six(rt, engine, passes);
     follow_new(rt, alloc, engine, &BY_STEPS)?;
     reclaim_all(rt, engine);
+    // Those that are made by hand aren't counted.
+    same(rt, &engine.totals().merges, &1);
     Ok(())
 }
 
-// A rotation takes the lock of the store five times: once for each step, and once for the places,
-// of which it puts none.
-fn rotate_by_five<L: Run, D: Disk, G: Gate + Drop, R: Abort + Wait>(
+// A rotation takes the lock of the store six times: once for each step, once for the long files that
+// nobody names, of which there is none, and once for the places, of which it puts none.
+fn rotate_by_six<L: Run, D: Disk, G: Gate + Drop, R: Abort + Wait>(
     rt: &R,
     engine: &Engine<L, D, G>,
     passes: &AtomicU64,
 ) {
     passes.store(0, Ordering::SeqCst);
     same(rt, &installed(engine.rotate(rt)), &Number(6));
-    same(rt, &passes.load(Ordering::SeqCst), &5);
+    same(rt, &passes.load(Ordering::SeqCst), &6);
 }
 
 // There is an end to what is emptied.

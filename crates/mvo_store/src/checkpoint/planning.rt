@@ -1,8 +1,12 @@
 //! Plans a checkpoint: what it writes, and the manifest that it installs.
-ghost use Rattle.std.specs.Prelude.{◌≡◌, ◌<◌, ◌+◌, ◌^◌, IfOk, OnOk, IfErr, length, map};
+ghost use Rattle.std.specs.Prelude.{◌≡◌, ◌<◌, ◌+◌, ◌^◌, IfOk, OnOk, IfErr, List, length, map};
 ghost use Rattle.std.specs.Option.{SomeIff};
 ghost use Rattle.mvo_manifest.specs.Rules.{IsManifest};
 ghost use Rattle.mvo_recovery.specs.Checkpoint.{raise};
+ghost use Rattle.mvo_group.specs.Data.{GroupData};
+ghost use Rattle.mvo_places.specs.Places.{PlaceMap};
+ghost use Rattle.mvo_ckpt.specs.Building.{IsBuiltCheckpointOf};
+ghost use Rattle.mvo_store.specs.SegmentSlices.{MayPlanOf};
 ghost use Rattle.mvo_store.specs.Checkpoint.{gained_in, gained, next_of};
 ghost use Rattle.mvo_store.specs.Files.{files_taken};
 ghost use Rattle.mvo_store.specs.Planning.{MayPlan, HaveCounts, CountsFit, IsPlanRefusal, IsPlanned};
@@ -10,13 +14,13 @@ ghost use Rattle.mvo_store.specs.Planning.{MayPlan, HaveCounts, CountsFit, IsPla
 use crate::checkpoint::checkpointing::Checkpointing;
 use crate::checkpoint::stage::CheckpointStage;
 use crate::files::two_free;
-use mvo_ckpt::{DeltaEntries, build};
+use mvo_ckpt::{Checkpoint, DeltaEntries, build};
 use mvo_format::LAST_FORMAT;
 use mvo_frame::Contents;
 use mvo_manifest::Manifest;
 use mvo_pair::Pair;
 use mvo_places::Places;
-use mvo_types::Refusal;
+use mvo_types::{Refusal, Stamp};
 use std::alloc::Global;
 
 /// How many numbers the delta file of the pair with this data file gains.
@@ -92,6 +96,48 @@ fn checkpointed(
     }
 }
 
+/// A checkpoint of which this is made, up to a mark, where another job has taken the files of this
+/// pair. Refused, what is made comes back: OutOfMemory, or Corrupt with the delta file of a pair
+/// that would gain more numbers than its count can say.
+pub fn planned_of(
+    alloc: Global,
+    manifest: &Manifest,
+    other: Option<Pair>,
+    mark: Stamp,
+    made: Checkpoint,
+) -> Result<Checkpointing, (Refusal, Checkpoint)>
+    requires { MayPlanOf manifest.now mark.0 made }
+    ensures planned { (at : PlaceMap) (groups : List GroupData) →
+        IsBuiltCheckpointOf at manifest.now.pairs groups made → IfOk result
+        (IsPlanned manifest.now (files_taken other) at groups mark.0) }
+    ensures made { IfOk result (λ c. c.made ≡ made) }
+    ensures refused { (at : PlaceMap) (groups : List GroupData) →
+        IsBuiltCheckpointOf at manifest.now.pairs groups made → IfErr result (λ e.
+        IsPlanRefusal (CountsFit manifest.now at groups) e.0) }
+    ensures back { IfErr result (λ e. e.1 ≡ made) }
+{
+    let (data_file, delta_file) = two_free(manifest, other);
+    let records = made.records.as_slice();
+    let pair = Pair {
+        data_file,
+        delta_file,
+        lo: manifest.checkpoint_mark(),
+        hi: mark,
+        records: records.len() as u32,
+        entries: 0,
+    };
+    match checkpointed(alloc, manifest, pair, &made.deltas) {
+        Ok(next) => Ok(Checkpointing {
+            pair,
+            made,
+            next,
+            stage: CheckpointStage::Data(0),
+            placed: 0,
+        }),
+        Err(refusal) => Err((refusal, made)),
+    }
+}
+
 /// A checkpoint of what the oldest sealed segment holds, where another job has taken the files of
 /// this pair. Refused: OutOfMemory, or Corrupt with the delta file of a pair that would gain more
 /// numbers than its count can say.
@@ -108,26 +154,9 @@ pub fn planned(
     ensures refused { IfErr result (IsPlanRefusal
         (CountsFit manifest.now places.now.at contents.groups.items)) }
 {
-    let (data_file, delta_file) = two_free(manifest, other);
     let made = build(alloc, places, manifest.pairs(), contents.groups)?;
-    let records = made.records.as_slice();
-    let pair = Pair {
-        data_file,
-        delta_file,
-        lo: manifest.checkpoint_mark(),
-        hi: contents.mark,
-        records: records.len() as u32,
-        entries: 0,
-    };
-    let next = match checkpointed(alloc, manifest, pair, &made.deltas) {
-        Ok(next) => next,
-        Err(refusal) => return Err(refusal),
-    };
-    Ok(Checkpointing {
-        pair,
-        made,
-        next,
-        stage: CheckpointStage::Data(0),
-        placed: 0,
-    })
+    match planned_of(alloc, manifest, other, contents.mark, made) {
+        Ok(checkpoint) => Ok(checkpoint),
+        Err((refusal, _)) => Err(refusal),
+    }
 }

@@ -16,7 +16,8 @@ ghost use Rattle.mvo_store.specs.declared.jobs.due.Due.TheVariants.{Data, Delta}
 ghost use Rattle.mvo_store.specs.Calls.{IsStoreStep, AnswersProgress, AnswersSlice};
 ghost use Rattle.mvo_store.specs.Files.{files_taken};
 ghost use Rattle.mvo_store.specs.Safe.{IsSafeCheckpoint};
-ghost use Rattle.mvo_store.specs.Planning.{MayReadCheckpoint, IsNewCheckpoint, IsReadCheckpoint};
+ghost use Rattle.mvo_store.specs.SegmentRead.{MayReadCheckpoint};
+ghost use Rattle.mvo_store.specs.Planning.{IsNewCheckpoint, IsReadCheckpoint};
 ghost use Rattle.mvo_store.specs.Planning.{IsStoppedBeside};
 ghost use Rattle.mvo_store.specs.Causes.{why_not_checkpoint};
 
@@ -99,7 +100,7 @@ fn read_checkpoint<D: Disk>(
 
 impl<D: Disk> Store<D> {
     // Why no checkpoint begins, before memory and the disk are asked.
-    fn why_not_checkpoint(&self) -> Option<Refusal>
+    pub(crate) fn why_not_checkpoint(&self) -> Option<Refusal>
         ensures { result ≡ why_not_checkpoint self.now }
     {
         if self.down {
@@ -165,7 +166,7 @@ impl<D: Disk> Store<D> {
         self.write_due(Due::Data)
     }
 
-    /// Writes the next slice of the data file of the checkpoint that runs, of at most 4 MiB, and
+    /// Writes the next slice of the data file of the checkpoint that runs, of at most 256 KiB, and
     /// syncs it: the first gives the file new content, and the others stand behind it. More comes
     /// with each but the last, and Ready with that: then the delta files are due. While a slice is
     /// due, `checkpoint_data` is too, which writes the whole file.

@@ -7,12 +7,13 @@ ghost use Rattle.mvo_store.specs.Calls.StoreStep.{Place};
 ghost use Rattle.mvo_store.specs.Calls.{IsStoreStep, AnswersPlaces};
 ghost use Rattle.mvo_store.specs.Causes.{why_not_place};
 ghost use Rattle.mvo_store.specs.Jobs.{next_installed};
-ghost use Rattle.mvo_store.specs.Placing.{change_count, changes_behind, checkpoint_placed, with_places};
+ghost use Rattle.mvo_store.specs.Placing.{change_count, changes_behind, checkpoint_placed, checkpoint_job_placed, with_places};
 ghost use Rattle.mvo_store.specs.Placing.{is_checkpoint_left, are_places_left, places_so_far};
 ghost use Rattle.mvo_store.specs.Standing.{FitsRecords, MovesRecords, MayTakeOverOf};
 ghost use Rattle.mvo_store.specs.Standing.{HaveKeysOf, JobsHaveRoom};
 ghost use Rattle.mvo_store.specs.Steps.{places_by};
 
+use crate::checkpoint::checkpoint_job::CheckpointJob;
 use crate::checkpoint::checkpointing::Checkpointing;
 use crate::jobs::jobs::Jobs;
 use crate::jobs::progress::Progress;
@@ -86,7 +87,8 @@ pub fn take_over(places: &mut Places, jobs: &Jobs)
 {
     match jobs {
         Jobs::Rotation(_, _) | Jobs::Beside(None, _) => {}
-        Jobs::Beside(Some(checkpoint), _) => {
+        Jobs::Beside(Some(CheckpointJob::Reading(_)), _) => {}
+        Jobs::Beside(Some(CheckpointJob::Running(checkpoint)), _) => {
             place_checkpoint(places, checkpoint, change_count(checkpoint));
         }
         Jobs::Merge(seen, placed, _) => {
@@ -108,7 +110,8 @@ fn place_more(places: &mut Places, jobs: &Jobs)
 {
     match jobs {
         Jobs::Rotation(_, _) | Jobs::Beside(None, _) => {}
-        Jobs::Beside(Some(checkpoint), _) => {
+        Jobs::Beside(Some(CheckpointJob::Reading(_)), _) => {}
+        Jobs::Beside(Some(CheckpointJob::Running(checkpoint)), _) => {
             let upto = changes_behind(checkpoint.placed, change_count(checkpoint));
             place_checkpoint(places, checkpoint, upto);
         }
@@ -140,6 +143,18 @@ fn checkpoint_placed(checkpoint: Checkpointing) -> Checkpointing
     }
 }
 
+/// The same of one that runs. One whose segment is read changes none.
+fn checkpoint_job_placed(checkpoint: CheckpointJob) -> CheckpointJob
+    ensures { result ≡ checkpoint_job_placed checkpoint }
+{
+    match checkpoint {
+        CheckpointJob::Reading(reading) => CheckpointJob::Reading(reading),
+        CheckpointJob::Running(checkpoint) => {
+            CheckpointJob::Running(checkpoint_placed(checkpoint))
+        }
+    }
+}
+
 /// The jobs that run with one slice more of those changes made.
 fn with_places(jobs: Jobs) -> Jobs
     ensures { result ≡ with_places jobs }
@@ -149,17 +164,20 @@ fn with_places(jobs: Jobs) -> Jobs
             let upto = changes_behind(placed, seen.made.records.as_slice().len());
             Jobs::Merge(seen, upto, install)
         }
-        Jobs::Beside(checkpoint, merge) => Jobs::Beside(checkpoint.map(checkpoint_placed), merge),
+        Jobs::Beside(checkpoint, merge) => {
+            Jobs::Beside(checkpoint.map(checkpoint_job_placed), merge)
+        }
         jobs => jobs,
     }
 }
 
 /// Whether the checkpoint, if one runs, has changes left.
-fn is_checkpoint_left(checkpoint: &Option<Checkpointing>) -> bool
+fn is_checkpoint_left(checkpoint: &Option<CheckpointJob>) -> bool
     ensures { result ≡ is_checkpoint_left checkpoint.now }
 {
     match checkpoint {
-        Some(checkpoint) => checkpoint.placed < change_count(checkpoint),
+        Some(CheckpointJob::Running(checkpoint)) => checkpoint.placed < change_count(checkpoint),
+        Some(CheckpointJob::Reading(_)) => false,
         None => false,
     }
 }
@@ -189,7 +207,7 @@ impl<D: Disk> Store<D> {
         None
     }
 
-    /// Makes the next 16,384 changes that the checkpoint that runs, or the merge whose files are
+    /// Makes the next 2,048 changes that the checkpoint that runs, or the merge whose files are
     /// written, makes of the places: a key without a row loses its place, and a record gets one.
     /// More comes with each slice but the last, and Ready with that. `install_open` makes those
     /// that are left, so it takes the less time the more slices come before it. It asks the disk

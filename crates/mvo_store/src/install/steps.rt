@@ -10,6 +10,7 @@ ghost use Rattle.mvo_store.specs.Jobs.{next_installed, after_install};
 ghost use Rattle.mvo_store.specs.Old.{AreUnmarked};
 ghost use Rattle.mvo_store.specs.Steps.{manifest_by, segment_by, filled_by, spent_by};
 
+use crate::checkpoint::checkpoint_job::CheckpointJob;
 use crate::install::generation::Generation;
 use crate::install::install_step::InstallStep;
 use crate::install::placing::take_over;
@@ -33,7 +34,10 @@ fn unmark_taken(marks: &mut Vec<bool>, jobs: &Jobs)
     match jobs {
         Jobs::Rotation(fresh, _) => unmark(marks, fresh.file),
         Jobs::Beside(None, _) => {}
-        Jobs::Beside(Some(checkpoint), _) => unmark_pair(marks, &checkpoint.pair),
+        Jobs::Beside(Some(CheckpointJob::Reading(_)), _) => {}
+        Jobs::Beside(Some(CheckpointJob::Running(checkpoint)), _) => {
+            unmark_pair(marks, &checkpoint.pair);
+        }
         Jobs::Merge(seen, _, _) => unmark_pair(marks, &seen.pair),
     }
 }
@@ -58,7 +62,8 @@ fn put_installed(jobs: Jobs, manifest: &mut Manifest, segment: &mut Segment) -> 
             (Jobs::none(), Spent::Merge(seen.made))
         }
         Jobs::Beside(checkpoint, merge) => match checkpoint {
-            Some(checkpoint) => {
+            Some(CheckpointJob::Reading(_)) => (Jobs::Beside(None, merge), Spent::Nothing),
+            Some(CheckpointJob::Running(checkpoint)) => {
                 *manifest = checkpoint.next;
                 (
                     Jobs::Beside(None, merge),

@@ -4,9 +4,12 @@ ghost use Rattle.mvo_store.specs.declared.jobs.jobs.Jobs.TheVariants.{Beside};
 ghost use Rattle.mvo_store.specs.Jobs.{next_step, stepped, stage_behind, checkpoint_behind};
 ghost use Rattle.mvo_store.specs.Jobs.{checkpoint_by, merge_by, is_of_merge, with_step};
 ghost use Rattle.mvo_store.specs.Jobs.{merge_job_by, with_checkpoint, with_merge, with_reading};
-ghost use Rattle.mvo_store.specs.Jobs.{without_reading, with_manifest};
+ghost use Rattle.mvo_store.specs.Jobs.{without_reading, with_manifest, checkpoint_job_by};
+ghost use Rattle.mvo_store.specs.Jobs.{with_segment_read, without_segment_read};
 
+use crate::checkpoint::checkpoint_job::CheckpointJob;
 use crate::checkpoint::checkpointing::Checkpointing;
+use crate::checkpoint::reading::CheckpointReading;
 use crate::checkpoint::stage::CheckpointStage;
 use crate::install::install::Install;
 use crate::install::install_step::InstallStep;
@@ -79,12 +82,24 @@ fn checkpoint_behind(checkpoint: Checkpointing) -> Checkpointing
     }
 }
 
+/// The same of one that runs. One whose segment is read has no step.
+fn checkpoint_job_by(checkpoint: CheckpointJob) -> CheckpointJob
+    ensures { result ≡ checkpoint_job_by checkpoint }
+{
+    match checkpoint {
+        CheckpointJob::Reading(reading) => CheckpointJob::Reading(reading),
+        CheckpointJob::Running(checkpoint) => {
+            CheckpointJob::Running(checkpoint_behind(checkpoint))
+        }
+    }
+}
+
 /// The same of the one that runs.
-fn checkpoint_by(checkpoint: Option<Checkpointing>) -> Option<Checkpointing>
+fn checkpoint_by(checkpoint: Option<CheckpointJob>) -> Option<CheckpointJob>
     ensures { result ≡ checkpoint_by checkpoint }
 {
     match checkpoint {
-        Some(checkpoint) => Some(checkpoint_behind(checkpoint)),
+        Some(checkpoint) => Some(checkpoint_job_by(checkpoint)),
         None => None,
     }
 }
@@ -145,7 +160,31 @@ pub fn with_checkpoint(checkpoint: Checkpointing, jobs: Jobs) -> Jobs
     ensures { result ≡ with_checkpoint checkpoint jobs }
 {
     match jobs {
-        Jobs::Beside(running, merge) => Jobs::Beside(running.or(Some(checkpoint)), merge),
+        Jobs::Beside(running, merge) => {
+            Jobs::Beside(running.or(Some(CheckpointJob::Running(checkpoint))), merge)
+        }
+        jobs => jobs,
+    }
+}
+
+/// The jobs that run, and a checkpoint whose segment is read so.
+pub fn with_segment_read(reading: CheckpointReading, jobs: Jobs) -> Jobs
+    ensures { result ≡ with_segment_read reading jobs }
+{
+    match jobs {
+        Jobs::Beside(running, merge) => {
+            Jobs::Beside(running.or(Some(CheckpointJob::Reading(reading))), merge)
+        }
+        jobs => jobs,
+    }
+}
+
+/// The jobs that run, but a checkpoint whose segment is read.
+pub fn without_segment_read(jobs: Jobs) -> Jobs
+    ensures { result ≡ without_segment_read jobs }
+{
+    match jobs {
+        Jobs::Beside(Some(CheckpointJob::Reading(_)), merge) => Jobs::Beside(None, merge),
         jobs => jobs,
     }
 }

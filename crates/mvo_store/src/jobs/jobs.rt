@@ -6,8 +6,9 @@ ghost use Rattle.mvo_store.specs.Jobs.{keeps_merge_out, has_checkpoint, has_rota
 ghost use Rattle.mvo_store.specs.Jobs.{due_of, merge_due_of, is_step_due, job_takes_file, takes_file};
 ghost use Rattle.mvo_store.specs.Jobs.{checkpoint_pair, merge_pair, progress_at, progress_of};
 ghost use Rattle.mvo_store.specs.Jobs.{checkpoint_alone, merge_alone, first_due, next_due};
-ghost use Rattle.mvo_store.specs.Jobs.{first_step, is_merge_read};
+ghost use Rattle.mvo_store.specs.Jobs.{first_step, is_merge_read, is_segment_read};
 
+use crate::checkpoint::checkpoint_job::CheckpointJob;
 use crate::checkpoint::checkpointing::Checkpointing;
 use crate::checkpoint::stage::CheckpointStage;
 use crate::install::install::Install;
@@ -31,7 +32,7 @@ pub enum Jobs {
     Merge(SeenPairs, usize, Install),
     /// A checkpoint of the oldest sealed segment, a merge of two neighbouring pairs whose files
     /// aren't all written, both, or none.
-    Beside(Option<Checkpointing>, Option<MergeJob>),
+    Beside(Option<CheckpointJob>, Option<MergeJob>),
 }
 
 /// The step of a checkpoint that comes next.
@@ -56,11 +57,12 @@ fn merge_due_of(stage: MergeStage) -> Due
 }
 
 /// Whether this step is the next of the checkpoint, if one runs.
-fn checkpoint_is_due(step: Due, checkpoint: &Option<Checkpointing>) -> bool
+fn checkpoint_is_due(step: Due, checkpoint: &Option<CheckpointJob>) -> bool
     ensures { result ≡ is_some (first_due step (checkpoint_alone checkpoint.now)) }
 {
     match checkpoint {
-        Some(checkpoint) => due_of(checkpoint.stage) == step,
+        Some(CheckpointJob::Running(checkpoint)) => due_of(checkpoint.stage) == step,
+        Some(CheckpointJob::Reading(_)) => false,
         None => false,
     }
 }
@@ -88,13 +90,14 @@ fn merge_step(merge: &Option<MergeJob>) -> Option<Due>
 }
 
 /// Whether the checkpoint, if one runs, gives the file new content.
-fn checkpoint_takes(checkpoint: &Option<Checkpointing>, file: u16) -> bool
+fn checkpoint_takes(checkpoint: &Option<CheckpointJob>, file: u16) -> bool
     ensures { result ≡ list_any (λ j. job_takes_file j file) (checkpoint_alone checkpoint.now) }
 {
     match checkpoint {
-        Some(checkpoint) => {
+        Some(CheckpointJob::Running(checkpoint)) => {
             checkpoint.pair.data_file == file || checkpoint.pair.delta_file == file
         }
+        Some(CheckpointJob::Reading(_)) => false,
         None => false,
     }
 }
@@ -164,6 +167,13 @@ impl Jobs {
         matches!(self, Jobs::Beside(Some(_), _))
     }
 
+    /// Whether a checkpoint runs whose segment is read.
+    pub fn is_segment_read(&self) -> bool
+        ensures { result ≡ is_segment_read self.now }
+    {
+        matches!(self, Jobs::Beside(Some(CheckpointJob::Reading(_)), _))
+    }
+
     /// Whether a merge runs whose pairs are read.
     pub fn is_merge_read(&self) -> bool
         ensures { result ≡ is_merge_read self.now }
@@ -198,7 +208,10 @@ impl Jobs {
         match self {
             Jobs::Rotation(_, install) => Some(Due::Install(install.step)),
             Jobs::Merge(_, _, install) => Some(Due::Install(install.step)),
-            Jobs::Beside(Some(checkpoint), _) => Some(due_of(checkpoint.stage)),
+            Jobs::Beside(Some(CheckpointJob::Running(checkpoint)), _) => {
+                Some(due_of(checkpoint.stage))
+            }
+            Jobs::Beside(Some(CheckpointJob::Reading(_)), merge) => merge_step(merge),
             Jobs::Beside(None, merge) => merge_step(merge),
         }
     }
@@ -221,7 +234,7 @@ impl Jobs {
         ensures { result ≡ checkpoint_pair self.now }
     {
         match self {
-            Jobs::Beside(Some(checkpoint), _) => Some(checkpoint.pair),
+            Jobs::Beside(Some(CheckpointJob::Running(checkpoint)), _) => Some(checkpoint.pair),
             _ => None,
         }
     }
@@ -241,7 +254,7 @@ impl Jobs {
         ensures { result ≡ progress_of self.now }
     {
         match self {
-            Jobs::Beside(Some(checkpoint), _) => progress_at(checkpoint),
+            Jobs::Beside(Some(CheckpointJob::Running(checkpoint)), _) => progress_at(checkpoint),
             _ => Progress::More,
         }
     }

@@ -3,11 +3,12 @@ ghost use Rattle.std.specs.Prelude.{◌≡◌, ◌<◌, ◌+◌, ◌^◌, ◌∷
 ghost use Rattle.mvo_disk.specs.Disk.{IsHonest};
 ghost use Rattle.mvo_store.specs.Safe.{AreSafe, IsSafeCheckpoint, IsSafeMerge};
 ghost use Rattle.mvo_store.specs.Jobs.{first_due, is_of_data, job_due, jobs_upto};
-ghost use Rattle.mvo_store.specs.Jobs.{checkpoint_upto, merge_upto, merge_job_upto, stage_upto, merge_stage_upto};
+ghost use Rattle.mvo_store.specs.Jobs.{checkpoint_upto, checkpoint_job_upto, merge_upto, merge_job_upto, stage_upto, merge_stage_upto};
 ghost use Rattle.mvo_store.specs.Jobs.Job.{Checkpoint, Merge};
 ghost use Rattle.mvo_store.specs.Writing.{IsDueSlice, JobStandsFor};
 ghost use Rattle.mvo_store.specs.declared.jobs.due.Due.TheVariants.{Data, MergeData};
 
+use crate::checkpoint::checkpoint_job::CheckpointJob;
 use crate::checkpoint::checkpointing::Checkpointing;
 use crate::checkpoint::stage::CheckpointStage;
 use crate::jobs::advance::is_of_merge;
@@ -95,7 +96,10 @@ fn slice_of_checkpoint<D: Disk>(
         Jobs::Rotation(_, _) => Err(Refusal::NothingToDo),
         Jobs::Merge(_, _, _) => Err(Refusal::NothingToDo),
         Jobs::Beside(checkpoint, _) => match checkpoint {
-            Some(checkpoint) => slice_checkpoint(alloc, disk, manifest, checkpoint),
+            Some(CheckpointJob::Running(checkpoint)) => {
+                slice_checkpoint(alloc, disk, manifest, checkpoint)
+            }
+            Some(CheckpointJob::Reading(_)) => Err(Refusal::NothingToDo),
             None => Err(Refusal::NothingToDo),
         },
     }
@@ -192,6 +196,18 @@ fn checkpoint_upto(upto: usize, checkpoint: Checkpointing) -> Checkpointing
     }
 }
 
+/// The same of one that runs. One whose segment is read has no file.
+fn checkpoint_job_upto(upto: usize, checkpoint: CheckpointJob) -> CheckpointJob
+    ensures { result ≡ checkpoint_job_upto upto checkpoint }
+{
+    match checkpoint {
+        CheckpointJob::Reading(reading) => CheckpointJob::Reading(reading),
+        CheckpointJob::Running(checkpoint) => {
+            CheckpointJob::Running(checkpoint_upto(upto, checkpoint))
+        }
+    }
+}
+
 /// The merge.
 fn merge_upto(upto: usize, merge: Merging) -> Merging
     ensures { result ≡ merge_upto upto merge }
@@ -221,7 +237,7 @@ pub fn with_slice(upto: usize, step: Due, jobs: Jobs) -> Jobs
             if is_of_merge(step) {
                 Jobs::Beside(checkpoint, merge.map(|merge| merge_job_upto(upto, merge)))
             } else {
-                let checkpoint = checkpoint.map(|checkpoint| checkpoint_upto(upto, checkpoint));
+                let checkpoint = checkpoint.map(|checkpoint| checkpoint_job_upto(upto, checkpoint));
                 Jobs::Beside(checkpoint, merge)
             }
         }

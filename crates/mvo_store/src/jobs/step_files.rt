@@ -8,6 +8,7 @@ ghost use Rattle.mvo_store.specs.Writing.{JobStandsFor, IsJobStep, IsDueStep, In
 ghost use Rattle.mvo_store.specs.declared.jobs.due.Due.TheVariants.{MergeData, MergeDelta};
 ghost use Rattle.mvo_store.specs.declared.install.install_step.InstallStep.TheVariants.{Close, Body, Open};
 
+use crate::checkpoint::checkpoint_job::CheckpointJob;
 use crate::checkpoint::checkpointing::Checkpointing;
 use crate::checkpoint::deltas::write_next_delta;
 use crate::checkpoint::stage::CheckpointStage;
@@ -147,7 +148,10 @@ pub fn write_step<D: Disk>(
                 }
             } else {
                 match checkpoint {
-                    Some(checkpoint) => write_checkpoint(alloc, disk, manifest, checkpoint),
+                    Some(CheckpointJob::Running(checkpoint)) => {
+                        write_checkpoint(alloc, disk, manifest, checkpoint)
+                    }
+                    Some(CheckpointJob::Reading(_)) => Err(Refusal::NothingToDo),
                     None => Err(Refusal::NothingToDo),
                 }
             }

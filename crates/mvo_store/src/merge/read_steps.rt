@@ -55,11 +55,11 @@ impl<D: Disk> Store<D> {
         None
     }
 
-    /// Reads the next slice of the two pairs of a merge that `merge_begin` has begun: at most 2 MiB
-    /// of a data file and 16,384 records, or the delta file and the header of the second pair. More
-    /// comes with each slice but the last, and Ready with that: then the merge is as behind
-    /// `merge_read`, with the live records that the two pairs had when it began, in the two files
-    /// that are the least free now. It writes and cuts nothing.
+    /// Reads the next slice of the two pairs of a merge that `merge_begin` has begun: at most
+    /// 256 KiB of a data file and 2,048 records, or the delta file and the header of the second
+    /// pair. More comes with each slice but the last, and Ready with that: then the merge is as
+    /// behind `merge_read`, with the live records that the two pairs had when it began, in the two
+    /// files that are the least free now. It writes and cuts nothing.
     ///
     /// Refused: Down, then NothingToDo where no merge is read, then OutOfMemory, and then it may be
     /// repeated, or DiskFault. What the pairs hold was read when the store was opened, or written

@@ -29,7 +29,7 @@ use mvo_types::Refusal;
 use std::alloc::{AllocError, Global};
 
 /// How many records a slice has at most.
-const RECORDS_A_SLICE: u32 = 16_384;
+const RECORDS_A_SLICE: u32 = 2_048;
 
 /// Two neighbours that are read in slices, to be merged: the first of them, and then the second.
 #[derive(Drop)]

@@ -181,7 +181,7 @@ impl<D: Disk> Store<D> {
         self.write_due(Due::MergeData)
     }
 
-    /// Writes the next slice of the data file of the merge that runs, of at most 4 MiB, and syncs
+    /// Writes the next slice of the data file of the merge that runs, of at most 256 KiB, and syncs
     /// it: the first gives the file new content, and the others stand behind it. More comes with
     /// each but the last, and Ready with that: then its last file is due. While a slice is due,
     /// `merge_data` is too, which writes the whole file.

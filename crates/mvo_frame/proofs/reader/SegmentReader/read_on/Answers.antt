@@ -1,6 +1,6 @@
 use Rattle.std.proofs.Common.{None, Some, arith}
 use Rattle.mvo_frame.specs.Slices.{IsGroupRead}
-use Rattle.mvo_frame.proofs.Slices.{on_none, on_more, on_shorter, on_read, on_end}
+use Rattle.mvo_frame.proofs.Slices.{on_none, on_more, on_shorter, on_read, on_end, on_unmoved}
 use Rattle.mvo_frame.proofs.reader.SegmentReader.read_on.Goals as goal
 
 pub loop-rest-init : goal.loop-rest-init

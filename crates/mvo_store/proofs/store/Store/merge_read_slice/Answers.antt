@@ -81,4 +81,4 @@ returns-in-Err-clause-step g c =
     let same = same_jobs g here _ c.in-Err.is in
     let down = c.brings_down-self-inside in
     rw (same, ← c.self.view_is) (looked_refused b _ e.read.rest e.read.any_moment g.met.D.Disk.counts_now c.in-Err.refusal (inl refl) (inr (inl refl)) (λ is. inr (inr is)) (λ n. record { after = refl; no_fault = n }) count why
-    (λ honest rows up. subst (λ (x : Result (Unit {0}) Refusal). IfErr x (λ k. HasReading content m (reading_of c.replace-jobs.result) → IsStop k)) c.in-Err.is (e.stop honest) (subst (λ (k : Jobs). HasReading content m (reading_of k)) (sym c.replace-jobs.ensures.value) up.reading)) down.result down.ensures.other down.ensures.memory)
+    (λ honest rows up. subst (λ (x : Result (Unit {0}) Refusal). IfErr x (λ k. HasReading content m (reading_of c.replace-jobs.result) → IsStop k)) c.in-Err.is (e.stop honest) (subst (λ (k : Jobs). HasReading content m (reading_of k)) (sym c.replace-jobs.ensures.value) up.reading.pairs)) down.result down.ensures.other down.ensures.memory)
