@@ -19,7 +19,9 @@ WHOLE_JOBS = ("rotate", "checkpoint", "merge 0", "merge 1")
 # of read-only ones; how many transactions there are at once, tables, keys of each, and sorts; and
 # of 64 lines how many are anything, with a name that may be nobody's.
 Profile = collections.namedtuple(
-    "Profile", "groups jobs memory readers names tables keys sorts any", defaults=(8, (0, 63), 6, 10, 5)
+    "Profile",
+    "groups jobs memory readers names tables keys sorts any",
+    defaults=(8, (0, 63), 6, 10, 5),
 )
 PROFILES = {
     # The core alone, whose groups are soon too many.
@@ -29,6 +31,8 @@ PROFILES = {
     "jobs": Profile(8, 10, 2, 0, 6, (0, 1), 8, 100),
     "all": Profile(8, 8, 6, 2, 6, (0, 1), 8, 100),
 }
+# Transactions alone, of which others do what is due.
+KEPT = Profile(0, 0, 0, 2)
 
 
 class Drawing:
@@ -81,7 +85,7 @@ class Drawing:
             return self.random.choice(JOB_STEPS)
         if at < 10:
             return self.random.choice(WHOLE_JOBS)
-        if at < 14 and not (store.job or store.merge):
+        if at < 16 and store.filled - store.used():
             return "reclaim"
         if at < 20 and not store.job and len(store.segments) > 1:
             return "checkpoint-read"
@@ -138,7 +142,7 @@ class Drawing:
     def line_of_active(self, name, tx, settles):
         if tx.reads_only and self.below(8) < 5:
             # It stays open over many lines of the others.
-            return self.line_of_groups() if self.below(2) else self.line_of_memory()
+            return self.line_beside(name)
         at = self.below(64)
         if at < 2:
             return f"rollback {name}"
@@ -148,12 +152,18 @@ class Drawing:
             return f"precommit {name}"
         return self.operation(name)
 
+    def line_beside(self, name):
+        if not self.profile.groups:
+            return self.operation(name)
+        return self.line_of_groups() if self.below(2) else self.line_of_memory()
+
     def any_line(self):
         """A line of a transaction that may be out of turn, or that may not be there."""
         name = "nobody" if self.below(24) == 0 else self.random.choice(self.names)
-        words = ("precommit", "validate", "settle", "rollback", "finish", "poll", "poll", "commit")
         if self.below(3) == 0:
             return self.operation(name)
+        polls = ("poll",) * 3 if self.profile.groups else ()
+        words = ("precommit", "validate", "settle", "rollback", "finish", "commit", *polls)
         return f"{self.random.choice(words)} {name}"
 
     def operation(self, name):

@@ -195,7 +195,7 @@ class Core:
         return getattr(self, op.word)(tx, op)
 
     def unless_claimed(self, tx, key):
-        """Of a row that stands and that it didn't write: whether another was the first to end it."""
+        """Refuses where another was the first to end the row, which it didn't write."""
         if key in tx.net or self.row(tx, key) is None:
             return
         other = self.claims.get((key, self.origin(tx, key)))

@@ -20,7 +20,7 @@ class Pair:
 
 
 class Segment:
-    """A segment of the log: its file, and by the keys that its groups wrote whether they are there."""
+    """A segment of the log: its file, and whether each key that its groups wrote is there."""
 
     def __init__(self, file):
         self.file, self.groups, self.keys = file, 0, {}
@@ -31,7 +31,7 @@ class Segment:
 
 
 class Job:
-    """A rotation, a checkpoint or a merge, with the step that is due, and the files that it takes."""
+    """A rotation, a checkpoint or a merge: the step that is due, and the files that it takes."""
 
     def __init__(self, kind, due, files):
         self.kind, self.due, self.files = kind, due, files
@@ -206,7 +206,7 @@ class Store:
             keys = self.segments.pop(0).keys
             for pair in self.pairs:
                 pair.live -= set(keys)
-            self.pairs.append(Pair(*job.files, {key for key, is_there in keys.items() if is_there}))
+            self.pairs.append(Pair(*job.files, {key for key, stands in keys.items() if stands}))
         else:
             at = self.pairs.index(job.pairs[0])
             live = job.pairs[0].live | job.pairs[1].live
@@ -225,7 +225,7 @@ class Store:
 
 
 class World:
-    """What a script is answered, a line at a time, over a fresh store or over that of these files."""
+    """What a script is answered, line by line, over a fresh store or over that of these files."""
 
     def __init__(self, files=None, core=Core, store=Store):
         self.store = store(files)

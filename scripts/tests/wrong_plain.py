@@ -70,8 +70,8 @@ class ShowsRemoved(Core):
         row = super().row(tx, key)
         if row or key in tx.net:
             return row
-        shown = [it.net[key] for it in self.writers.get(key, ()) if it.end < tx.begin and it.net[key]]
-        return shown[-1] if shown else None
+        writers = [it for it in self.writers.get(key, ()) if it.end < tx.begin and it.net[key]]
+        return writers[-1].net[key] if writers else None
 
 
 class HidesOwn(Core):

@@ -17,8 +17,8 @@ use std::thread::Threads;
 const SCRIPT: &[u8] = b"begin a\ninsert a 0 5 50 61\ncommit a\nflush\nrotate\ncheckpoint\n\
     begin b\nupdate b 0 5 50 62\ncommit b\nflush\nrotate\ncheckpoint\nmerge 0";
 
-/// A byte that is put at the start of a file, and what is answered then: by a begin and a read, or by
-/// the opening, which is refused.
+/// A byte that is put at the start of a file, and what is answered then: by a begin and a read, or
+/// by the opening, which is refused.
 type Case = (Option<(u16, u8)>, &'static str);
 
 const CASES: [Case; 5] = [
