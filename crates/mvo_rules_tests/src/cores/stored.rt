@@ -1,5 +1,5 @@
-//! Which commits a core stores: those above the start of the tale, and those up to it that are in no
-//! closed group yet.
+//! Which commits a core stores: those above the start of the tale, and those up to it that are in
+//! no closed group yet.
 
 use crate::cores::{end, opened};
 use crate::equal::same_at;
