@@ -177,6 +177,17 @@ def segment_of(file, data, mark, is_last, rows, upto):
     return mark, reader.at - 1, frames
 
 
+def groups_of(file, data):
+    """The groups of a segment that keeps the rules: prev, mark, and of each commit its end and its
+    writes."""
+    reader = Reader(file, data)
+    limits = LIMITS[reader.head(b"MVOL", LIMITS)]
+    while reader.number("B") == OPEN:
+        body = Reader(file, reader.take(reader.number("I")))
+        prev, mark, count = (body.number(form) for form in "QQH")
+        yield prev, mark, [(body.number("Q"), writes_of(body, *limits)) for _ in range(count)]
+
+
 def installed_of(files):
     """The manifest that counts: its generation, checkpoint mark, pairs, segments and version."""
     slots = [slot_of(file, files.get(file, b"")) for file in (0, 1)]

@@ -1,7 +1,7 @@
 """What a power cut may leave of a folder, by calls that were noted and the rules of docs/DISK.md.
 
 Of all images of a file those are made that tell most: each call since its last sync missing, whole,
-in part or with other bytes, and lengths that are short or long."""
+in part or with other bytes, and lengths that are short or long. Or one is drawn at random."""
 import itertools
 import os
 
@@ -150,3 +150,59 @@ class Folder:
         if len(changed) <= FEW:
             for some in itertools.product((first, last), repeat=len(changed)):
                 yield {**last, **{name: its[name] for name, its in zip(changed, some)}}
+
+
+class RandomImage:
+    """Draws what a power cut may leave of a folder, by a generator of numbers."""
+
+    def __init__(self, draw):
+        self.draw = draw
+
+    def of(self, folder):
+        """The files' bytes by their numbers, and whether one has other bytes than were written."""
+        files, is_torn = {}, False
+        for name, file in folder.files.items():
+            data = self.of_file(file)
+            is_torn = is_torn or data != file.content
+            files[int(name)] = data
+        return files, is_torn
+
+    def of_file(self, file):
+        if not file.is_named and self.draw.randrange(3) == 0:
+            return b""
+        if not file.calls:
+            return file.content
+        length = self.length_of(len(file.content), file.kept)
+        # Up to here all that was written is left, and from here on some of it.
+        torn = self.draw.choice((len(file.content), 0, self.draw.randrange(len(file.content) + 1)))
+        loose = loose_of(file, length)
+        data = bytearray(file.content[:length].ljust(length, b"\0"))
+        for at in range(length):
+            is_there = at < min(torn, len(file.content))
+            if loose[at] and not is_there:
+                data[at] = self.byte_of(data[at])
+        return bytes(data)
+
+    def length_of(self, length, kept):
+        """That of the content, the kept length, or any between and past them."""
+        way = self.draw.randrange(4)
+        if way < 2:
+            return (length, kept)[way]
+        return kept + self.draw.randrange(max(length - kept, 0) + 40)
+
+    def byte_of(self, written):
+        """Often a gate's value, or one that differs from it in a bit."""
+        bit = 1 << self.draw.randrange(8)
+        any_byte = self.draw.randrange(256)
+        return self.draw.choice((written, written, 0, 0xA5, 0xA5, bit, 0xA5 ^ bit, any_byte))
+
+
+def loose_of(file, length):
+    """Which bytes of a file a power cut may change."""
+    loose = bytearray(length)
+    for call in file.calls:
+        if call.kind == WRITE:
+            end = min(call.at + len(call.data), length)
+            loose[call.at : end] = b"\1" * max(end - call.at, 0)
+    loose[file.kept :] = b"\1" * max(length - file.kept, 0)
+    return loose

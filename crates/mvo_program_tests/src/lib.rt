@@ -11,3 +11,5 @@ mod jobs;
 mod script;
 #[cfg(test)]
 mod stops;
+#[cfg(test)]
+mod world;

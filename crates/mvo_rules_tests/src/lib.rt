@@ -1,4 +1,4 @@
-//! Tests of the crates below the core.
+//! Tests of the core and of the crates below it.
 #![tactic(auto)]
 
 #[cfg(test)]
@@ -7,6 +7,8 @@ mod chains;
 mod collecting;
 #[cfg(test)]
 mod content;
+#[cfg(test)]
+mod cores;
 #[cfg(test)]
 mod counts;
 #[cfg(test)]

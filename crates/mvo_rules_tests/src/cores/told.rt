@@ -1,11 +1,12 @@
 //! What a transaction was told is compared with what somebody says.
 
-use crate::equal::same;
+use crate::cores::{end, opened};
+use crate::equal::holds;
 use mvo_core::{Core, Finishing};
-use mvo_types::{Answer, Op, Refusal, Row, RowKey, Rows, Stamp, TxId};
+use mvo_types::{Answer, Op, Refusal, Row, RowKey, TxId};
 use std::alloc::{AllocError, Global};
-use std::test::*;
-use std::thread::Threads;
+use std::process::Abort;
+use std::test::Fail;
 
 const KEY: RowKey = RowKey { table: 0, key: 7 };
 
@@ -89,56 +90,52 @@ fn is_as_wanted(alloc: Global, core: &Core, tx: TxId) -> Result<bool, AllocError
     is_held(alloc, core, TxId(99), 4, 2)
 }
 
-/// Of a transaction that is Active, and then of the same that is Preparing.
-fn asked(rt: &(impl Threads + Sync), alloc: Global) -> Result<(bool, bool), Refusal> {
-    let mut core = Core::open(rt, alloc, 1, Rows::new(alloc), Stamp(0))?;
-    let tx = work(alloc, &mut core)?;
-    let active = is_as_wanted(alloc, &core, tx)?;
-    core.precommit(tx)?;
-    Ok((active, is_as_wanted(alloc, &core, tx)?))
-}
-
-/// Whether one that is no longer Active or Preparing isn't compared, and why it isn't settled.
-fn settled(alloc: Global, core: &mut Core, tx: TxId) -> Result<(bool, Option<Refusal>), Refusal> {
+/// Whether one that is no longer Active or Preparing isn't compared, and is refused so.
+fn is_over(alloc: Global, core: &mut Core, tx: TxId, refusal: Refusal) -> Result<bool, AllocError> {
     let is_held = is_held(alloc, core, tx, 4, 2)?;
-    Ok((is_held, core.settle(tx).err()))
+    Ok(is_held && core.settle(tx).err() == Some(refusal))
 }
 
-/// Of a transaction that is Committed, of the same that is finished, and of one that is Aborted.
-fn ended(
-    rt: &(impl Threads + Sync),
-    alloc: Global,
-) -> Result<[(bool, Option<Refusal>); 3], Refusal> {
-    let mut core = Core::open(rt, alloc, 1, Rows::new(alloc), Stamp(0))?;
-    let tx = work(alloc, &mut core)?;
-    core.precommit(tx)?;
+fn commit(core: &mut Core, tx: TxId) -> Result<(), Refusal> {
     for _ in 0..6 {
         core.validate_one(tx)?;
     }
     core.settle(tx)?;
-    let committed = settled(alloc, &mut core, tx)?;
+    Ok(())
+}
+
+fn finish(core: &mut Core, tx: TxId) -> Result<(), Refusal> {
     for _ in 0..9 {
         if core.finish_one(tx)? == Finishing::Done {
             break;
         }
     }
-    let finished = settled(alloc, &mut core, tx)?;
+    Ok(())
+}
+
+/// Of a transaction that is Active, then Preparing, Committed, and finished, and of one that is
+/// Aborted.
+fn compare(rt: &impl Abort, alloc: Global, core: &mut Core) -> Result<(), Refusal> {
+    let tx = work(alloc, core)?;
+    holds(rt, is_as_wanted(alloc, core, tx)?);
+    core.precommit(tx)?;
+    holds(rt, is_as_wanted(alloc, core, tx)?);
+    commit(core, tx)?;
+    holds(rt, is_over(alloc, core, tx, Refusal::Ended)?);
+    finish(core, tx)?;
+    holds(rt, is_over(alloc, core, tx, Refusal::NoSuchTransaction)?);
     let other = core.begin_tx()?;
     core.rollback_tx(other)?;
-    Ok([committed, finished, settled(alloc, &mut core, other)?])
+    holds(rt, is_over(alloc, core, other, Refusal::Ended)?);
+    Ok(())
 }
 
 /// Who was never there or is over is refused by `settle`, and not for what he was told.
 #[test]
-fn who_is_over_is_not_compared(rt: HostRuntime) -> Result<(), Fail> {
-    let over = (true, Some(Refusal::Ended));
-    let gone = (true, Some(Refusal::NoSuchTransaction));
-    same(&rt, &ended(&rt, rt.alloc()), &Ok([over, gone, over]));
-    Ok(())
-}
-
-#[test]
 fn just_what_was_told_is_held(rt: HostRuntime) -> Result<(), Fail> {
-    same(&rt, &asked(&rt, rt.alloc()), &Ok((true, true)));
+    let mut core = opened(&rt, rt.alloc())?;
+    let compared = compare(&rt, rt.alloc(), &mut core);
+    end(core);
+    compared?;
     Ok(())
 }

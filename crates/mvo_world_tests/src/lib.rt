@@ -1,7 +1,0 @@
-//! The tests of the world.
-#![tactic(auto)]
-
-#[cfg(test)]
-mod equal;
-#[cfg(test)]
-mod tests;
