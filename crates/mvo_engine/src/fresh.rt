@@ -34,6 +34,7 @@ impl<D: Disk> Model for Fresh<D> {
     ghost use Rattle.std.specs.Coded.{codes};
     ghost use Rattle.mvo_core.specs.contracts.event_core.Core.{the_row as core_row};
     ghost use Rattle.mvo_store.specs.Places.{coded_places};
+    ghost use Rattle.mvo_store.specs.Table.{coded_table};
     ghost use Rattle.mvo_store.specs.Seen.{disk_of, mark_of};
     ghost use Rattle.mvo_engine.specs.run.Rings.{ring_of, ring_from};
     ghost use Rattle.mvo_engine.specs.run.Opening.{opening_of};
@@ -42,7 +43,7 @@ impl<D: Disk> Model for Fresh<D> {
 
     ghost Value = { FreshData D };
 
-    ghost coded = { Prim.hlevel (codes, core_row.coded, coded_places) };
+    ghost coded = { Prim.hlevel (codes, core_row.coded, coded_places, coded_table) };
 
     ghost view = { λ f. record {
       core = f.core;

@@ -51,6 +51,7 @@ impl<L: Run, D: Disk> Model for LockedStore<L, D> {
     ghost use Rattle.std.specs.Prelude.{◌≡◌, ◌≤◌};
     ghost use Rattle.std.specs.Coded.{codes};
     ghost use Rattle.mvo_store.specs.Places.{coded_places};
+    ghost use Rattle.mvo_store.specs.Table.{coded_table};
     ghost use Rattle.rtrb.specs.Ring.{received};
     ghost use Rattle.mvo_store.specs.Seen.{mark_of};
     ghost use Rattle.mvo_engine.specs.Passing.{count_of_groups};
@@ -60,7 +61,7 @@ impl<L: Run, D: Disk> Model for LockedStore<L, D> {
 
     ghost Value = { StoreState D };
 
-    ghost coded = { Prim.hlevel (codes, coded_places) };
+    ghost coded = { Prim.hlevel (codes, coded_places, coded_table) };
 
     ghost view = { λ s. record {
       store = s.store;

@@ -38,11 +38,12 @@ impl<'e, L: Run, D: Disk> Model for StoreGuard<'e, L, D> {
     ghost use Rattle.std.specs.Coded.{codes};
     ghost use Rattle.std.specs.Sync.Mutex.{mutex_guard_value};
     ghost use Rattle.mvo_store.specs.Places.{coded_places};
+    ghost use Rattle.mvo_store.specs.Table.{coded_table};
     ghost use Rattle.mvo_engine.specs.States.{StoreState};
 
     ghost Value = { StoreState D };
 
-    ghost coded = { Prim.hlevel (codes, coded_places) };
+    ghost coded = { Prim.hlevel (codes, coded_places, coded_table) };
 
     ghost view = { λ g. mutex_guard_value g.held };
 }

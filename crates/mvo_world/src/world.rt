@@ -45,6 +45,7 @@ impl<D: Disk> Model for World<D> {
     ghost use Rattle.mvo_core.specs.contracts.event_core.Core.{the_row as core_row};
     ghost use Rattle.mvo_types.specs.Keys.{coded_map as coded_rows};
     ghost use Rattle.mvo_store.specs.Places.{coded_places};
+    ghost use Rattle.mvo_store.specs.Table.{coded_table};
     ghost use Rattle.mvo_world.specs.WorldData.{WorldData, IsSoundWorld};
     ghost use Rattle.mvo_world.specs.View.{world_data};
 
@@ -55,6 +56,7 @@ impl<D: Disk> Model for World<D> {
       core_row.coded,
       coded_rows,
       coded_places,
+      coded_table,
     ) };
 
     ghost view = { world_data };
