@@ -44,11 +44,11 @@ use Rattle.mvo_store.specs.declared.jobs.jobs.Jobs.{Jobs}
 use Rattle.mvo_store.specs.declared.jobs.jobs.Jobs.TheVariants.{Rotation as RotationAlone, Merge as MergeAlone, Beside}
 use Rattle.mvo_store.specs.StoreData.{StoreData, opening}
 use Rattle.mvo_store.specs.Causes.{why_not_due}
-use Rattle.mvo_store.specs.Jobs.{Job, job_takes_file, has_rotation, step_due, merge_due_of, job_due, is_step_due, stage_behind, with_step, after_step, next_installed, after_install, reading_of, segment_read_of}
+use Rattle.mvo_store.specs.Jobs.{Job, job_takes_file, has_rotation, step_due, merge_due_of, job_due, is_step_due, stage_behind, with_step, after_step, next_installed, after_install, reading_of}
 use Rattle.mvo_store.specs.Jobs.Job.{Rotation, Checkpoint, Merge, MergeInstall}
 use Rattle.mvo_store.specs.Standing.{IsRunning, HaveJobs, ShareNone, JobsHaveRoom, JobHasRoom, IsUp, MayBeLeft, HasSlots, HasBody, HasWork, MayTakeOver, HaveKeys}
 use Rattle.mvo_store.specs.PairsRead.{IsSafeReading, HasReading}
-use Rattle.mvo_store.specs.Reading.{AreSafeReadings, HaveReadings}
+use Rattle.mvo_store.specs.Reading.{HaveReadings}
 use Rattle.mvo_store.specs.SegmentRead.{oldest_file, AreSafeSegmentRead, HasSegmentRead}
 use Rattle.mvo_store.specs.Safe.{IsWithin, IsAmong, IsSafeWork, AreSafe, HasNext, IsSafe, IsStoreSound}
 use Rattle.mvo_store.specs.Writing.{StandsWith, StillGives, IsFileDue, IsFileAt, IsMergeFileAt, WritesFile, WritesFor, HasMadeStep, TakesMemory, IsStepRefusal, IsOpened}

@@ -1,5 +1,5 @@
 -- A store of which a checkpoint begins to read its segment, or reads or builds a slice of it.
-use Rattle.std.proofs.Common.{◌≡◌, ◌≢◌, ◌≤◌, ◌⊎◌, inl, inr, ℕ, Bool, true, false, List, length, Option, Some, None, Ok, Err, refl, sym, ap, subst, ◌∙◌, arith}
+use Rattle.std.proofs.Common.{◌≡◌, ◌≢◌, ◌⊎◌, inl, inr, Bool, true, false, Option, Some, None, Ok, Err, refl, sym, ap, subst, ◌∙◌, arith}
 use Rattle.std.specs.Bool.{OnTrue, OnFalse}
 use Rattle.std.specs.List.{AllByRecursion}
 use Rattle.mvo_types.specs.Keys.{Map}
@@ -25,18 +25,18 @@ use Rattle.mvo_store.specs.declared.jobs.jobs.Jobs.TheVariants.{Beside}
 use Rattle.mvo_store.specs.StoreData.{StoreData}
 use Rattle.mvo_store.specs.Files.{files_taken}
 use Rattle.mvo_store.specs.Jobs.{Job, jobs_of, reading_of, segment_read_of, next_installed, with_segment_read, without_segment_read, merge_pair}
-use Rattle.mvo_store.specs.Planning.{IsNewCheckpoint, IsStoppedBeside}
+use Rattle.mvo_store.specs.Planning.{IsStoppedBeside}
 use Rattle.mvo_store.specs.PairsRead.{IsSafeReading, HasReading}
 use Rattle.mvo_store.specs.Reading.{AreSafeReadings, HaveReadings}
 use Rattle.mvo_store.specs.SegmentRead.{oldest_file, IsSafeSegmentRead, AreSafeSegmentRead, IsSegmentRead, HasSegmentRead, IsSegmentBegun, IsBeingBuiltOf}
 use Rattle.mvo_store.specs.SegmentSlices.{IsSegmentSlice, IsSegmentBeside, AreSegmentReadTo, AreKeptOrLetGo}
-use Rattle.mvo_store.specs.Placing.{places_so_far, HavePlacesSoFar}
+use Rattle.mvo_store.specs.Placing.{places_so_far}
 use Rattle.mvo_store.specs.Safe.{IsSafeWork, AreSafe, IsStoreSound}
 use Rattle.mvo_store.specs.Standing.{IsRunning, HaveJobs, ShareNone, JobsHaveRoom, JobHasRoom, IsUp}
 use Rattle.mvo_store.specs.Steps.{ComesOfSegment, IsSegmentReadOn, IsBegunSegment, IsPlannedRead}
 use Rattle.mvo_store.specs.Calls.{StoreStep, HasBegunSegment, HasReadSegmentOn, HasLooked, HasLetPairGo, LeavesSegmentRead, IsStoreStep}
 use Rattle.mvo_store.specs.Calls.StoreStep.{CheckpointBegin, CheckpointReadOn, CheckpointForget}
-use Rattle.mvo_store.proofs.Keeping.{OnlyNow, CountsNow, Begins, none_keeps_checkpoint, may_read, may_read_segment, stays_up, stays_safe, slots_as, still_leaves, all_others, looked_step, done_step}
+use Rattle.mvo_store.proofs.Keeping.{OnlyNow, CountsNow, Begins, none_keeps_checkpoint, may_read_segment, stays_up, stays_safe, slots_as, still_leaves, all_others, looked_step, done_step}
 use Rattle.mvo_store.proofs.Turning.{is_segment, begins_beside_merge}
 use Rattle.mvo_store.proofs.Changes.{same_changes, as_they_are, checkpoint_changes, beside_reads}
 use Rattle.mvo_store.proofs.Beginning.{checkpoint_shares_none, with_checkpoint_all, merge_room}

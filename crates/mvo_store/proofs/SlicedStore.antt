@@ -30,7 +30,7 @@ use Rattle.mvo_store.specs.declared.merge.merge_job.MergeJob.{MergeJob}
 use Rattle.mvo_store.specs.declared.merge.merge_job.MergeJob.TheVariants.{Reading, Running}
 use Rattle.mvo_store.specs.StoreData.{StoreData}
 use Rattle.mvo_store.specs.Causes.{why_not_due}
-use Rattle.mvo_store.specs.Jobs.{Job, jobs_of, step_due, job_due, is_of_data, slice_end_of, stage_upto, merge_stage_upto, checkpoint_upto, checkpoint_job_upto, merge_upto, merge_job_upto, job_upto, jobs_upto, reading_of, segment_read_of, sliced}
+use Rattle.mvo_store.specs.Jobs.{Job, jobs_of, step_due, job_due, is_of_data, slice_end_of, stage_upto, merge_stage_upto, checkpoint_upto, checkpoint_job_upto, merge_upto, merge_job_upto, job_upto, jobs_upto, reading_of, sliced}
 use Rattle.mvo_store.specs.Jobs.Job.{Rotation, Checkpoint, Merge, MergeInstall}
 use Rattle.mvo_store.specs.Standing.{IsRunning, ShareNone, JobHasRoom, IsUp, HasWork}
 use Rattle.mvo_store.specs.PairsRead.{IsSafeReading, HasReading}
