@@ -44,11 +44,11 @@ use Rattle.mvo_store.specs.declared.jobs.jobs.Jobs.{Jobs}
 use Rattle.mvo_store.specs.declared.jobs.jobs.Jobs.TheVariants.{Rotation as RotationAlone, Merge as MergeAlone, Beside}
 use Rattle.mvo_store.specs.StoreData.{StoreData, opening}
 use Rattle.mvo_store.specs.Causes.{why_not_due}
-use Rattle.mvo_store.specs.Jobs.{Job, job_takes_file, has_rotation, step_due, merge_due_of, job_due, is_step_due, stage_behind, with_step, after_step, next_installed, after_install, reading_of, segment_read_of}
+use Rattle.mvo_store.specs.Jobs.{Job, job_takes_file, has_rotation, step_due, merge_due_of, job_due, is_step_due, stage_behind, with_step, after_step, next_installed, after_install, reading_of}
 use Rattle.mvo_store.specs.Jobs.Job.{Rotation, Checkpoint, Merge, MergeInstall}
 use Rattle.mvo_store.specs.Standing.{IsRunning, HaveJobs, ShareNone, JobsHaveRoom, JobHasRoom, IsUp, MayBeLeft, HasSlots, HasBody, HasWork, MayTakeOver, HaveKeys}
 use Rattle.mvo_store.specs.PairsRead.{IsSafeReading, HasReading}
-use Rattle.mvo_store.specs.Reading.{AreSafeReadings, HaveReadings}
+use Rattle.mvo_store.specs.Reading.{HaveReadings}
 use Rattle.mvo_store.specs.SegmentRead.{oldest_file, AreSafeSegmentRead, HasSegmentRead}
 use Rattle.mvo_store.specs.Safe.{IsWithin, IsAmong, IsSafeWork, AreSafe, HasNext, IsSafe, IsStoreSound}
 use Rattle.mvo_store.specs.Writing.{StandsWith, StillGives, IsFileDue, IsFileAt, IsMergeFileAt, WritesFile, WritesFor, HasMadeStep, TakesMemory, IsStepRefusal, IsOpened}
@@ -68,7 +68,7 @@ use Rattle.mvo_store.specs.declared.merge.seen_pairs.SeenPairs.{SeenPairs}
 use Rattle.mvo_store.specs.Checkpoint.{gained, made_of, IsCheckpointInto}
 use Rattle.mvo_store.specs.Merging.{seen_with, pair_with, IsMergeReady}
 use Rattle.mvo_store.specs.Steps.{manifest_after, places_after, segment_after}
-use Rattle.mvo_store.proofs.Keeping.{give_or, stays_up, AllLeave, OnlyNow, CountsNow, may_step, Begins, begins, file_others, fault_step, other_step, err_is, stays_safe}
+use Rattle.mvo_store.proofs.Keeping.{give_or, stays_up, AllLeave, OnlyNow, CountsNow, may_step, Begins, begins, file_others, fault_step, other_step, same_left, err_is, stays_safe}
 use Rattle.mvo_store.proofs.Working.{Installing, Installs, installs, installing, due_installs, slot_of_install, merged_parts_now}
 use Rattle.mvo_store.proofs.Beside.{IsDueIn, due_in_jobs, merge_stays, checkpoint_stays, merge_runs_on}
 use Rattle.mvo_store.proofs.Beside.IsDueIn.{TheRotation, TheMerge, TheCheckpoint, OfMerge}
@@ -340,7 +340,7 @@ module _ {D : Type 0} (d : Ghosts D) (s : StoreData D) (step : Due) (j : Job) (i
     step_refused {A} only_now counts_now b was file e refused false fault other =
         let left = memory_left d.fault_count s.disk new e other refused.refusal in
         let memory : MayMeet (Call (Step step)) e = subst (MayMeet (Call (Step step))) (sym left.0) (memory_of step (subst TakesMemory (step_is due_here) (refused.memory left.0))) in
-        other_step d only_now s (record s { disk = new; down = false }) (Call (Step step)) e (as_it_was left.1 b.up) other (λ is. subst IsMisread left.0 is) (err_is d A (Call (Step step)) (why_not_store s (Call (Step step))) e b.none memory)
+        other_step d only_now s (record s { disk = new; down = false }) (Call (Step step)) e (as_it_was left.1 b.up) other (λ is. subst IsMisread left.0 is) (λ _. same_left d (Call (Step step)) tt s) (err_is d A (Call (Step step)) (why_not_store s (Call (Step step))) e b.none memory)
 
     -- the store stays as it stood, unless the disk met a fault
     pub refused_sound : IsStoreSound d s → (due : Due) (e : Refusal) → IsStepRefusal d.fault_count due s.disk new e → s.down ≡ false → (b : Bool) → OnFalse b (e ≢ DiskFault) → b ≡ false → IsStoreSound d (record s { disk = new; down = b })

@@ -181,6 +181,13 @@ cause_apart s (Call (Step MergeDelta)) cause is = grind arith
 cause_apart s (Call (Step (Install Open))) cause is = grind arith
 cause_apart s call cause is = grind arith
 
+-- nor is one want of memory
+cause_no_memory : {D : Type 0} (s : StoreData D) (call : StoreStep) (cause : Refusal) → why_not_store s call ≡ Some cause → cause ≢ OutOfMemory
+cause_no_memory s (Take g) cause is = grind arith
+cause_no_memory s (Call (Step MergeDelta)) cause is = grind arith
+cause_no_memory s (Call (Step (Install Open))) cause is = grind arith
+cause_no_memory s call cause is = grind arith
+
 -- a step of a job may be made
 pub may_step : {D : Type 0} (step : Due) (s : StoreData D) → why_not_due step s ≡ None → is_step_due step s.jobs ≡ true
 may_step step s e = grind arith
@@ -246,19 +253,24 @@ err_keeps A d old new (Call AppendOpen) e h = h
 err_keeps A d old new call e h = h
 
 module _ {D : Type 0} (d : Ghosts D) where
-  same_left : (call : StoreStep) (s : StoreData D) → LeftByMemory d call s s
-  same_left (Call CheckpointRead) s = record { after = refl; no_fault = refl }
-  same_left (Call (MergeRead place)) s = record { after = refl; no_fault = refl }
-  same_left (Call (Step MergeDelta)) s = record { after = refl; no_fault = refl }
-  same_left (MergeBegin place) s = record { after = refl; no_fault = refl }
-  same_left MergeReadOn s = record { after = refl; no_fault = refl }
-  same_left CheckpointBegin s = record { after = refl; no_fault = refl }
-  same_left CheckpointReadOn s = inl (record { after = refl; no_fault = refl })
-  same_left call s = refl
+  -- any but the one that may let go of what is read
+  abbrev pub IsNoSlice : StoreStep → Type 0
+  IsNoSlice CheckpointReadOn = ⊥
+  IsNoSlice call = Unit {0}
+
+  pub same_left : (call : StoreStep) → IsNoSlice call → (s : StoreData D) → LeftByMemory d call s s
+  same_left (Call CheckpointRead) other s = record { after = refl; no_fault = refl }
+  same_left (Call (MergeRead place)) other s = record { after = refl; no_fault = refl }
+  same_left (Call (Step MergeDelta)) other s = record { after = refl; no_fault = refl }
+  same_left (MergeBegin place) other s = record { after = refl; no_fault = refl }
+  same_left MergeReadOn other s = record { after = refl; no_fault = refl }
+  same_left CheckpointBegin other s = record { after = refl; no_fault = refl }
+  same_left CheckpointReadOn other s = absurd other
+  same_left call other s = refl
 
   -- nothing changes
-  left_same : (call : StoreStep) (e : Refusal) (s : StoreData D) → e ≢ DiskFault → (IsMisread e → ⊥) → LeftByRefusal d call e s s
-  left_same call e s ne never = record { fault = λ is. absurd (ne is); memory = λ is. same_left call s; misread = λ is. absurd (never is); other = λ f m n. refl }
+  left_same : (call : StoreStep) (e : Refusal) (s : StoreData D) → e ≢ DiskFault → (IsMisread e → ⊥) → (e ≡ OutOfMemory → LeftByMemory d call s s) → LeftByRefusal d call e s s
+  left_same call e s ne never memory = record { fault = λ is. absurd (ne is); memory = memory; misread = λ is. absurd (never is); other = λ f m n. refl }
 
   -- ---- the files
 
@@ -297,18 +309,18 @@ module _ {D : Type 0} (d : Ghosts D) where
   err_step {A} s t call e refused left was keeps others = record { comes = record { refused = refused; made = tt; left = left }; honest = was; keeps = λ honest. err_keeps A d s t call e (keeps honest); others = others }
 
   -- it is refused, and nothing has changed
-  pub other_step : {A : Type 0} → OnlyNow d → (s t : StoreData D) (call : StoreStep) (e : Refusal) → t ≡ s → e ≢ DiskFault → (IsMisread e → ⊥) → IsRefused {A = A} call (why_not_store s call) (Err e) → IsStoreStep {A = A} d s call (Err e) t
-  other_step {A} only_now s t call e same ne never refused = subst (λ (u : StoreData D). IsStoreStep {A = A} d s call (Err e) u) (sym same) (err_step s s call e refused (left_same call e s ne never) (λ h. h) (λ _. refused_keeps d only_now s) (same_others call s))
+  pub other_step : {A : Type 0} → OnlyNow d → (s t : StoreData D) (call : StoreStep) (e : Refusal) → t ≡ s → e ≢ DiskFault → (IsMisread e → ⊥) → (e ≡ OutOfMemory → LeftByMemory d call s s) → IsRefused {A = A} call (why_not_store s call) (Err e) → IsStoreStep {A = A} d s call (Err e) t
+  other_step {A} only_now s t call e same ne never memory refused = subst (λ (u : StoreData D). IsStoreStep {A = A} d s call (Err e) u) (sym same) (err_step s s call e refused (left_same call e s ne never memory) (λ h. h) (λ _. refused_keeps d only_now s) (same_others call s))
 
   -- so where a cause stands
   pub refused_step : {A : Type 0} → OnlyNow d → (s : StoreData D) (call : StoreStep) (cause : Refusal) → why_not_store s call ≡ Some cause → IsStoreStep {A = A} d s call (Err cause) s
   refused_step {A} only_now s call cause is =
       let apart = cause_apart s call cause is in
-      other_step only_now s s call cause refl apart.0 apart.1 (subst (λ (o : Option Refusal). IsRefused {A = A} call o (Err cause)) (sym is) refl)
+      other_step only_now s s call cause refl apart.0 apart.1 (λ memory. absurd (cause_no_memory s call cause is memory)) (subst (λ (o : Option Refusal). IsRefused {A = A} call o (Err cause)) (sym is) refl)
 
   -- and where memory is refused first
-  pub memory_step : {A : Type 0} → OnlyNow d → (s : StoreData D) (call : StoreStep) → why_not_store s call ≡ None → MayMeet call OutOfMemory → IsStoreStep {A = A} d s call (Err OutOfMemory) s
-  memory_step {A} only_now s call none may = other_step only_now s s call OutOfMemory refl (λ e. cc) (λ never. never) (err_is A call (why_not_store s call) OutOfMemory none may)
+  pub memory_step : {A : Type 0} → OnlyNow d → (s : StoreData D) (call : StoreStep) → IsNoSlice call → why_not_store s call ≡ None → MayMeet call OutOfMemory → IsStoreStep {A = A} d s call (Err OutOfMemory) s
+  memory_step {A} only_now s call other none may = other_step only_now s s call OutOfMemory refl (λ e. cc) (λ never. never) (λ _. same_left call other s) (err_is A call (why_not_store s call) OutOfMemory none may)
 
 module _ {D : Type 0} {d : Ghosts D} {s : StoreData D} {call : StoreStep} (b : Begins d s call) where
   -- the disk met a fault

@@ -1,5 +1,5 @@
 -- What an image gives: its mark is a timestamp of the clock, and what opening a disk answers is fixed by it. A disk that is synced, a store over what is found on it, and a new one.
-use Rattle.std.proofs.Common.{◌≡◌, ℕ, ◌+◌, ◌≤◌, rules, ⊎_elim, length, List, [], ◌∷◌, Ok, sym, subst, arith, inl, inr, Err, ap, ◌∙◌, ◌<◌, false, None, zero, suc, Bool, ◌++◌, refl}
+use Rattle.std.proofs.Common.{◌≡◌, ℕ, ◌+◌, ◌≤◌, ⊎_elim, length, List, [], ◌∷◌, Ok, sym, subst, arith, inl, inr, Err, ap, ◌∙◌, ◌<◌, false, None, zero, suc, Bool, ◌++◌, refl}
 use Rattle.mvo_types.specs.declared.limits.TheConstants.{MAX_STAMP, MAX_SEGMENT_LEN}
 use Rattle.mvo_types.specs.Keys.{Map}
 use Rattle.mvo_group.specs.Data.{GroupData}

@@ -1,9 +1,8 @@
 -- A segment that is read in slices, and its pair that is built in slices: what a slice makes of them.
-use Rattle.std.proofs.Common.{◌≡◌, ◌⊎◌, inl, inr, ⊎_elim, ℕ, ◌+◌, ◌<◌, ◌≤◌, List, length, get_or, Option, Some, None, Result, Ok, Err, refl, sym, ap, subst, ◌∙◌}
-use Rattle.std.specs.Prelude.{OnOk, OnErr, IfErr}
+use Rattle.std.proofs.Common.{◌≡◌, ◌⊎◌, ⊎_elim, ℕ, ◌+◌, ◌<◌, ◌≤◌, List, Some, Result, Ok, Err, sym, subst, ◌∙◌}
+use Rattle.std.specs.Prelude.{OnOk, IfErr}
 use Rattle.mvo_types.specs.declared.ids.Stamp.{Stamp}
 use Rattle.mvo_types.specs.declared.refusal.Refusal.{Refusal}
-use Rattle.mvo_types.specs.declared.refusal.Refusal.TheVariants.{OutOfMemory}
 use Rattle.mvo_group.specs.Data.{GroupData}
 use Rattle.mvo_format.specs.declared.format.TheConstants.{LAST_FORMAT}
 use Rattle.mvo_frame.specs.declared.kind.Kind.TheVariants.{Sealed}
@@ -13,30 +12,25 @@ use Rattle.mvo_frame.specs.Slices.{ReaderData, IsReadTo, HasClosedGateAt, Segmen
 use Rattle.mvo_pair.specs.Writing.{IsStop}
 use Rattle.mvo_manifest.specs.Data.{ManifestData}
 use Rattle.mvo_manifest.specs.Rules.{IsManifest}
-use Rattle.mvo_places.specs.Places.{PlaceMap, ArePlaces}
+use Rattle.mvo_places.specs.Places.{PlaceMap}
 use Rattle.mvo_ckpt.specs.Checkpoint.{BuiltCheckpoint}
 use Rattle.mvo_ckpt.specs.declared.building.Building.{Building}
-use Rattle.mvo_ckpt.specs.declared.building.Built.{Built}
 use Rattle.mvo_ckpt.specs.declared.building.Built.TheVariants.{More, Ready}
 use Rattle.mvo_ckpt.specs.Building.{IsBuilding, IsBuiltCheckpointOf}
 use Rattle.mvo_recovery.specs.image.Opens.{Image}
-use Rattle.mvo_recovery.specs.Parts.{Parts}
-use Rattle.mvo_recovery.specs.Settled.{IsSettled}
 use Rattle.mvo_load.specs.Framed.{IsFramedTo, IsAllFramed, IsStopOrOnly}
 use Rattle.mvo_load.specs.Read.{IsMisread, IsDiskUnchanged, HasRead}
 use Rattle.mvo_disk.specs.declared.disk.Disk.{Ghosts}
 use Rattle.mvo_pair.specs.Answers.{IsOnly}
 use Rattle.mvo_recovery.specs.image.Files.{SegmentIs}
 use Rattle.mvo_frame.proofs.Slices.{has_only}
-use Rattle.mvo_load.proofs.Framed.{told_only}
 use Rattle.mvo_store.specs.declared.checkpoint.checkpointing.Checkpointing.{Checkpointing}
 use Rattle.mvo_store.specs.declared.checkpoint.checkpoint_job.CheckpointJob.{CheckpointJob}
 use Rattle.mvo_store.specs.declared.checkpoint.checkpoint_job.CheckpointJob.TheVariants.{Reading as Reads, Running as Runs}
-use Rattle.mvo_store.specs.declared.checkpoint.reading.CheckpointReading.{CheckpointReading}
 use Rattle.mvo_store.specs.declared.checkpoint.reading.CheckpointReading.TheVariants.{Frames, Whole, Pair}
-use Rattle.mvo_store.specs.Planning.{MayPlan, CountsFit, IsPlanRefusal, IsPlanned, IsNewCheckpoint, IsReadCheckpoint, IsStoppedBeside}
+use Rattle.mvo_store.specs.Planning.{MayPlan, CountsFit, IsPlanRefusal, IsStoppedBeside}
 use Rattle.mvo_store.specs.SegmentRead.{oldest_file, MayReadCheckpoint, IsFramesRead, IsWholeRead, IsPairBuilt, IsWholeOf, IsPairOf, IsSafeSegmentRead, IsSegmentRead}
-use Rattle.mvo_store.specs.SegmentSlices.{MayPlanOf, IsEndedPlan, IsEndedPlanTo, IsSegmentFurther, IsSegmentPlanned, IsSegmentSliceTo, IsKeptOrLetGo}
+use Rattle.mvo_store.specs.SegmentSlices.{MayPlanOf, IsEndedPlan, IsEndedPlanTo, IsSegmentFurther, IsSegmentPlanned, IsSegmentSliceTo}
 use Rattle.mvo_store.proofs.Checkpoints.{may_plan_of, safe_planned, read_to, counts_are, read_stands, read_never, plan_why, plan_stop, plan_count}
 
 -- ---- a refusal of what the segment of a settled manifest holds

@@ -1,5 +1,5 @@
 -- A store of which a checkpoint begins to read its segment, or reads or builds a slice of it.
-use Rattle.std.proofs.Common.{◌≡◌, ◌≢◌, ◌≤◌, ◌⊎◌, inl, inr, ℕ, Bool, true, false, List, length, Option, Some, None, Ok, Err, refl, sym, ap, subst, ◌∙◌, arith}
+use Rattle.std.proofs.Common.{◌≡◌, ◌≢◌, ◌⊎◌, inl, inr, Bool, true, false, Option, Some, None, Ok, Err, refl, sym, ap, subst, ◌∙◌, arith}
 use Rattle.std.specs.Bool.{OnTrue, OnFalse}
 use Rattle.std.specs.List.{AllByRecursion}
 use Rattle.mvo_types.specs.Keys.{Map}
@@ -14,6 +14,8 @@ use Rattle.mvo_manifest.specs.Data.{ManifestData}
 use Rattle.mvo_places.specs.Places.{PlaceMap, PlaceTable, ArePlaces}
 use Rattle.mvo_store.specs.declared.checkpoint.checkpointing.Checkpointing.{Checkpointing}
 use Rattle.mvo_store.specs.declared.checkpoint.reading.CheckpointReading.{CheckpointReading}
+use Rattle.mvo_store.specs.declared.checkpoint.reading.CheckpointReading.TheVariants.{Frames, Whole, Pair as PairRead}
+use Rattle.mvo_ckpt.specs.declared.building.Built.TheVariants.{More, Ready}
 use Rattle.mvo_store.specs.declared.checkpoint.checkpoint_job.CheckpointJob.{CheckpointJob}
 use Rattle.mvo_store.specs.declared.checkpoint.checkpoint_job.CheckpointJob.TheVariants.{Reading as Reads, Running as Runs}
 use Rattle.mvo_store.specs.declared.merge.merge_job.MergeJob.{MergeJob}
@@ -23,18 +25,18 @@ use Rattle.mvo_store.specs.declared.jobs.jobs.Jobs.TheVariants.{Beside}
 use Rattle.mvo_store.specs.StoreData.{StoreData}
 use Rattle.mvo_store.specs.Files.{files_taken}
 use Rattle.mvo_store.specs.Jobs.{Job, jobs_of, reading_of, segment_read_of, next_installed, with_segment_read, without_segment_read, merge_pair}
-use Rattle.mvo_store.specs.Planning.{IsNewCheckpoint, IsStoppedBeside}
+use Rattle.mvo_store.specs.Planning.{IsStoppedBeside}
 use Rattle.mvo_store.specs.PairsRead.{IsSafeReading, HasReading}
 use Rattle.mvo_store.specs.Reading.{AreSafeReadings, HaveReadings}
 use Rattle.mvo_store.specs.SegmentRead.{oldest_file, IsSafeSegmentRead, AreSafeSegmentRead, IsSegmentRead, HasSegmentRead, IsSegmentBegun, IsBeingBuiltOf}
 use Rattle.mvo_store.specs.SegmentSlices.{IsSegmentSlice, IsSegmentBeside, AreSegmentReadTo, AreKeptOrLetGo}
-use Rattle.mvo_store.specs.Placing.{places_so_far, HavePlacesSoFar}
+use Rattle.mvo_store.specs.Placing.{places_so_far}
 use Rattle.mvo_store.specs.Safe.{IsSafeWork, AreSafe, IsStoreSound}
 use Rattle.mvo_store.specs.Standing.{IsRunning, HaveJobs, ShareNone, JobsHaveRoom, JobHasRoom, IsUp}
 use Rattle.mvo_store.specs.Steps.{ComesOfSegment, IsSegmentReadOn, IsBegunSegment, IsPlannedRead}
-use Rattle.mvo_store.specs.Calls.{StoreStep, HasBegunSegment, HasReadSegmentOn, HasLetPairGo, IsStoreStep}
+use Rattle.mvo_store.specs.Calls.{StoreStep, HasBegunSegment, HasReadSegmentOn, HasLooked, HasLetPairGo, LeavesSegmentRead, IsStoreStep}
 use Rattle.mvo_store.specs.Calls.StoreStep.{CheckpointBegin, CheckpointReadOn, CheckpointForget}
-use Rattle.mvo_store.proofs.Keeping.{OnlyNow, CountsNow, Begins, none_keeps_checkpoint, may_read, may_read_segment, stays_up, stays_safe, slots_as, still_leaves, all_others, looked_step, done_step}
+use Rattle.mvo_store.proofs.Keeping.{OnlyNow, CountsNow, Begins, none_keeps_checkpoint, may_read_segment, stays_up, stays_safe, slots_as, still_leaves, all_others, looked_step, done_step}
 use Rattle.mvo_store.proofs.Turning.{is_segment, begins_beside_merge}
 use Rattle.mvo_store.proofs.Changes.{same_changes, as_they_are, checkpoint_changes, beside_reads}
 use Rattle.mvo_store.proofs.Beginning.{checkpoint_shares_none, with_checkpoint_all, merge_room}
@@ -236,6 +238,25 @@ module _ {D : Type 0} {d : Ghosts D} {s : StoreData D} (b : Begins d s Checkpoin
     pub read_done : {A : Type 0} (a : A) → IsStoreStep {A = A} d s CheckpointReadOn (Ok a) (after jobs)
     read_done {A} a = subst (λ (k : Jobs). IsStoreStep {A = A} d s CheckpointReadOn (Ok a) (after k)) (sym slice.is) (looked_done b new rest any_moment places runs_now a read_makes count read_up)
 
+-- ---- what is left for want of memory
+
+module _ {D : Type 0} {d : Ghosts D} {s t : StoreData D} where
+  -- it is as it was, unless its pair is being built
+  left_kept : (o : Option CheckpointReading) → (IsBeingBuiltOf o → ⊥) → HasLooked d s t → LeavesSegmentRead d o s t
+  left_kept None not h = h
+  left_kept (Some (Frames r)) not h = h
+  left_kept (Some (Whole r)) not h = h
+  left_kept (Some (PairRead mark (Ready c))) not h = h
+  left_kept (Some (PairRead mark (More b))) not h = absurd (not tt)
+
+  -- and then it is let go
+  left_gone : (o : Option CheckpointReading) → IsBeingBuiltOf o → HasLetPairGo d s t → LeavesSegmentRead d o s t
+  left_gone None was h = absurd was
+  left_gone (Some (Frames r)) was h = absurd was
+  left_gone (Some (Whole r)) was h = absurd was
+  left_gone (Some (PairRead mark (Ready c))) was h = absurd was
+  left_gone (Some (PairRead mark (More b))) was h = h
+
 -- ---- it runs no longer
 
 module _ {D : Type 0} {d : Ghosts D} {s : StoreData D} {call : StoreStep} (b : Begins d s call) (r : CheckpointReading) (g : Option MergeJob) (is : s.jobs ≡ Beside (Some (Reads r)) g) (new : D) (rest : AllStay (d.content s.disk) (d.content new) (d.may_leave s.disk) (d.may_leave new)) (any_moment : LeavesOnly d.moment d.left_since s.disk new (AllOf (d.may_leave s.disk))) (count : d.fault_count new ≡ d.fault_count s.disk) where
@@ -277,7 +298,7 @@ module _ {D : Type 0} {d : Ghosts D} {s : StoreData D} (b : Begins d s Checkpoin
   pub let_go_step : {A : Type 0} → IsStoreStep {A = A} d s CheckpointReadOn (Err OutOfMemory) (record s { disk = new; jobs = without_segment_read s.jobs })
   let_go_step = looked_step b (record s { disk = new; jobs = without_segment_read s.jobs }) any_moment.later.honest (λ _. looks_leave b new rest any_moment)
       (λ _ rows up. slots_as (d.content s.disk) (d.content new) (rest.content 0) (rest.content 1)) (all_others d CheckpointReadOn s (record s { disk = new; jobs = without_segment_read s.jobs }) rest)
-      (inl refl) (inr (record { was = was; after = refl; no_fault = count }))
+      (inl refl) (left_gone (segment_read_of s.jobs) was (record { after = refl; no_fault = count }))
       (λ _ rows up. subst (λ (k : Jobs). IsUp d (record s { disk = new; jobs = k }) rows) (left_is b here.0 here.1 here.2 new rest any_moment count) (left_up b here.0 here.1 here.2 new rest any_moment count rows up))
 
 -- and where it is forgotten
@@ -328,8 +349,8 @@ module _ {D : Type 0} {d : Ghosts D} {s : StoreData D} (b : Begins d s Checkpoin
   -- it is as it was, or its pair is let go
   pub slice_refused : {A : Type 0} → CountsNow d → IsStop e ⊎ IsMisread e → (IsHonest (d.moment new) → IsStoppedBeside (d.content s.disk) (d.may_leave s.disk) s.manifest s.places.at e) → (jobs : Jobs) → AreKeptOrLetGo e s.jobs jobs → (down : Bool) → OnTrue down (e ≢ OutOfMemory) → OnFalse down (e ≡ OutOfMemory) → IsStoreStep {A = A} d s CheckpointReadOn (Err e) (refused_with jobs down)
   slice_refused {A} counts_now why stop jobs (inl same) down ne is =
-      subst (λ (k : Jobs). IsStoreStep {A = A} d s CheckpointReadOn (Err e) (refused_with k down)) (sym same)
-      (looked_refused b new rest any_moment counts_now e (inl refl) (inr (inl refl)) (λ broken. inr (inr broken)) (λ n. inl (record { after = refl; no_fault = n })) count why (λ honest rows up. stop honest up.parts up.settled (free_here b rows up)) down ne is)
+      subst (λ (k : Jobs). IsStoreStep {A = A} d s CheckpointReadOn (Err e) (refused_with k down)) (sym same.0)
+      (looked_refused b new rest any_moment counts_now e (inl refl) (inr (inl refl)) (λ broken. inr (inr broken)) (λ n. left_kept (segment_read_of s.jobs) same.1 (record { after = refl; no_fault = n })) count why (λ honest rows up. stop honest up.parts up.settled (free_here b rows up)) down ne is)
   slice_refused counts_now why stop jobs (inr gone) true ne is = absurd (ne gone.0)
   slice_refused {A} counts_now why stop jobs (inr gone) false ne is =
       subst (λ (k : Jobs). IsStoreStep {A = A} d s CheckpointReadOn (Err e) (refused_with k false)) (sym gone.2)
@@ -337,7 +358,7 @@ module _ {D : Type 0} {d : Ghosts D} {s : StoreData D} (b : Begins d s Checkpoin
       (subst (λ (t : StoreData D). IsStoreStep {A = A} d s CheckpointReadOn (Err OutOfMemory) t) (still_up (without_segment_read s.jobs)) (let_go_step b gone.1 new rest any_moment (no_fault gone.0))))
 
   pub slice_still : (jobs : Jobs) → AreKeptOrLetGo e s.jobs jobs → (down : Bool) → OnFalse down (e ≡ OutOfMemory) → down ≡ false → IsStoreSound d (refused_with jobs down)
-  slice_still jobs (inl same) down is up = subst (λ (k : Jobs). IsStoreSound d (refused_with k down)) (sym same) (refused_still b new rest any_moment e count down is up)
+  slice_still jobs (inl same) down is up = subst (λ (k : Jobs). IsStoreSound d (refused_with k down)) (sym same.0) (refused_still b new rest any_moment e count down is up)
   slice_still jobs (inr gone) true is up = absurd (cc up)
   slice_still jobs (inr gone) false is up =
       subst (λ (k : Jobs). IsStoreSound d (refused_with k false)) (sym gone.2)

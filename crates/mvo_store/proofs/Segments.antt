@@ -1,10 +1,10 @@
 -- A checkpoint whose segment is read, beside a step of another job, or an append, or an install.
-use Rattle.std.proofs.Common.{◌≡◌, ◌≢◌, inl, inr, ℕ, ◌≤◌, Bool, true, false, cond, List, [], ◌∷◌, ◌++◌, length, get_or, Option, Some, None, refl, sym, ap, subst, ◌∙◌, arith}
-use Rattle.std.specs.List.{Contains, flat_map}
+use Rattle.std.proofs.Common.{◌≡◌, ◌≢◌, inl, inr, ℕ, ◌≤◌, Bool, true, false, cond, List, [], ◌∷◌, ◌++◌, length, get_or, Option, Some, None, refl, sym, subst, arith}
+use Rattle.std.specs.List.{Contains}
 use Rattle.std.specs.Option.{option_map}
 use Rattle.std.proofs.lemmas.List.Elements.{Contains-get_or}
 use Rattle.mvo_disk.specs.Disk.{Image}
-use Rattle.mvo_manifest.specs.Data.{ManifestData, named, pair_files}
+use Rattle.mvo_manifest.specs.Data.{ManifestData, named}
 use Rattle.mvo_manifest.specs.Rules.{IsManifest}
 use Rattle.mvo_places.specs.Places.{PlaceMap}
 use Rattle.mvo_recovery.specs.Parts.{Parts, IsLastFile}
@@ -15,13 +15,11 @@ use Rattle.mvo_store.specs.declared.jobs.jobs.Jobs.TheVariants.{Rotation as Rota
 use Rattle.mvo_store.specs.declared.checkpoint.checkpoint_job.CheckpointJob.{CheckpointJob}
 use Rattle.mvo_store.specs.declared.checkpoint.checkpoint_job.CheckpointJob.TheVariants.{Reading as Reads, Running as Runs}
 use Rattle.mvo_store.specs.declared.checkpoint.reading.CheckpointReading.{CheckpointReading}
-use Rattle.mvo_store.specs.declared.merge.merging.Merging.{Merging}
 use Rattle.mvo_store.specs.declared.merge.merge_job.MergeJob.{MergeJob}
 use Rattle.mvo_store.specs.declared.merge.stage.MergeStage.{MergeStage}
 use Rattle.mvo_store.specs.declared.merge.stage.MergeStage.TheVariants.{Data as MergeAtData, Delta as MergeAtDelta}
 use Rattle.mvo_store.specs.Jobs.{Job, is_of_merge, merge_by, checkpoint_by, with_step, merge_job_upto, checkpoint_job_upto, jobs_upto, next_installed, after_install, reading_of, segment_read_of}
-use Rattle.mvo_store.specs.Jobs.Job.{Merge}
-use Rattle.mvo_store.specs.Placing.{checkpoint_job_placed, with_places, places_so_far}
+use Rattle.mvo_store.specs.Placing.{with_places, places_so_far}
 use Rattle.mvo_store.specs.PairsRead.{HasReading}
 use Rattle.mvo_store.specs.Reading.{HaveReadings}
 use Rattle.mvo_store.specs.SegmentRead.{oldest_file, AreSafeSegmentRead, HasSegmentRead}

@@ -30,7 +30,7 @@ use Rattle.mvo_store.specs.declared.merge.merge_job.MergeJob.{MergeJob}
 use Rattle.mvo_store.specs.declared.merge.merge_job.MergeJob.TheVariants.{Reading, Running}
 use Rattle.mvo_store.specs.StoreData.{StoreData}
 use Rattle.mvo_store.specs.Causes.{why_not_due}
-use Rattle.mvo_store.specs.Jobs.{Job, jobs_of, step_due, job_due, is_of_data, slice_end_of, stage_upto, merge_stage_upto, checkpoint_upto, checkpoint_job_upto, merge_upto, merge_job_upto, job_upto, jobs_upto, reading_of, segment_read_of, sliced}
+use Rattle.mvo_store.specs.Jobs.{Job, jobs_of, step_due, job_due, is_of_data, slice_end_of, stage_upto, merge_stage_upto, checkpoint_upto, checkpoint_job_upto, merge_upto, merge_job_upto, job_upto, jobs_upto, reading_of, sliced}
 use Rattle.mvo_store.specs.Jobs.Job.{Rotation, Checkpoint, Merge, MergeInstall}
 use Rattle.mvo_store.specs.Standing.{IsRunning, ShareNone, JobHasRoom, IsUp, HasWork}
 use Rattle.mvo_store.specs.PairsRead.{IsSafeReading, HasReading}
@@ -215,4 +215,4 @@ module _ {D : Type 0} {d : Ghosts D} {s : StoreData D} {step : Due} (of_data : i
       let left = memory_left d.fault_count s.disk new refusal other r.refused.refusal in
       let memory : MayMeet (Slice step) refusal = inl left.0 in
       let same : record s { disk = new; down = false } ≡ s = ap (λ (k : D). record s { disk = k; down = false }) left.1 ∙ ap (λ (b : Bool). record s { down = b }) (sym b.begins.up) in
-      other_step d only_now s (record s { disk = new; down = false }) (Slice step) refusal same other (λ is. subst IsMisread left.0 is) (err_is d A (Slice step) _ refusal b.begins.none memory)
+      other_step d only_now s (record s { disk = new; down = false }) (Slice step) refusal same other (λ is. subst IsMisread left.0 is) (λ _. refl) (err_is d A (Slice step) _ refusal b.begins.none memory)

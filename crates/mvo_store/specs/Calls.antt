@@ -36,7 +36,9 @@ use Rattle.mvo_store.specs.Causes.{why_not_segment_read}
 use Rattle.mvo_store.specs.Jobs.{Job, no_jobs, job_due, is_step_due, is_merge_read, without_reading, is_segment_read, segment_read_of, without_segment_read, with_step, sliced, slices_left, with_manifest, progress_of}
 use Rattle.mvo_store.specs.Steps.{IsRotationOf, IsCheckpointOf, IsMergeOf, IsBegunReading, IsMergeReadOn, HasInstalledNext, HasPlaced}
 use Rattle.mvo_store.specs.Steps.{IsBegunSegment, IsSegmentReadOn}
-use Rattle.mvo_store.specs.SegmentRead.{IsBeingBuiltOf}
+use Rattle.mvo_ckpt.specs.declared.building.Built.TheVariants.{More as MoreToBuild}
+use Rattle.mvo_store.specs.declared.checkpoint.reading.CheckpointReading.{CheckpointReading}
+use Rattle.mvo_store.specs.declared.checkpoint.reading.CheckpointReading.TheVariants.{Pair}
 use Rattle.mvo_store.specs.Placing.{are_places_left}
 use Rattle.mvo_store.specs.Files.{IsLeastFree}
 use Rattle.mvo_store.specs.Merging.{merged_at, pair_with}
@@ -316,11 +318,16 @@ pub record HasLooked {D : Type 0} (d : Ghosts D) (old new : StoreData D) : Type 
   pub after : new ≡ record old { disk = new.disk }
   pub no_fault : HasNoFault d old new
 
--- The pair of the checkpoint was being built, and is let go: no checkpoint runs any more.
+-- What is read and built of a checkpoint is let go: no checkpoint runs any more.
 pub record HasLetPairGo {D : Type 0} (d : Ghosts D) (old new : StoreData D) : Type 0 where
-  pub was : IsBeingBuiltOf (segment_read_of old.jobs)
   pub after : new ≡ record old { disk = new.disk; jobs = without_segment_read old.jobs }
   pub no_fault : HasNoFault d old new
+
+-- so it is where its pair is being built, and else it is as it was
+abbrev pub LeavesSegmentRead : {D : Type 0} → Ghosts D → Option CheckpointReading → StoreData D →
+    StoreData D → Type 0
+LeavesSegmentRead d (Some (Pair mark (MoreToBuild b))) old new = HasLetPairGo d old new
+LeavesSegmentRead d r old new = HasLooked d old new
 
 -- A call that reads files first has looked at the disk before memory is refused. Where a pair is
 -- being built, it is let go.
@@ -331,7 +338,8 @@ LeftByMemory d (Call (Step MergeDelta)) old new = HasLooked d old new
 LeftByMemory d (MergeBegin place) old new = HasLooked d old new
 LeftByMemory d MergeReadOn old new = HasLooked d old new
 LeftByMemory d CheckpointBegin old new = HasLooked d old new
-LeftByMemory d CheckpointReadOn old new = HasLooked d old new ⊎ HasLetPairGo d old new
+LeftByMemory d CheckpointReadOn old new =
+    LeavesSegmentRead d (segment_read_of old.jobs) old new
 LeftByMemory d call old new = new ≡ old
 
 -- A file came back otherwise than it was written: the store is down, and nothing else of it has

@@ -71,10 +71,11 @@ IsSegmentSliceTo honest content may m at room taken old None = ⊥
 IsSegmentSliceTo honest content may m at room taken old (Some j) =
     IsSegmentSlice honest content may m at room taken old j
 
--- Refused, it is as it was. Where memory was refused while its pair was being built, it is let go.
+-- Refused, it is as it was. But where its pair is being built only memory is refused, and it is let
+-- go.
 abbrev pub IsKeptOrLetGo : Refusal → CheckpointReading → Option CheckpointJob → Type 0
 IsKeptOrLetGo e old None = (e ≡ OutOfMemory) × IsBeingBuilt old
-IsKeptOrLetGo e old (Some j) = j ≡ Reads old
+IsKeptOrLetGo e old (Some j) = (j ≡ Reads old) × (IsBeingBuilt old → ⊥)
 
 -- ---- beside the merge that runs, if one does
 
@@ -92,5 +93,5 @@ AreSegmentReadTo honest content may m at room taken (Beside (Some (Reads old)) g
 AreSegmentReadTo honest content may m at room taken old new = ⊥
 
 abbrev pub AreKeptOrLetGo : Refusal → Jobs → Jobs → Type 0
-AreKeptOrLetGo e old new = (new ≡ old)
+AreKeptOrLetGo e old new = ((new ≡ old) × (IsBeingBuiltOf (segment_read_of old) → ⊥))
     ⊎ ((e ≡ OutOfMemory) × IsBeingBuiltOf (segment_read_of old) × (new ≡ without_segment_read old))

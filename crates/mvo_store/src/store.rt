@@ -127,7 +127,8 @@ impl<D: Disk> Store<D> {
     }
 
     /// The next step of a job that runs. Of a checkpoint and a merge beside one another it is that
-    /// of the checkpoint, since the last file of a merge waits for it.
+    /// of the checkpoint, since the last file of a merge waits for it. One that is read has none:
+    /// beside a checkpoint that is read it is that of the merge, of which the last file waits.
     pub fn next_step(&self) -> Option<Due>
         ensures { result ≡ next_due self.now.jobs }
     {

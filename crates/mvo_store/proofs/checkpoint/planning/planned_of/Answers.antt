@@ -1,8 +1,8 @@
-use Rattle.std.proofs.Common.{◌≡◌, ◌≤◌, List, length, rules, refl, ap, sym, subst, ◌∙◌, inl, inr, ⊎_elim}
+use Rattle.std.proofs.Common.{◌≡◌, List, length, rules, refl, ap, sym, subst, ◌∙◌, inl, inr, ⊎_elim}
 use Rattle.mvo_group.specs.Data.{GroupData}
-use Rattle.mvo_pair.specs.Data.{EntryData, Numbered}
+use Rattle.mvo_pair.specs.Data.{EntryData}
 use Rattle.mvo_manifest.specs.Data.{ManifestData}
-use Rattle.mvo_places.specs.Places.{PlaceMap, ArePlaces}
+use Rattle.mvo_places.specs.Places.{PlaceMap}
 use Rattle.mvo_ckpt.specs.Building.{IsBuiltCheckpointOf}
 use Rattle.mvo_ckpt.specs.Checkpoint.{BuiltCheckpoint, DeltaData}
 use Rattle.mvo_pair.specs.declared.pair.Pair.{Pair}

@@ -1,6 +1,5 @@
-use Rattle.std.proofs.Common.{◌≡◌, List, ℕ, sym, ap, subst, ◌∙◌, Result, Some}
+use Rattle.std.proofs.Common.{◌≡◌, sym, ap, subst, ◌∙◌, Some}
 use Rattle.std.specs.Prelude.{OnOk}
-use Rattle.mvo_types.specs.declared.refusal.Refusal.{Refusal}
 use Rattle.mvo_disk.specs.Disk.{IsHonest}
 use Rattle.mvo_ckpt.specs.declared.building.Built.{Built}
 use Rattle.mvo_ckpt.specs.declared.building.Built.TheVariants.{Ready}

@@ -1,7 +1,6 @@
 use Rattle.std.proofs.Common.{◌<◌, refl, sym, subst}
 use Rattle.mvo_disk.specs.Disk.{IsHonest}
 use Rattle.mvo_format.specs.declared.format.TheConstants.{LAST_FORMAT}
-use Rattle.mvo_load.specs.Framed.{IsFramedTo}
 use Rattle.mvo_store.proofs.Checkpoints.{first_below}
 use Rattle.mvo_store.proofs.SegmentOn.{framed_so, more_frames, all_frames, stop_or_only}
 use Rattle.mvo_store.proofs.checkpoint.reading.read_slice.Goals as goal

@@ -67,7 +67,7 @@ returns-else-is_fault g c =
     let d = g.D.Disk in
     let old : StoreData _ = store_data c.self.inside in
     let same_disk = c.in-Err.ensures.left.other c.if-is_fault.ensures.other in
-    rw (← c.self.view_is) (other_step d g.met.D.Disk.only_now old (record old { disk = c.write_body.new.disk; segment = c.write_body.new.self }) (Call AppendBody) c.in-Err.refusal (sym (left_same old c.write_body.new.disk c.write_body.new.self same_disk c.in-Err.ensures.err)) c.if-is_fault.ensures.other (never_misread c.in-Err.refusal c.in-Err.ensures.refused) (search rules))
+    rw (← c.self.view_is) (other_step d g.met.D.Disk.only_now old (record old { disk = c.write_body.new.disk; segment = c.write_body.new.self }) (Call AppendBody) c.in-Err.refusal (sym (left_same old c.write_body.new.disk c.write_body.new.self same_disk c.in-Err.ensures.err)) c.if-is_fault.ensures.other (never_misread c.in-Err.refusal c.in-Err.ensures.refused) (λ _. refl) (search rules))
 
 pub returns-then-self : goal.returns-then-self
 returns-then-self g c = rw (← c.self.view_is) (refused_step g.D.Disk g.met.D.Disk.only_now _ (Call AppendBody) _ (search rules))

@@ -1,19 +1,15 @@
-use Rattle.std.proofs.Common.{◌≡◌, ◌⊎◌, ◌∙◌, inl, inr, refl, sym, ap, subst, Result, Ok, Err, Some}
+use Rattle.std.proofs.Common.{◌≡◌, ◌⊎◌, ◌∙◌, sym, subst, Result, Ok, Err, Some}
 use Rattle.std.specs.Prelude.{IfErr, OnOk, OnErr}
 use Rattle.mvo_types.specs.declared.refusal.Refusal.{Refusal}
-use Rattle.mvo_types.specs.declared.refusal.Refusal.TheVariants.{OutOfMemory}
 use Rattle.mvo_disk.specs.Disk.{IsHonest}
 use Rattle.mvo_load.specs.Read.{IsMisread}
 use Rattle.mvo_pair.specs.Writing.{IsStop, CountsFaults}
-use Rattle.mvo_places.specs.Places.{PlaceTable}
 use Rattle.mvo_store.specs.declared.jobs.jobs.Jobs.{Jobs}
 use Rattle.mvo_store.specs.StoreData.{StoreData}
 use Rattle.mvo_store.specs.View.{store_data}
 use Rattle.mvo_store.specs.Causes.{why_not_segment_read}
 use Rattle.mvo_store.specs.Files.{files_taken}
-use Rattle.mvo_store.specs.Jobs.{segment_read_of, is_segment_read}
 use Rattle.mvo_store.specs.Planning.{IsStoppedBeside}
-use Rattle.mvo_store.specs.SegmentRead.{oldest_file, AreSafeSegmentRead, HasSegmentRead}
 use Rattle.mvo_store.specs.SegmentSlices.{AreSegmentReadTo, AreKeptOrLetGo}
 use Rattle.mvo_store.specs.Calls.StoreStep.{CheckpointReadOn}
 use Rattle.mvo_store.proofs.Keeping.{Begins, begins, refused_step}
