@@ -1,6 +1,6 @@
 use crate::equal::{holds, same};
 use mvo_txn::{Located, SeatNo, TxState, TxnTable};
-use mvo_types::{MAX_STAMP, MAX_UNFINISHED, Refusal, Stamp, TxId};
+use mvo_types::{Refusal, Stamp, TxId};
 use std::alloc::{AllocError, Global};
 use std::process::Abort;
 use std::test::Fail;
@@ -210,43 +210,6 @@ fn go_all(
 fn is_as_a_plain_list(rt: HostRuntime) -> Result<(), Fail> {
     let mut table = TxnTable::new(rt.alloc(), Stamp(7))?;
     go_all(&rt, &mut table, &mut Vec::new(rt.alloc()))?;
-    Ok(())
-}
-
-fn begin_all(rt: &impl Abort, table: &mut TxnTable<()>) -> Result<(), Refusal> {
-    holds(rt, table.is_empty());
-    for begun in 1..=MAX_UNFINISHED {
-        same(rt, &table.begin(())?, &TxId(begun as u64));
-    }
-    same(rt, &table.begin(()).err(), &Some(Refusal::TableFull));
-    same(rt, &table.oldest_begin(), &Stamp(1));
-    Ok(())
-}
-
-#[test]
-fn begins_until_it_is_full(rt: HostRuntime) -> Result<(), Fail> {
-    let mut table = TxnTable::new(rt.alloc(), Stamp(0))?;
-    begin_all(&rt, &mut table)?;
-    Ok(())
-}
-
-fn draw_last(rt: &impl Abort, table: &mut TxnTable<()>) -> Result<(), Refusal> {
-    let id = table.begin(())?;
-    same(rt, &id, &TxId(MAX_STAMP));
-    same(rt, &table.begin(()).err(), &Some(Refusal::ClockSpent));
-    let seat = table.seat_of(id);
-    let tx = Located { id, seat };
-    if let Some(TxState::Active) = table.state(id) {
-        same(rt, &table.prepare(tx).err(), &Some(Refusal::ClockSpent));
-    }
-    same(rt, &table.low_water(), &Stamp(MAX_STAMP));
-    Ok(())
-}
-
-#[test]
-fn draws_until_the_clock_is_spent(rt: HostRuntime) -> Result<(), Fail> {
-    let mut table = TxnTable::new(rt.alloc(), Stamp(MAX_STAMP - 1))?;
-    draw_last(&rt, &mut table)?;
     Ok(())
 }
 

@@ -19,8 +19,8 @@ const SCRIPT: &[u8] = b"begin a\ninsert a 0 5 50 61\ncommit a\nflush\nrotate\nch
 
 const ALL: usize = 100;
 
-/// A byte that is put at the start of a file, and what is answered then: by a begin and scans, or by
-/// the opening, which is refused.
+/// A byte that is put at the start of a file, and what is answered then: by a begin and scans, or
+/// by the opening, which is refused.
 type Case = (Option<(u16, u8)>, &'static str);
 
 const CASES: [Case; 5] = [

@@ -2,8 +2,8 @@
 
 use crate::equal::holds;
 use crate::tale::checked::next_group;
-use crate::tale::cuts::store;
 use crate::tale::plain::{Wrote, is_record, row_at};
+use crate::tale::storing::store;
 use mvo_tale::Tale;
 use mvo_types::{Answer, Op, RowKey, Stamp};
 use std::alloc::{AllocError, Global};

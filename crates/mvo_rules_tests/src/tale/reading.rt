@@ -3,8 +3,8 @@
 
 use crate::equal::{holds, same};
 use crate::tale::checked::{leave_at, next_group, open_at, open_reading_at, settle_at};
-use crate::tale::cuts::store_inserts;
 use crate::tale::entries::entry_of;
+use crate::tale::storing::store_inserts;
 use mvo_tale::Tale;
 use mvo_types::{Answer, Op, RowKey, Stamp, TxId};
 use std::alloc::{AllocError, Global};

@@ -1,7 +1,7 @@
 //! The lists of commits that are forgotten.
 
 use crate::equal::{holds, same};
-use crate::tale::cuts::store_inserts;
+use crate::tale::storing::store_inserts;
 use mvo_tale::Tale;
 use mvo_types::Stamp;
 use std::alloc::Global;
