@@ -3,6 +3,5 @@ mod Same
 mod Leaving
 mod Keeping
 mod Showing
-mod Idle
 pub mod Fitting
 pub mod Places

@@ -4,12 +4,14 @@ use Rattle.std.specs.List.{AllByRecursion}
 use Rattle.std.specs.Map.{lookup}
 use Rattle.mvo_types.specs.declared.op.Op.{Op}
 use Rattle.mvo_types.specs.RowData.{RowData}
+use Rattle.mvo_types.specs.AnswerData.{AnswerData}
 use Rattle.mvo_theory.specs.Causes.{is_entry_too_many}
 use Rattle.mvo_theory.specs.Entries.{entry_of}
 use Rattle.mvo_shared.specs.Kept.{WorkContent, with_looked, answer_kept}
 use Rattle.mvo_shared.specs.Shared.{WorksById, with_work}
 use Rattle.mvo_shared.specs.Held.{empty_work}
 use Rattle.mvo_work.specs.Limits.{MayFollow}
+use Rattle.mvo_content.specs.Shown.{AreRowsOf}
 use Rattle.mvo_content.specs.Done.{DoneData, work_in}
 use Rattle.mvo_content.specs.Next.{NextData, IsPreparedFor}
 
@@ -57,3 +59,13 @@ pub record MayBeTold (ws : WorksData) (t : ℕ) (n : NextData) : Type 0 where
   pub few : is_entry_too_many done.history (entry_of n.op) ≡ false
   pub answer :
       n.answer ≡ answer_kept (with_looked done.looked (entry_of n.op) n.rows) done.history n.op
+
+-- what the operation is answered behind what was done, where others show these rows in its entry
+abbrev pub answer_of_work : WorkContent → Op → List RowData → AnswerData
+answer_of_work w op rows = answer_kept (with_looked w.looked (entry_of op) rows) w.history op
+
+-- it may be done there and then, where others show these rows in its entry
+pub record MayBeKept (ws : WorksData) (t : ℕ) (op : Op) (rows : List RowData) : Type 0 where
+  pub shown : AreRowsOf (entry_of op) rows
+  pub limits : (a : AnswerData) → MayFollow (works_in ws t).history op a
+  pub few : is_entry_too_many (works_in ws t).history (entry_of op) ≡ false

@@ -23,7 +23,7 @@ ghost use Rattle.mvo_content.specs.Next.{IsPreparedFor};
 use crate::copying::{answer_again, copy_of, write_of};
 use crate::looks::Looks;
 use crate::memory::{clear_items, take_items};
-use crate::next_operation::NextOperation;
+use crate::next_operation::{NextOperation, NextParts};
 use crate::own_rows::{by_key, write_all};
 use crate::own_writes::{Left, clear_left, keys_left, left_at, note_left};
 use crate::rows_shown::RowsShown;
@@ -333,7 +333,8 @@ impl WorkContent {
         let told = answer_again(*self.operations.allocator(), &answer)?;
         let write = write_of(&op, &told)?;
         self.make_room()?;
-        Ok(NextOperation::new(op, others, answer, told, write))
+        let alloc = *self.operations.allocator();
+        NextOperation::new(alloc, op, others, answer, told, write)
     }
 
     /// Does the operation that was prepared, and answers what it is answered. It takes no memory.
@@ -347,13 +348,13 @@ impl WorkContent {
         ensures told { work_in self.new ≡ after_op (work_in self.old) next.op next.rows }
         ensures answer { answer_data result ≡ next.answer }
     {
-        let NextOperation {
+        let NextParts {
             op,
             others,
             answer,
             told,
             write,
-        } = next;
+        } = next.into_parts();
         self.add(op, others, told, write);
         answer
     }
@@ -361,6 +362,7 @@ impl WorkContent {
     /// Does the operation where others show these rows in its entry: its answer is the serial
     /// step's, behind the own earlier writes, on the rows that the entry keeps; and these are what
     /// it keeps where it is new. Refused for want of memory, it has done nothing.
+    #[inline(always)]
     pub fn keep(&mut self, op: Op, others: RowsShown) -> Result<Answer, AllocError>
         requires shown { AreRowsOf (entry_of op) (rows_in others) }
         requires limits { (a : AnswerData) → MayFollow self.old.history op a }
@@ -371,8 +373,12 @@ impl WorkContent {
             (work_in self.new ≡ after_op (work_in self.old) op (rows_in others)) }
         ensures err { OnErr result (work_in self.new ≡ work_in self.old) }
     {
-        let next = self.prepare(op, others)?;
-        Ok(self.tell(next))
+        let answer = self.next_answer(&op, &others)?;
+        let told = answer_again(*self.operations.allocator(), &answer)?;
+        let write = write_of(&op, &told)?;
+        self.make_room()?;
+        self.add(op, others, told, write);
+        Ok(answer)
     }
 }
 

@@ -195,8 +195,20 @@ fn look_at(few: &[(Entry, RowsShown)], entry: Entry) -> Option<&RowsShown>
     None
 }
 
-/// The same among those of a map.
+/// The same among those of a map, which mostly has none.
+#[inline(always)]
 fn look_behind(behind: &IndexMap<Entry, RowsShown>, entry: Entry) -> Option<&RowsShown>
+    ensures { option_copied result ≡ look_at behind.now.entries entry }
+{
+    if behind.len() == 0 {
+        return None;
+    }
+    look_hashed(behind, entry)
+}
+
+/// The same, by its hash.
+#[inline(never)]
+fn look_hashed(behind: &IndexMap<Entry, RowsShown>, entry: Entry) -> Option<&RowsShown>
     ensures { option_copied result ≡ look_at behind.now.entries entry }
 {
     behind.get(&entry)

@@ -1,4 +1,4 @@
-ghost use Rattle.std.specs.Prelude.{◌≡◌, [], IfOk, OnOk, IsSome, option_copied};
+ghost use Rattle.std.specs.Prelude.{◌≡◌, [], IfOk, OnOk, OnErr, IsSome, option_copied};
 ghost use Rattle.mvo_types.specs.AnswerData.{answer_data};
 ghost use Rattle.mvo_theory.specs.Entries.{entry_of};
 ghost use Rattle.mvo_shared.specs.Held.{empty_work};
@@ -7,6 +7,7 @@ ghost use Rattle.mvo_content.specs.Shown.{rows_in, AreRowsOf};
 ghost use Rattle.mvo_content.specs.Done.{work_in};
 ghost use Rattle.mvo_content.specs.Works.{done_at, work_if_there, works_in};
 ghost use Rattle.mvo_content.specs.Works.{HaveSameWorks, HasWorkFor, IsPreparedAt, MayBeTold};
+ghost use Rattle.mvo_content.specs.Works.{MayBeKept, answer_of_work};
 
 use crate::content::WorkContent;
 use crate::next_operation::NextOperation;
@@ -85,7 +86,43 @@ impl Works {
         }
     }
 
+    /// Does an operation of the transaction, as `WorkContent::keep` does. Refused for want of
+    /// memory, nothing is done.
+    #[inline(always)]
+    pub fn do_operation(
+        &mut self,
+        id: TxId,
+        op: Op,
+        others: RowsShown,
+    ) -> Result<Answer, AllocError>
+        requires { MayBeKept self.old id.0 op (rows_in others) }
+        ensures answer { IfOk result (λ a. answer_data a
+            ≡ answer_of_work (works_in self.old id.0) op (rows_in others)) }
+        ensures told { OnOk result (HasWorkFor self.old self.new id.0
+            (after_op (works_in self.old id.0) op (rows_in others))) }
+        ensures err { OnErr result (HaveSameWorks self.old self.new) }
+    {
+        self.see_to_work(id)?;
+        match self.held.get_mut(&id.0) {
+            Some(work) => Ok(work.keep(op, others)?),
+            None => unreachable!(),
+        }
+    }
+
+    /// A work lies there, mostly since one did before.
+    #[inline(always)]
+    fn see_to_work(&mut self, id: TxId) -> Result<(), AllocError>
+        ensures same { HaveSameWorks self.old self.new }
+        ensures there { OnOk result (IsSome (done_at self.new id.0)) }
+    {
+        if self.held.contains_key(&id.0) {
+            return Ok(());
+        }
+        self.make_work(id)
+    }
+
     /// A work in which nothing is done lies there, unless one does.
+    #[inline(never)]
     fn make_work(&mut self, id: TxId) -> Result<(), AllocError>
         ensures same { HaveSameWorks self.old self.new }
         ensures there { OnOk result (IsSome (done_at self.new id.0)) }
@@ -127,9 +164,9 @@ impl Works {
         requires { list.items ≡ [] }
         ensures { self.new ≡ self.old }
     {
-        if let Some(mut content) = self.spare.pop() {
-            content.keep_list(list);
-            let _ = self.spare.push(content);
+        let count = self.spare.len();
+        if count > 0 {
+            self.spare[count - 1].keep_list(list);
         }
     }
 
@@ -165,7 +202,9 @@ impl Works {
         ensures { HasWorkFor self.old self.new id.0 empty_work }
     {
         self.keep(taken.into_content());
-        let content = self.take(id);
-        self.keep(content);
+        if self.held.contains_key(&id.0) {
+            let content = self.take(id);
+            self.keep(content);
+        }
     }
 }

@@ -34,15 +34,15 @@ use Rattle.mvo_core.specs.Looking.{row_shown}
 use Rattle.mvo_core.specs.Standing.{StandsAmong}
 use Rattle.mvo_core.specs.Steps.{LeadsAmong}
 use Rattle.mvo_representation.specs.Dependencies.{AreDependencies}
+use Rattle.mvo_shared.specs.Kept.{after_op}
 use Rattle.mvo_content.specs.Shown.{AreRowsOf}
-use Rattle.mvo_content.specs.Next.{NextData}
-use Rattle.mvo_content.specs.Works.{WorksData, IsPreparedAt, MayBeTold}
+use Rattle.mvo_content.specs.Works.{WorksData, works_in, HasWorkFor, MayBeKept, answer_of_work}
 use Rattle.mvo_core.proofs.Answered.{recorded_leads}
 use Rattle.mvo_core.proofs.Asked.{active_if_looked}
 use Rattle.mvo_core.proofs.CausesTold.{not_read_is, MayLook}
 use Rattle.mvo_core.proofs.Looked.{IsActiveHere, active_here, shown_in, versions_in_order, row_is, names_just}
 use Rattle.mvo_core.proofs.Refused.{refused_leads, spent_leads}
-use Rattle.mvo_core.proofs.WorksHeld.{IsNextTold, may_be_told, key_fits, key_answer, key_told}
+use Rattle.mvo_core.proofs.WorksHeld.{may_be_kept, key_fits, key_answer_so, key_told_so}
 
 module _ (rs : Readers) (opening : Map) (steps : List Step) (s : State) (c : CoreData) (h : StandsAmong rs opening steps s c) (t : TxId) (k : RowKey) (looks : MayLook (stage_of t.0 rs.unfinished)) where
   pub read_refused : (r : Refusal) → why_not_look c.table (done_in c.works t.0) t.0 k.table (Key k) ≡ Some r → (new : CoreData) → StandsAmong rs opening (steps ++ steps_of_refusal t.0 r) (after_refusal s t.0 r) new
@@ -63,17 +63,16 @@ module _ (rs : Readers) (opening : Map) (steps : List Step) (s : State) (c : Cor
     pub read_spent_roomy : (table : Txns (Node KeptTransaction)) → table ≡ c.table → LeadsAmong rs opening steps s (Do t.0 (Read k)) (Refused OutOfMemory) (record c { table = table })
     read_spent_roomy table same = subst (λ (x : Txns (Node KeptTransaction)). LeadsAmong rs opening steps s (Do t.0 (Read k)) (Refused OutOfMemory) (record c { table = x })) (sym same) read_spent
 
-    -- its work may be told
-    pub read_may_be_told : (rows : List RowData) (n : NextData) → IsPreparedAt c.works t.0 (Read k) rows n → MayBeTold c.works t.0 n
-    read_may_be_told rows n p = may_be_told rs opening steps s c h t.0 (Read k) may rows n p
-
     pub read_fits : (found : Shown) → (AreVersionsInOrder (state_of c.table) t.0 t.0 (versions_at c.versions.slots c.versions.lists k) → found ≡ shown_in c t.0 k) → AreRowsOf (Key k) (option_to_list (row_shown c.versions.slots found.version))
     read_fits found is = key_fits rs opening steps s c h t.0 here k found is
 
+    -- so it may be done
+    pub read_may_be_kept : (found : Shown) → (AreVersionsInOrder (state_of c.table) t.0 t.0 (versions_at c.versions.slots c.versions.lists k) → found ≡ shown_in c t.0 k) → MayBeKept c.works t.0 (Read k) (option_to_list (row_shown c.versions.slots found.version))
+    read_may_be_kept found is = may_be_kept rs opening steps s c h t.0 (Read k) may (option_to_list (row_shown c.versions.slots found.version)) (read_fits found is)
+
     -- it is told what the state answers
-    pub read_answers : (found : Shown) → (AreVersionsInOrder (state_of c.table) t.0 t.0 (versions_at c.versions.slots c.versions.lists k) → found ≡ shown_in c t.0 k) → (n : NextData) → IsPreparedAt c.works t.0 (Read k) (option_to_list (row_shown c.versions.slots found.version)) n
-        → (a : AnswerData) → a ≡ n.answer → a ≡ answer_in s t.0 (Read k)
-    read_answers found is n p a told = told ∙ key_answer rs opening steps s c h t.0 here k found is (Read k) refl may n p
+    pub read_answers : (found : Shown) → (AreVersionsInOrder (state_of c.table) t.0 t.0 (versions_at c.versions.slots c.versions.lists k) → found ≡ shown_in c t.0 k) → (a : AnswerData) → a ≡ answer_of_work (works_in c.works t.0) (Read k) (option_to_list (row_shown c.versions.slots found.version)) → a ≡ answer_in s t.0 (Read k)
+    read_answers found is a told = key_answer_so rs opening steps s c h t.0 here k found is (Read k) refl may a told
 
     -- and that is told it
     module _ (found : Shown) (is : AreVersionsInOrder (state_of c.table) t.0 t.0 (versions_at c.versions.slots c.versions.lists k) → found ≡ shown_in c t.0 k) where
@@ -87,8 +86,8 @@ module _ (rs : Readers) (opening : Map) (steps : List Step) (s : State) (c : Cor
       row_answers = ap Found row_there
 
       pub read_leads : (table : Txns (Node KeptTransaction)) → table ≡ after_register_all c.table t (option_to_list found.depends_on)
-          → (more : WorksData) → IsNextTold c.works t.0 (Read k) (option_to_list (row_shown c.versions.slots found.version)) more → LeadsAmong rs opening steps s (Do t.0 (Read k)) Accepted (record c { table = table; works = more })
-      read_leads table w more next =
+          → (more : WorksData) → HasWorkFor c.works more t.0 (after_op (works_in c.works t.0) (Read k) (option_to_list (row_shown c.versions.slots found.version))) → LeadsAmong rs opening steps s (Do t.0 (Read k)) Accepted (record c { table = table; works = more })
+      read_leads table w more told =
           recorded_leads rs opening steps s c h t here.tx here.found (Read k) (Found (row_shown c.versions.slots found.version)) may row_answers refl (option_to_list found.depends_on)
           (subst (λ (x : Shown). AreDependencies s (Read k) here.tx (option_to_list x.depends_on)) (sym shown) (names_just rs opening steps s c h t.0 here.tx here.found k (Read k) refl)) table w more
-          (key_told rs opening steps s c h t.0 here k found is (Read k) refl may more next)
+          (key_told_so rs opening steps s c h t.0 here k found is (Read k) refl may more told)

@@ -1,7 +1,7 @@
 -- What a core stands for where its works stay, where that of one that is over is forgotten, and where
 -- one is told an operation.
 use Rattle.std.proofs.Common.{◌≡◌, ◌≢◌, ℕ, Bool, true, false, List, Option, None, Some, refl, sym, ap, ◌∙◌, subst}
-use Rattle.std.specs.Prelude.{nat_lt, length}
+use Rattle.std.specs.Prelude.{nat_lt, length, cond, ◌==◌}
 use Rattle.std.specs.Option.{option_to_list}
 use Rattle.std.specs.List.{AllByRecursion}
 use Rattle.std.proofs.lemmas.Bool.{ltb-false}
@@ -16,6 +16,7 @@ use Rattle.mvo_types.specs.declared.refusal.Refusal.TheVariants.{BadTable, DataT
 use Rattle.mvo_types.specs.declared.row.RowKey.{RowKey}
 use Rattle.mvo_types.specs.Entries.{has_entry}
 use Rattle.mvo_types.specs.AnswerData.{AnswerData}
+use Rattle.mvo_types.specs.AnswerData.AnswerData.{Absent}
 use Rattle.mvo_types.specs.RowData.{RowData}
 use Rattle.mvo_types.specs.Keys.{Map, row_at}
 use Rattle.mvo_model.specs.History.{History}
@@ -27,7 +28,8 @@ use Rattle.mvo_theory.specs.State.{State, ActiveTx, active_of, snapshot, seen_by
 use Rattle.mvo_theory.proofs.Cases.{if_stands, not_op}
 use Rattle.mvo_theory.proofs.Who.{active_done}
 use Rattle.mvo_theory.proofs.Each.{each_weaker}
-use Rattle.mvo_shared.specs.Kept.{rows_shown, entries_in, with_looked, answer_kept, after_op}
+use Rattle.mvo_shared.specs.Kept.{WorkContent, rows_shown, entries_in, with_looked, answer_kept, after_op}
+use Rattle.mvo_shared.specs.Shared.{with_work}
 use Rattle.mvo_shared.specs.Held.{empty_work}
 use Rattle.mvo_shadow.specs.Shadowed.{IsWorkOf}
 use Rattle.mvo_txn.specs.declared.state.TxState.TheVariants.{Preparing}
@@ -43,7 +45,7 @@ use Rattle.mvo_representation.proofs.Facts.{found_holds}
 use Rattle.mvo_content.specs.Shown.{AreRowsOf}
 use Rattle.mvo_content.specs.Done.{DoneData}
 use Rattle.mvo_content.specs.Next.{NextData}
-use Rattle.mvo_content.specs.Works.{WorksData, work_if_there, works_in, HaveSameWorks, HasWorkFor, IsPreparedAt, MayBeTold}
+use Rattle.mvo_content.specs.Works.{WorksData, work_if_there, works_in, HaveSameWorks, HasWorkFor, IsPreparedAt, MayBeTold, MayBeKept, answer_of_work}
 use Rattle.mvo_content.proofs.Fitting.{shown_fits}
 use Rattle.mvo_standing.specs.Telling.{MayComeWith, AreWorksWith}
 use Rattle.mvo_standing.specs.Beside.{WorksGoBeside, WasTold}
@@ -95,6 +97,42 @@ op_is_fit s (Delete k) r a e =
     let few = stands_none (is_entry_too_many r.history (Key k)) TooManyReads _ on.1 in
     let keys = stands_none (is_write_too_many r.history k) TooManyWrites _ few.1 in
     record { limits = follows_delete r.history k a (ltb-false MAX_TABLE k.table on.0) keys.0; few = few.0 }
+
+-- ---- an operation that may be done at once, where it is prepared first
+among_same : (works mid : ℕ → WorkContent) (t u : ℕ) (v w : WorkContent) → mid u ≡ works u → v ≡ w → with_work mid t v u ≡ with_work works t w u
+among_same works mid t u v w e f = go (u == t)
+  where
+    go : (b : Bool) → cond b v (mid u) ≡ cond b w (works u)
+    go true = f
+    go false = e
+
+module _ (works mid : WorksData) (t : ℕ) (op : Op) (rows : List RowData) (may : MayBeKept works t op rows) (same : HaveSameWorks works mid) (n : NextData) (p : IsPreparedAt mid t op rows n) where
+  done_there : work_if_there (Some p.done) ≡ works_in works t
+  done_there = ap work_if_there (sym p.at) ∙ same t
+
+  pub kept_may_be_told : MayBeTold mid t n
+  kept_may_be_told = record {
+    done = p.done;
+    at = p.at;
+    room = p.room;
+    limits = subst (λ (x : Op). MayFollow p.done.history x n.answer) (sym p.next.asked) (subst (λ (w : WorkContent). MayFollow w.history op n.answer) (sym done_there) (may.limits n.answer));
+    few = subst (λ (x : Op). is_entry_too_many p.done.history (entry_of x) ≡ false) (sym p.next.asked) (subst (λ (w : WorkContent). is_entry_too_many w.history (entry_of op) ≡ false) (sym done_there) may.few);
+    answer =
+        p.next.answer
+        ∙ ap (λ (x : Op). answer_kept (with_looked p.done.looked (entry_of x) rows) p.done.history x) (sym p.next.asked)
+        ∙ ap (λ (ys : List RowData). answer_kept (with_looked p.done.looked (entry_of n.op) ys) p.done.history n.op) (sym p.next.shown);
+  }
+
+  pub kept_answer : n.answer ≡ answer_of_work (works_in works t) op rows
+  kept_answer = p.next.answer ∙ ap (λ (w : WorkContent). answer_of_work w op rows) done_there
+
+  pub kept_told : (new : WorksData) → HasWorkFor mid new t (after_op (works_in mid t) n.op n.rows) → HasWorkFor works new t (after_op (works_in works t) op rows)
+  kept_told new told = λ u.
+      told u
+      ∙ among_same (works_in works) (works_in mid) t u (after_op (works_in mid t) n.op n.rows) (after_op (works_in works t) op rows) (same u)
+      (ap (λ (w : WorkContent). after_op w n.op n.rows) (same t)
+      ∙ ap (λ (x : Op). after_op (works_in works t) x n.rows) p.next.asked
+      ∙ ap (λ (ys : List RowData). after_op (works_in works t) op ys) p.next.shown)
 
 -- the operation was prepared with these rows among the works, and its work has come to be told it
 pub record IsNextTold (works : WorksData) (t : ℕ) (op : Op) (rows : List RowData) (more : WorksData) : Type 0 where
@@ -174,6 +212,23 @@ module _ (rs : Readers) (opening : Map) (steps : List Step) (s : State) (c : Cor
         ∙ ap (λ (o : Option DoneData). answer_kept (with_looked (work_if_there o).looked (entry_of op) rows) (work_if_there o).history op) (sym p.at)
         ∙ tells_answer opening steps s h.beside.given (works_in c.works) h.beside.together t op rows may come
 
+    -- it may be done at once, where others can show these rows
+    pub may_be_kept : AreRowsOf (entry_of op) rows → MayBeKept c.works t op rows
+    may_be_kept shown =
+        let found = active_done s t op may in
+        let same : (works_in c.works t).history ≡ found.0.history = (work_held t found.0 found.1).history in
+        record {
+          shown = shown;
+          limits = λ a. subst (λ (ts : History). MayFollow ts op a) (sym same) (op_is_fit s op found.0 a found.3).limits;
+          few = subst (λ (ts : History). is_entry_too_many ts (entry_of op) ≡ false) (sym same) (op_is_fit s op found.0 Absent found.3).few;
+        }
+
+    pub answer_so : MayComeWith s t (works_in c.works t) op rows → (a : AnswerData) → a ≡ answer_of_work (works_in c.works t) op rows → a ≡ answer_in s t op
+    answer_so come a e = e ∙ tells_answer opening steps s h.beside.given (works_in c.works) h.beside.together t op rows may come
+
+    pub told_so : MayComeWith s t (works_in c.works t) op rows → (more : WorksData) → HasWorkFor c.works more t (after_op (works_in c.works t) op rows) → WasTold s (works_in c.works) t op (works_in more)
+    told_so come more told = record { rows = rows; come = come; told = told }
+
     -- and then it was, so
     pub was_told : MayComeWith s t (works_in c.works t) op rows → (more : WorksData) → IsNextTold c.works t op rows more → WasTold s (works_in c.works) t op (works_in more)
     was_told come more w = record {
@@ -200,6 +255,12 @@ module _ (rs : Readers) (opening : Map) (steps : List Step) (s : State) (c : Cor
         ap option_to_list
         (row_there ∙ shows_others_row opening steps s h.beside.given (works_in c.works) h.beside.together t here.tx k here.found (subst (λ (e : Entry). has_entry (entries_in (works_in c.works t).looked) e ≡ false) at new))
         ∙ ap (λ (e : Entry). rows_shown e (seen_by s.base s.stamped t)) (sym at)
+
+    pub key_answer_so : (op : Op) → entry_of op ≡ Key k → why_not_do s t op ≡ None → (a : AnswerData) → a ≡ answer_of_work (works_in c.works t) op (option_to_list (row_shown c.versions.slots found.version)) → a ≡ answer_in s t op
+    key_answer_so op at may a e = answer_so t op may (option_to_list (row_shown c.versions.slots found.version)) (key_comes op at) a e
+
+    pub key_told_so : (op : Op) → entry_of op ≡ Key k → why_not_do s t op ≡ None → (more : WorksData) → HasWorkFor c.works more t (after_op (works_in c.works t) op (option_to_list (row_shown c.versions.slots found.version))) → WasTold s (works_in c.works) t op (works_in more)
+    key_told_so op at may more told = told_so t op may (option_to_list (row_shown c.versions.slots found.version)) (key_comes op at) more told
 
     pub key_answer : (op : Op) → entry_of op ≡ Key k → why_not_do s t op ≡ None → (n : NextData) → IsPreparedAt c.works t op (option_to_list (row_shown c.versions.slots found.version)) n → n.answer ≡ answer_in s t op
     key_answer op at may n p = told_answer t op may (option_to_list (row_shown c.versions.slots found.version)) (key_comes op at) n p

@@ -17,7 +17,7 @@ use crate::collecting::{has_open_end, owe_end};
 use crate::depending::{depend, make_room, write};
 use crate::event_core::Core;
 use crate::kept_transaction::Table;
-use crate::preparing::{prepare, prepare_insert, prepare_update};
+use crate::preparing::{do_at_key, prepare, prepare_insert, prepare_update};
 use crate::refusing::{not_looked, not_put, not_removed};
 use mvo_chain::VersionNo;
 use mvo_txn::Located;
@@ -56,16 +56,16 @@ impl Core {
             return Err(self.give_up(tx, refusal));
         }
         let seen = self.versions.shown(&self.table, tx.id, key);
-        let versions = &self.versions;
-        let next = prepare(
+        let answer = do_at_key(
             &mut self.works,
-            versions,
-            tx.id,
+            &mut self.table,
+            &self.versions,
+            tx,
             Op::Read(key),
             seen.version,
+            seen.depends_on,
         )?;
-        depend(&mut self.table, tx, seen.depends_on)?;
-        Ok(self.works.tell(tx.id, next))
+        Ok(answer)
     }
 
     /// Inserts a row, unless one is shown at its key. Refused: NoSuchTransaction, Ended, NotActive,

@@ -1,15 +1,23 @@
 //! An operation on a key, prepared for the work of its transaction.
-ghost use Rattle.std.specs.Prelude.{◌≡◌, IfOk};
+ghost use Rattle.std.specs.Prelude.{◌≡◌, IfOk, OnOk, OnErr};
 ghost use Rattle.std.specs.Option.{option_to_list};
 ghost use Rattle.mvo_types.specs.declared.entry.Entry.TheVariants.{Key};
 ghost use Rattle.mvo_theory.specs.Entries.{entry_of};
 ghost use Rattle.mvo_content.specs.Shown.{rows_in, AreRowsOf};
+ghost use Rattle.mvo_types.specs.AnswerData.{answer_data};
+ghost use Rattle.mvo_shared.specs.Kept.{after_op};
+ghost use Rattle.mvo_deps.specs.Nodes.{after_register_all};
+ghost use Rattle.mvo_deps.specs.Graph.{IsUnfinished};
 ghost use Rattle.mvo_content.specs.Works.{HaveSameWorks, IsPreparedAt};
+ghost use Rattle.mvo_content.specs.Works.{MayBeKept, HasWorkFor, works_in, answer_of_work};
 ghost use Rattle.mvo_core.specs.Looking.{row_shown};
 
+use crate::kept_transaction::Table;
 use mvo_chain::VersionNo;
 use mvo_content::{NextOperation, RowsShown, Works};
-use mvo_types::{Op, Row, TxId};
+use mvo_deps::register;
+use mvo_txn::Located;
+use mvo_types::{Answer, Op, Row, TxId};
 use mvo_versions::Versions;
 use std::alloc::AllocError;
 
@@ -30,6 +38,40 @@ pub fn prepare(
 {
     let others = rows_of(row_at(versions, number)?);
     works.prepare(id, op, others)
+}
+
+/// Does an operation on a key where others show the row of this version there, and lets the
+/// transaction depend on the other, if there is one; or does neither.
+#[inline(always)]
+pub fn do_at_key(
+    works: &mut Works,
+    table: &mut Table,
+    versions: &Versions,
+    tx: Located,
+    op: Op,
+    number: Option<VersionNo>,
+    on: Option<TxId>,
+) -> Result<Answer, AllocError>
+    requires unfinished { IsUnfinished table.old tx.id }
+    requires work { MayBeKept works.old tx.id.0 op
+        (option_to_list (row_shown versions.now.slots number)) }
+    ensures told { OnOk result (HasWorkFor works.old works.new tx.id.0
+        (after_op (works_in works.old tx.id.0) op
+        (option_to_list (row_shown versions.now.slots number)))) }
+    ensures answer { IfOk result (λ a. answer_data a ≡ answer_of_work (works_in works.old tx.id.0)
+        op (option_to_list (row_shown versions.now.slots number))) }
+    ensures depends { OnOk result
+        (table.new ≡ after_register_all table.old tx.id (option_to_list on)) }
+    ensures same { OnErr result (HaveSameWorks works.old works.new) }
+    ensures alone { OnErr result (table.new ≡ table.old) }
+{
+    let others = rows_of(row_at(versions, number)?);
+    let Some(on) = on else {
+        return Ok(works.do_operation(tx.id, op, others)?);
+    };
+    let next = works.prepare(tx.id, op, others)?;
+    register(table, tx, on)?;
+    Ok(works.tell(tx.id, next))
 }
 
 /// The same of an insert of the row.

@@ -94,7 +94,7 @@ fn some_row(numbers: &mut Numbers) -> Plain {
     (key, sort, (numbers.draw() % 200) as u8)
 }
 
-fn key_of(key: u64) -> RowKey {
+pub fn key_of(key: u64) -> RowKey {
     RowKey { table: 3, key }
 }
 
@@ -111,6 +111,33 @@ fn some_op(alloc: Global, numbers: &mut Numbers) -> Result<Op, AllocError> {
         2 => Ok(Op::Insert(row(alloc, plain)?)),
         3 => Ok(Op::Update(row(alloc, plain)?)),
         _ => Ok(Op::Delete(key_of(plain.0))),
+    }
+}
+
+/// Others that show no row.
+pub fn nothing_shown(alloc: Global) -> Serial {
+    Serial::new(alloc, Rows::new(alloc))
+}
+
+/// Whether the key may be read.
+pub fn read_key(content: &mut WorkContent, others: &Serial, key: u64) -> Result<bool, AllocError> {
+    match told(content, others, Op::Read(key_of(key))) {
+        Ok(answer) => Ok(answer.is_some()),
+        Err(e) => Err(e),
+    }
+}
+
+/// Whether a row may be put at the key.
+pub fn insert_key(
+    alloc: Global,
+    content: &mut WorkContent,
+    others: &Serial,
+    key: u64,
+) -> Result<bool, AllocError> {
+    let row = row(alloc, (key, 0, 7))?;
+    match told(content, others, Op::Insert(row)) {
+        Ok(answer) => Ok(answer.is_some()),
+        Err(e) => Err(e),
     }
 }
 

@@ -1,6 +1,5 @@
-//! What a transaction has done.
+//! What a transaction has done, and what the core keeps of what it wrote.
 
 mod given;
-mod plain;
-mod telling;
-mod work;
+mod limits;
+mod words;

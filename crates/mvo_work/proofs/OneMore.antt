@@ -2,7 +2,7 @@
 use Rattle.std.proofs.Common.{◌≡◌, ◌≤◌, Bool, true, false, cond, not, List, [], ◌∷◌, ◌++◌, Option, None, Some, length, refl, sym, ap, ◌∙◌, subst, arith}
 use Rattle.std.specs.Prelude.{◌&&◌, nat_le}
 use Rattle.std.specs.Option.{option_map}
-use Rattle.std.proofs.lemmas.Bool.{not-true, le-leb, leb-false}
+use Rattle.std.proofs.lemmas.Bool.{le-leb, leb-false}
 use Rattle.std.proofs.lemmas.List.{map-append, length-append}
 use Rattle.mvo_types.specs.declared.limits.TheConstants.{MAX_WRITES, MAX_ENTRIES}
 use Rattle.mvo_types.specs.declared.row.RowKey.{RowKey}
@@ -23,7 +23,6 @@ use Rattle.mvo_work.specs.History.{key_written}
 use Rattle.mvo_theory.specs.Limits.{IsInLimits, AreLimited}
 use Rattle.mvo_work.specs.Limits.{MayFollow}
 use Rattle.mvo_work.specs.Work.{IsWorkSound}
-use Rattle.mvo_work.proofs.Written.{unwritten}
 
 history_more : (told : List (Op × Answer)) (op : Op) (a : Answer) → history_told (told ++ (op, a) ∷ []) ≡ history_told told ++ (op, answer_data a) ∷ []
 history_more told op a = map-append (λ t. (t.0, answer_data t.1)) told ((op, a) ∷ [])
@@ -55,15 +54,6 @@ limited_more ts op a h m = record {
 pub key_looked : (op : Op) (a : AnswerData) (w : Option Write) (k : RowKey) → write_of op a ≡ w → option_map (λ v. v.0) w ≡ Some k → entry_of op ≡ Key k
 key_looked op a None k e f = cc
 key_looked op a (Some v) k e f = write_entry op a v e ∙ ap Key (cc f)
-
-pub unwritten_yet : (told : List (Op × Answer)) (es : List Entry) (ks : List RowKey) (e : Entry) (op : Op) (a : AnswerData) (k : RowKey) → IsWorkSound told es ks → e ≡ entry_of op → not (has_entry es e) ≡ true → key_written op a ≡ Some k → is_noted ks k ≡ false
-unwritten_yet told es ks e op a k h is fresh w =
-    let is_key : e ≡ Key k = is ∙ key_looked op a (write_of op a) k refl w in
-    let none : has_entry (entries (history_told told)) (Key k) ≡ false =
-    ap (λ d. has_entry (entries (history_told told)) d) (sym is_key)
-    ∙ ap (λ ds. has_entry ds e) (sym h.entries)
-    ∙ not-true (has_entry es e) fresh in
-    ap (λ js. is_noted js k) h.written ∙ unwritten (history_told told) k none
 
 -- ---- entries, keys and limits with one operation more
 pub sound_more : (told : List (Op × Answer)) (es : List Entry) (ks : List RowKey) (e : Entry) (op : Op) (a : Answer) → IsWorkSound told es ks → e ≡ entry_of op → MayFollow (history_told told) op (answer_data a) → IsWorkSound (told ++ (op, a) ∷ []) (with_entry es e) (noted_key ks (key_written op (answer_data a)))

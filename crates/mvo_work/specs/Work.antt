@@ -3,16 +3,10 @@ use Rattle.std.specs.Prelude.{◌≡◌, ℕ, List, min}
 use Rattle.mvo_types.specs.declared.row.RowKey.{RowKey}
 use Rattle.mvo_types.specs.declared.op.Op.{Op}
 use Rattle.mvo_types.specs.declared.answer.Answer.{Answer}
-use Rattle.mvo_model.specs.History.{History}
 use Rattle.mvo_theory.specs.Entries.{entries, written_keys}
 use Rattle.mvo_types.specs.declared.entry.Entry.{Entry}
 use Rattle.mvo_theory.specs.Told.{history_told}
 use Rattle.mvo_theory.specs.Limits.{AreLimited}
-
--- the operations with their answers, and for how many more there is room
-pub record WorkData : Type 0 where
-  pub history : History
-  pub room : ℕ
 
 -- an operation takes a place on each of three lists
 abbrev pub room_of : ℕ → ℕ → ℕ → ℕ

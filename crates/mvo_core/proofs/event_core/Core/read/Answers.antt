@@ -18,7 +18,7 @@ use Rattle.mvo_core.proofs.WholeStands.{whole_stands_on}
 use Rattle.mvo_core.proofs.Asked.{own_if_active, unfinished_if_own, active_if_looked, may_look_failing}
 use Rattle.mvo_core.proofs.Refused.{came_spent}
 use Rattle.mvo_core.proofs.WorksHeld.{stands_same_works, whole_same_works}
-use Rattle.mvo_core.proofs.Reading.{read_refused, read_spent, read_spent_roomy, read_answers, read_leads, read_may_be_told, read_fits}
+use Rattle.mvo_core.proofs.Reading.{read_refused, read_spent_roomy, read_answers, read_leads, read_may_be_kept}
 use Rattle.mvo_core.proofs.Waits.{waits_alike, alike_depending, alike_same}
 use Rattle.mvo_core.specs.WholeStanding.{readers_of, StandsWhole, LeadsWhole}
 use Rattle.mvo_readonly.specs.WholeCauses.WholeCall.{CoreCall}
@@ -31,8 +31,16 @@ give_up-requires c =
     may_look_failing c.args.self.now.table (done_in c.args.self.now.works c.args.tx.0) c.args.tx.0 c.args.key.table (Key c.args.key) c.in-Some.refusal
     (ap (λ (x : CoreData). why_not_look x.table (done_in x.works c.args.tx.0) c.args.tx.0 c.args.key.table (Key c.args.key)) (sym c.self.view_is) ∙ sym c.not_looked.ensures ∙ c.in-Some.is)
 
-pub depend-requires : goal.depend-requires
-depend-requires c = unfinished_if_own c.self.inside.table c.args.tx.0 (own_if_active c.self.inside.table c.args.tx.0 (active_if_looked c.self.inside.table (done_in c.self.inside.works c.args.tx.0) c.args.tx.0 c.args.key.table (Key c.args.key) (sym c.not_looked.ensures ∙ c.in_default.is)))
+pub do_at_key-requires-clause-unfinished : goal.do_at_key-requires-clause-unfinished
+do_at_key-requires-clause-unfinished c = unfinished_if_own c.self.inside.table c.args.tx.0 (own_if_active c.self.inside.table c.args.tx.0 (active_if_looked c.self.inside.table (done_in c.self.inside.works c.args.tx.0) c.args.tx.0 c.args.key.table (Key c.args.key) (sym c.not_looked.ensures ∙ c.in_default.is)))
+
+pub do_at_key-requires-clause-work : goal.do_at_key-requires-clause-work
+do_at_key-requires-clause-work c =
+    let f = c.self.inside in
+    let i = c.self.invariant.stands in
+    let old : CoreData = core_data f in
+    let looks = may_look_whole i.opening i.steps i.own i.whole old i.stands c.args.tx.0 (Read c.args.key) c.args.key.table (Key c.args.key) refl (sym c.not_looked.ensures ∙ c.in_default.is) in
+    read_may_be_kept (readers_of i.whole) i.opening i.own i.whole.core old i.stands.core c.args.tx c.args.key looks (sym c.not_looked.ensures ∙ c.in_default.is) c.shown-seen.result c.shown-seen.ensures
 
 pub returns-in-Some-clause-step : goal.returns-in-Some-clause-step
 returns-in-Some-clause-step c = λ opening steps s h.
@@ -41,116 +49,68 @@ returns-in-Some-clause-step c = λ opening steps s h.
     (ap (λ (x : CoreData). why_not_look x.table (done_in x.works c.args.tx.0) c.args.tx.0 c.args.key.table (Key c.args.key)) (sym c.self.view_is) ∙ sym c.not_looked.ensures ∙ c.in-Some.is) c.give_up.new.self
     (c.give_up.ensures.left no_readers opening steps s refl h))
 
-pub prepare-requires : goal.prepare-requires
-prepare-requires c =
-    let f = c.self.inside in
-    let i = c.self.invariant.stands in
-    let old : CoreData = core_data f in
-    let looks = may_look_whole i.opening i.steps i.own i.whole old i.stands c.args.tx.0 (Read c.args.key) c.args.key.table (Key c.args.key) refl (sym c.not_looked.ensures ∙ c.in_default.is) in
-    read_fits (readers_of i.whole) i.opening i.own i.whole.core old i.stands.core c.args.tx c.args.key looks (sym c.not_looked.ensures ∙ c.in_default.is) c.shown-seen.result c.shown-seen.ensures
-
+-- ---- nothing is done
 pub invariant_of-self : goal.invariant_of-self
 invariant_of-self c =
     let f = c.self.inside in
     let i = c.self.invariant.stands in
     let old : CoreData = core_data f in
-    let now : CoreData = record old { works = c.prepare.new.works } in
-    let g : StandsWhole i.opening i.steps i.own i.whole now = whole_same_works i.opening i.steps i.own i.whole old i.stands c.prepare.new.works c.prepare.ensures.same in
+    let now : CoreData = record old { works = c.do_at_key.new.works } in
+    let g : StandsWhole i.opening i.steps i.own i.whole now = whole_same_works i.opening i.steps i.own i.whole old i.stands c.do_at_key.new.works c.in_err-answer.ensures.same in
     record {
       stands =
-          whole_stands_on i (CoreCall (Do c.args.tx.0 (Read c.args.key))) (Refused OutOfMemory) now
-          (let looks = may_look_whole i.opening i.steps i.own i.whole now g c.args.tx.0 (Read c.args.key) c.args.key.table (Key c.args.key) refl (ap (λ (z : WorkContent). why_not_look c.self.inside.table z.history c.args.tx.0 c.args.key.table (Key c.args.key)) (c.prepare.ensures.same c.args.tx.0) ∙ sym c.not_looked.ensures ∙ c.in_default.is) in
-          (look_spent i.opening i.steps i.own i.whole now g c.args.tx.0 (Read c.args.key) c.args.key.table (Key c.args.key) refl (ap (λ (z : WorkContent). why_not_look c.self.inside.table z.history c.args.tx.0 c.args.key.table (Key c.args.key)) (c.prepare.ensures.same c.args.tx.0) ∙ sym c.not_looked.ensures ∙ c.in_default.is) _
-          (read_spent (readers_of i.whole) i.opening i.own i.whole.core now g.core c.args.tx c.args.key looks (ap (λ (z : WorkContent). why_not_look c.self.inside.table z.history c.args.tx.0 c.args.key.table (Key c.args.key)) (c.prepare.ensures.same c.args.tx.0) ∙ sym c.not_looked.ensures ∙ c.in_default.is))));
-      waiting = c.self.invariant.waiting;
+          whole_stands_on i (CoreCall (Do c.args.tx.0 (Read c.args.key))) (Refused OutOfMemory) (record now { table = c.do_at_key.new.table })
+          (let looks = may_look_whole i.opening i.steps i.own i.whole now g c.args.tx.0 (Read c.args.key) c.args.key.table (Key c.args.key) refl (ap (λ (z : WorkContent). why_not_look c.self.inside.table z.history c.args.tx.0 c.args.key.table (Key c.args.key)) (c.in_err-answer.ensures.same c.args.tx.0) ∙ sym c.not_looked.ensures ∙ c.in_default.is) in
+          (look_spent i.opening i.steps i.own i.whole now g c.args.tx.0 (Read c.args.key) c.args.key.table (Key c.args.key) refl (ap (λ (z : WorkContent). why_not_look c.self.inside.table z.history c.args.tx.0 c.args.key.table (Key c.args.key)) (c.in_err-answer.ensures.same c.args.tx.0) ∙ sym c.not_looked.ensures ∙ c.in_default.is) _
+          (read_spent_roomy (readers_of i.whole) i.opening i.own i.whole.core now g.core c.args.tx c.args.key looks (ap (λ (z : WorkContent). why_not_look c.self.inside.table z.history c.args.tx.0 c.args.key.table (Key c.args.key)) (c.in_err-answer.ensures.same c.args.tx.0) ∙ sym c.not_looked.ensures ∙ c.in_default.is) c.do_at_key.new.table c.in_err-answer.ensures.alone)));
+      waiting = waits_alike f.table c.do_at_key.new.table f.versions.slots f.waiting (alike_same f.table c.do_at_key.new.table c.in_err-answer.ensures.alone) c.self.invariant.waiting;
     }
 
-pub returns-in_err-next-clause-step : goal.returns-in_err-next-clause-step
-returns-in_err-next-clause-step c = λ opening steps s h.
+pub returns-in_err-answer-clause-step : goal.returns-in_err-answer-clause-step
+returns-in_err-answer-clause-step c = λ opening steps s h.
     let f = c.self.inside in
     let old : CoreData = core_data f in
-    let now : CoreData = record old { works = c.prepare.new.works } in
-    subst (λ r. LeadsOn opening steps s (Do c.args.tx.0 (Read c.args.key)) r now) (came_spent c.from_residual.result c.from_residual.ensures.1)
-    (read_spent no_readers opening steps s now (stands_same_works no_readers opening steps s old (subst (StandsFor opening steps s) (sym c.self.view_is) h) c.prepare.new.works c.prepare.ensures.same) c.args.tx c.args.key tt (ap (λ (z : WorkContent). why_not_look c.self.inside.table z.history c.args.tx.0 c.args.key.table (Key c.args.key)) (c.prepare.ensures.same c.args.tx.0) ∙ sym c.not_looked.ensures ∙ c.in_default.is))
+    let now : CoreData = record old { works = c.do_at_key.new.works } in
+    subst (λ r. LeadsOn opening steps s (Do c.args.tx.0 (Read c.args.key)) r (record now { table = c.do_at_key.new.table })) (came_spent c.from_residual.result c.from_residual.ensures.1)
+    (read_spent_roomy no_readers opening steps s now (stands_same_works no_readers opening steps s old (subst (StandsFor opening steps s) (sym c.self.view_is) h) c.do_at_key.new.works c.in_err-answer.ensures.same) c.args.tx c.args.key tt (ap (λ (z : WorkContent). why_not_look c.self.inside.table z.history c.args.tx.0 c.args.key.table (Key c.args.key)) (c.in_err-answer.ensures.same c.args.tx.0) ∙ sym c.not_looked.ensures ∙ c.in_default.is) c.do_at_key.new.table c.in_err-answer.ensures.alone)
 
-pub returns-in_err-next-clause-whole : goal.returns-in_err-next-clause-whole
-returns-in_err-next-clause-whole c = λ opening steps own w h.
+pub returns-in_err-answer-clause-whole : goal.returns-in_err-answer-clause-whole
+returns-in_err-answer-clause-whole c = λ opening steps own w h.
     let f = c.self.inside in
     let old : CoreData = core_data f in
-    let now : CoreData = record old { works = c.prepare.new.works } in
-    let g : StandsWhole opening steps own w now = whole_same_works opening steps own w old (subst (StandsWhole opening steps own w) (sym c.self.view_is) h) c.prepare.new.works c.prepare.ensures.same in
-    let looks = may_look_whole opening steps own w now g c.args.tx.0 (Read c.args.key) c.args.key.table (Key c.args.key) refl (ap (λ (z : WorkContent). why_not_look c.self.inside.table z.history c.args.tx.0 c.args.key.table (Key c.args.key)) (c.prepare.ensures.same c.args.tx.0) ∙ sym c.not_looked.ensures ∙ c.in_default.is) in
-    subst (λ r. LeadsWhole opening steps own w (CoreCall (Do c.args.tx.0 (Read c.args.key))) r now) (came_spent c.from_residual.result c.from_residual.ensures.1)
-    (look_spent opening steps own w now g c.args.tx.0 (Read c.args.key) c.args.key.table (Key c.args.key) refl (ap (λ (z : WorkContent). why_not_look c.self.inside.table z.history c.args.tx.0 c.args.key.table (Key c.args.key)) (c.prepare.ensures.same c.args.tx.0) ∙ sym c.not_looked.ensures ∙ c.in_default.is) _
-    (read_spent (readers_of w) opening own w.core now g.core c.args.tx c.args.key looks (ap (λ (z : WorkContent). why_not_look c.self.inside.table z.history c.args.tx.0 c.args.key.table (Key c.args.key)) (c.prepare.ensures.same c.args.tx.0) ∙ sym c.not_looked.ensures ∙ c.in_default.is)))
+    let now : CoreData = record old { works = c.do_at_key.new.works } in
+    let g : StandsWhole opening steps own w now = whole_same_works opening steps own w old (subst (StandsWhole opening steps own w) (sym c.self.view_is) h) c.do_at_key.new.works c.in_err-answer.ensures.same in
+    let looks = may_look_whole opening steps own w now g c.args.tx.0 (Read c.args.key) c.args.key.table (Key c.args.key) refl (ap (λ (z : WorkContent). why_not_look c.self.inside.table z.history c.args.tx.0 c.args.key.table (Key c.args.key)) (c.in_err-answer.ensures.same c.args.tx.0) ∙ sym c.not_looked.ensures ∙ c.in_default.is) in
+    subst (λ r. LeadsWhole opening steps own w (CoreCall (Do c.args.tx.0 (Read c.args.key))) r (record now { table = c.do_at_key.new.table })) (came_spent c.from_residual.result c.from_residual.ensures.1)
+    (look_spent opening steps own w now g c.args.tx.0 (Read c.args.key) c.args.key.table (Key c.args.key) refl (ap (λ (z : WorkContent). why_not_look c.self.inside.table z.history c.args.tx.0 c.args.key.table (Key c.args.key)) (c.in_err-answer.ensures.same c.args.tx.0) ∙ sym c.not_looked.ensures ∙ c.in_default.is) _
+    (read_spent_roomy (readers_of w) opening own w.core now g.core c.args.tx c.args.key looks (ap (λ (z : WorkContent). why_not_look c.self.inside.table z.history c.args.tx.0 c.args.key.table (Key c.args.key)) (c.in_err-answer.ensures.same c.args.tx.0) ∙ sym c.not_looked.ensures ∙ c.in_default.is) c.do_at_key.new.table c.in_err-answer.ensures.alone))
 
-pub tell-requires : goal.tell-requires
-tell-requires c =
-    let f = c.self.inside in
-    let i = c.self.invariant.stands in
-    let old : CoreData = core_data f in
-    let now : CoreData = record old { works = c.prepare.new.works } in
-    let g : StandsWhole i.opening i.steps i.own i.whole now = whole_same_works i.opening i.steps i.own i.whole old i.stands c.prepare.new.works c.prepare.ensures.same in
-    let looks = may_look_whole i.opening i.steps i.own i.whole now g c.args.tx.0 (Read c.args.key) c.args.key.table (Key c.args.key) refl (ap (λ (z : WorkContent). why_not_look c.self.inside.table z.history c.args.tx.0 c.args.key.table (Key c.args.key)) (c.prepare.ensures.same c.args.tx.0) ∙ sym c.not_looked.ensures ∙ c.in_default.is) in
-    read_may_be_told (readers_of i.whole) i.opening i.own i.whole.core now g.core c.args.tx c.args.key looks (ap (λ (z : WorkContent). why_not_look c.self.inside.table z.history c.args.tx.0 c.args.key.table (Key c.args.key)) (c.prepare.ensures.same c.args.tx.0) ∙ sym c.not_looked.ensures ∙ c.in_default.is) _ c.in_ok-next.next c.in_ok-next.ensures.next
-
-pub invariant_of-self-in_err-depend : goal.invariant_of-self-in_err-depend
-invariant_of-self-in_err-depend c =
-    let f = c.self.inside in
-    let i = c.self.invariant.stands in
-    let old : CoreData = core_data f in
-    let now : CoreData = record old { works = c.prepare.new.works } in
-    let g : StandsWhole i.opening i.steps i.own i.whole now = whole_same_works i.opening i.steps i.own i.whole old i.stands c.prepare.new.works c.prepare.ensures.same in
-    record {
-      stands =
-          whole_stands_on i (CoreCall (Do c.args.tx.0 (Read c.args.key))) (Refused OutOfMemory) (record now { table = c.depend.new.table })
-          (let looks = may_look_whole i.opening i.steps i.own i.whole now g c.args.tx.0 (Read c.args.key) c.args.key.table (Key c.args.key) refl (ap (λ (z : WorkContent). why_not_look c.self.inside.table z.history c.args.tx.0 c.args.key.table (Key c.args.key)) (c.prepare.ensures.same c.args.tx.0) ∙ sym c.not_looked.ensures ∙ c.in_default.is) in
-          (look_spent i.opening i.steps i.own i.whole now g c.args.tx.0 (Read c.args.key) c.args.key.table (Key c.args.key) refl (ap (λ (z : WorkContent). why_not_look c.self.inside.table z.history c.args.tx.0 c.args.key.table (Key c.args.key)) (c.prepare.ensures.same c.args.tx.0) ∙ sym c.not_looked.ensures ∙ c.in_default.is) _
-          (read_spent_roomy (readers_of i.whole) i.opening i.own i.whole.core now g.core c.args.tx c.args.key looks (ap (λ (z : WorkContent). why_not_look c.self.inside.table z.history c.args.tx.0 c.args.key.table (Key c.args.key)) (c.prepare.ensures.same c.args.tx.0) ∙ sym c.not_looked.ensures ∙ c.in_default.is) c.depend.new.table c.in_err-depend.ensures.err)));
-      waiting = waits_alike f.table c.depend.new.table f.versions.slots f.waiting (alike_same f.table c.depend.new.table c.in_err-depend.ensures.err) c.self.invariant.waiting;
-    }
-
-pub returns-in_err-depend-clause-step : goal.returns-in_err-depend-clause-step
-returns-in_err-depend-clause-step c = λ opening steps s h.
-    let f = c.self.inside in
-    let old : CoreData = core_data f in
-    let now : CoreData = record old { works = c.prepare.new.works } in
-    subst (λ r. LeadsOn opening steps s (Do c.args.tx.0 (Read c.args.key)) r (record now { table = c.depend.new.table })) (came_spent c.from_residual-in_err-depend.result c.from_residual-in_err-depend.ensures.1)
-    (read_spent_roomy no_readers opening steps s now (stands_same_works no_readers opening steps s old (subst (StandsFor opening steps s) (sym c.self.view_is) h) c.prepare.new.works c.prepare.ensures.same) c.args.tx c.args.key tt (ap (λ (z : WorkContent). why_not_look c.self.inside.table z.history c.args.tx.0 c.args.key.table (Key c.args.key)) (c.prepare.ensures.same c.args.tx.0) ∙ sym c.not_looked.ensures ∙ c.in_default.is) c.depend.new.table c.in_err-depend.ensures.err)
-
+-- ---- it is done
 pub invariant_of-self-2 : goal.invariant_of-self-2
 invariant_of-self-2 c =
     let f = c.self.inside in
     let i = c.self.invariant.stands in
     let old : CoreData = core_data f in
-    let now : CoreData = record old { works = c.prepare.new.works } in
-    let g : StandsWhole i.opening i.steps i.own i.whole now = whole_same_works i.opening i.steps i.own i.whole old i.stands c.prepare.new.works c.prepare.ensures.same in
     record {
       stands =
-          whole_stands_on i (CoreCall (Do c.args.tx.0 (Read c.args.key))) Accepted (record now { table = c.depend.new.table; works = c.tell.new.self })
-          (let looks = may_look_whole i.opening i.steps i.own i.whole now g c.args.tx.0 (Read c.args.key) c.args.key.table (Key c.args.key) refl (ap (λ (z : WorkContent). why_not_look c.self.inside.table z.history c.args.tx.0 c.args.key.table (Key c.args.key)) (c.prepare.ensures.same c.args.tx.0) ∙ sym c.not_looked.ensures ∙ c.in_default.is) in
-          look_leads i.opening i.steps i.own i.whole now g c.args.tx.0 (Read c.args.key) c.args.key.table (Key c.args.key) refl (ap (λ (z : WorkContent). why_not_look c.self.inside.table z.history c.args.tx.0 c.args.key.table (Key c.args.key)) (c.prepare.ensures.same c.args.tx.0) ∙ sym c.not_looked.ensures ∙ c.in_default.is) _
-          (read_leads (readers_of i.whole) i.opening i.own i.whole.core now g.core c.args.tx c.args.key looks (ap (λ (z : WorkContent). why_not_look c.self.inside.table z.history c.args.tx.0 c.args.key.table (Key c.args.key)) (c.prepare.ensures.same c.args.tx.0) ∙ sym c.not_looked.ensures ∙ c.in_default.is) c.shown-seen.result c.shown-seen.ensures
-          c.depend.new.table c.in_ok-depend.ensures.ok c.tell.new.self
-          (record { next = c.in_ok-next.next; prepared = c.in_ok-next.ensures.next; told = c.tell.ensures.told })));
-      waiting = waits_alike f.table c.depend.new.table f.versions.slots f.waiting (alike_depending f.table c.depend.new.table c.args.tx (option_to_list c.shown-seen.result.depends_on) c.in_ok-depend.ensures.ok) c.self.invariant.waiting;
+          whole_stands_on i (CoreCall (Do c.args.tx.0 (Read c.args.key))) Accepted (record old { table = c.do_at_key.new.table; works = c.do_at_key.new.works })
+          (let looks = may_look_whole i.opening i.steps i.own i.whole old i.stands c.args.tx.0 (Read c.args.key) c.args.key.table (Key c.args.key) refl (sym c.not_looked.ensures ∙ c.in_default.is) in
+          look_leads i.opening i.steps i.own i.whole old i.stands c.args.tx.0 (Read c.args.key) c.args.key.table (Key c.args.key) refl (sym c.not_looked.ensures ∙ c.in_default.is) _
+          (read_leads (readers_of i.whole) i.opening i.own i.whole.core old i.stands.core c.args.tx c.args.key looks (sym c.not_looked.ensures ∙ c.in_default.is) c.shown-seen.result c.shown-seen.ensures
+          c.do_at_key.new.table c.in_ok-answer.ensures.depends c.do_at_key.new.works c.in_ok-answer.ensures.told));
+      waiting = waits_alike f.table c.do_at_key.new.table f.versions.slots f.waiting (alike_depending f.table c.do_at_key.new.table c.args.tx (option_to_list c.shown-seen.result.depends_on) c.in_ok-answer.ensures.depends) c.self.invariant.waiting;
     }
 
 pub returns-clause-step : goal.returns-clause-step
 returns-clause-step c = λ opening steps s h.
-    let f = c.self.inside in
-    let old : CoreData = core_data f in
-    let now : CoreData = record old { works = c.prepare.new.works } in
-    read_leads no_readers opening steps s now (stands_same_works no_readers opening steps s old (subst (StandsFor opening steps s) (sym c.self.view_is) h) c.prepare.new.works c.prepare.ensures.same) c.args.tx c.args.key tt (ap (λ (z : WorkContent). why_not_look c.self.inside.table z.history c.args.tx.0 c.args.key.table (Key c.args.key)) (c.prepare.ensures.same c.args.tx.0) ∙ sym c.not_looked.ensures ∙ c.in_default.is) c.shown-seen.result c.shown-seen.ensures
-    c.depend.new.table c.in_ok-depend.ensures.ok c.tell.new.self
-    (record { next = c.in_ok-next.next; prepared = c.in_ok-next.ensures.next; told = c.tell.ensures.told })
+    let old : CoreData = core_data c.self.inside in
+    read_leads no_readers opening steps s old (subst (StandsFor opening steps s) (sym c.self.view_is) h) c.args.tx c.args.key tt (sym c.not_looked.ensures ∙ c.in_default.is) c.shown-seen.result c.shown-seen.ensures
+    c.do_at_key.new.table c.in_ok-answer.ensures.depends c.do_at_key.new.works c.in_ok-answer.ensures.told
 
 pub returns-clause-answer : goal.returns-clause-answer
 returns-clause-answer c = λ opening steps s h.
-    let f = c.self.inside in
-    let old : CoreData = core_data f in
-    let now : CoreData = record old { works = c.prepare.new.works } in
-    read_answers no_readers opening steps s now (stands_same_works no_readers opening steps s old (subst (StandsFor opening steps s) (sym c.self.view_is) h) c.prepare.new.works c.prepare.ensures.same) c.args.tx c.args.key tt (ap (λ (z : WorkContent). why_not_look c.self.inside.table z.history c.args.tx.0 c.args.key.table (Key c.args.key)) (c.prepare.ensures.same c.args.tx.0) ∙ sym c.not_looked.ensures ∙ c.in_default.is) c.shown-seen.result c.shown-seen.ensures c.in_ok-next.next c.in_ok-next.ensures.next (answer_data c.tell.result) c.tell.ensures.answer
+    let old : CoreData = core_data c.self.inside in
+    read_answers no_readers opening steps s old (subst (StandsFor opening steps s) (sym c.self.view_is) h) c.args.tx c.args.key tt (sym c.not_looked.ensures ∙ c.in_default.is) c.shown-seen.result c.shown-seen.ensures (answer_data c.in_ok-answer.answer) c.in_ok-answer.ensures.answer
 
 -- ---- beside read-only ones
 pub returns-in-Some-clause-whole : goal.returns-in-Some-clause-whole
@@ -162,34 +122,18 @@ returns-in-Some-clause-whole c = λ opening steps own w h.
     (ap (λ (x : CoreData). why_not_look x.table (done_in x.works c.args.tx.0) c.args.tx.0 c.args.key.table (Key c.args.key)) (sym c.self.view_is) ∙ sym c.not_looked.ensures ∙ c.in-Some.is) c.give_up.new.self
     (c.give_up.ensures.left (readers_of w) opening own w.core other h.core)))
 
-pub returns-in_err-depend-clause-whole : goal.returns-in_err-depend-clause-whole
-returns-in_err-depend-clause-whole c = λ opening steps own w h.
-    let f = c.self.inside in
-    let old : CoreData = core_data f in
-    let now : CoreData = record old { works = c.prepare.new.works } in
-    let g : StandsWhole opening steps own w now = whole_same_works opening steps own w old (subst (StandsWhole opening steps own w) (sym c.self.view_is) h) c.prepare.new.works c.prepare.ensures.same in
-    let looks = may_look_whole opening steps own w now g c.args.tx.0 (Read c.args.key) c.args.key.table (Key c.args.key) refl (ap (λ (z : WorkContent). why_not_look c.self.inside.table z.history c.args.tx.0 c.args.key.table (Key c.args.key)) (c.prepare.ensures.same c.args.tx.0) ∙ sym c.not_looked.ensures ∙ c.in_default.is) in
-    subst (λ r. LeadsWhole opening steps own w (CoreCall (Do c.args.tx.0 (Read c.args.key))) r (record now { table = c.depend.new.table })) (came_spent c.from_residual-in_err-depend.result c.from_residual-in_err-depend.ensures.1)
-    (look_spent opening steps own w now g c.args.tx.0 (Read c.args.key) c.args.key.table (Key c.args.key) refl (ap (λ (z : WorkContent). why_not_look c.self.inside.table z.history c.args.tx.0 c.args.key.table (Key c.args.key)) (c.prepare.ensures.same c.args.tx.0) ∙ sym c.not_looked.ensures ∙ c.in_default.is) _
-    (read_spent_roomy (readers_of w) opening own w.core now g.core c.args.tx c.args.key looks (ap (λ (z : WorkContent). why_not_look c.self.inside.table z.history c.args.tx.0 c.args.key.table (Key c.args.key)) (c.prepare.ensures.same c.args.tx.0) ∙ sym c.not_looked.ensures ∙ c.in_default.is) c.depend.new.table c.in_err-depend.ensures.err))
-
 pub returns-clause-whole : goal.returns-clause-whole
 returns-clause-whole c = λ opening steps own w h.
-    let f = c.self.inside in
-    let old : CoreData = core_data f in
-    let now : CoreData = record old { works = c.prepare.new.works } in
-    let g : StandsWhole opening steps own w now = whole_same_works opening steps own w old (subst (StandsWhole opening steps own w) (sym c.self.view_is) h) c.prepare.new.works c.prepare.ensures.same in
-    let looks = may_look_whole opening steps own w now g c.args.tx.0 (Read c.args.key) c.args.key.table (Key c.args.key) refl (ap (λ (z : WorkContent). why_not_look c.self.inside.table z.history c.args.tx.0 c.args.key.table (Key c.args.key)) (c.prepare.ensures.same c.args.tx.0) ∙ sym c.not_looked.ensures ∙ c.in_default.is) in
-    look_leads opening steps own w now g c.args.tx.0 (Read c.args.key) c.args.key.table (Key c.args.key) refl (ap (λ (z : WorkContent). why_not_look c.self.inside.table z.history c.args.tx.0 c.args.key.table (Key c.args.key)) (c.prepare.ensures.same c.args.tx.0) ∙ sym c.not_looked.ensures ∙ c.in_default.is) _
-    (read_leads (readers_of w) opening own w.core now g.core c.args.tx c.args.key looks (ap (λ (z : WorkContent). why_not_look c.self.inside.table z.history c.args.tx.0 c.args.key.table (Key c.args.key)) (c.prepare.ensures.same c.args.tx.0) ∙ sym c.not_looked.ensures ∙ c.in_default.is) c.shown-seen.result c.shown-seen.ensures
-    c.depend.new.table c.in_ok-depend.ensures.ok c.tell.new.self
-    (record { next = c.in_ok-next.next; prepared = c.in_ok-next.ensures.next; told = c.tell.ensures.told }))
+    let old : CoreData = core_data c.self.inside in
+    let g : StandsWhole opening steps own w old = subst (StandsWhole opening steps own w) (sym c.self.view_is) h in
+    let looks = may_look_whole opening steps own w old g c.args.tx.0 (Read c.args.key) c.args.key.table (Key c.args.key) refl (sym c.not_looked.ensures ∙ c.in_default.is) in
+    look_leads opening steps own w old g c.args.tx.0 (Read c.args.key) c.args.key.table (Key c.args.key) refl (sym c.not_looked.ensures ∙ c.in_default.is) _
+    (read_leads (readers_of w) opening own w.core old g.core c.args.tx c.args.key looks (sym c.not_looked.ensures ∙ c.in_default.is) c.shown-seen.result c.shown-seen.ensures
+    c.do_at_key.new.table c.in_ok-answer.ensures.depends c.do_at_key.new.works c.in_ok-answer.ensures.told)
 
 pub returns-clause-whole_answer : goal.returns-clause-whole_answer
 returns-clause-whole_answer c = λ opening steps own w h.
-    let f = c.self.inside in
-    let old : CoreData = core_data f in
-    let now : CoreData = record old { works = c.prepare.new.works } in
-    let g : StandsWhole opening steps own w now = whole_same_works opening steps own w old (subst (StandsWhole opening steps own w) (sym c.self.view_is) h) c.prepare.new.works c.prepare.ensures.same in
-    let looks = may_look_whole opening steps own w now g c.args.tx.0 (Read c.args.key) c.args.key.table (Key c.args.key) refl (ap (λ (z : WorkContent). why_not_look c.self.inside.table z.history c.args.tx.0 c.args.key.table (Key c.args.key)) (c.prepare.ensures.same c.args.tx.0) ∙ sym c.not_looked.ensures ∙ c.in_default.is) in
-    read_answers (readers_of w) opening own w.core now g.core c.args.tx c.args.key looks (ap (λ (z : WorkContent). why_not_look c.self.inside.table z.history c.args.tx.0 c.args.key.table (Key c.args.key)) (c.prepare.ensures.same c.args.tx.0) ∙ sym c.not_looked.ensures ∙ c.in_default.is) c.shown-seen.result c.shown-seen.ensures c.in_ok-next.next c.in_ok-next.ensures.next (answer_data c.tell.result) c.tell.ensures.answer
+    let old : CoreData = core_data c.self.inside in
+    let g : StandsWhole opening steps own w old = subst (StandsWhole opening steps own w) (sym c.self.view_is) h in
+    let looks = may_look_whole opening steps own w old g c.args.tx.0 (Read c.args.key) c.args.key.table (Key c.args.key) refl (sym c.not_looked.ensures ∙ c.in_default.is) in
+    read_answers (readers_of w) opening own w.core old g.core c.args.tx c.args.key looks (sym c.not_looked.ensures ∙ c.in_default.is) c.shown-seen.result c.shown-seen.ensures (answer_data c.in_ok-answer.answer) c.in_ok-answer.ensures.answer
