@@ -322,8 +322,11 @@ impl WorkContent {
 
     /// The operation with its answer where others show these rows in its entry, and room for it,
     /// so that telling it takes no memory. Until it is told, nothing is done.
+    ///
+    /// Each caller names a type of its own, `By`: so the compiler makes it for each apart, and
+    /// leaves out what the caller's kind of operation doesn't need.
     #[inline(always)]
-    pub fn prepare(&mut self, op: Op, others: RowsShown) -> Result<NextOperation, AllocError>
+    pub fn prepare<By>(&mut self, op: Op, others: RowsShown) -> Result<NextOperation, AllocError>
         requires { AreRowsOf (entry_of op) (rows_in others) }
         ensures next { IfOk result (IsPreparedFor self.old op (rows_in others)) }
         ensures same { work_in self.new ≡ work_in self.old }
@@ -332,9 +335,12 @@ impl WorkContent {
         let answer = self.next_answer(&op, &others)?;
         let told = answer_again(*self.operations.allocator(), &answer)?;
         let write = write_of(&op, &told)?;
-        self.make_room()?;
         let alloc = *self.operations.allocator();
-        NextOperation::new(alloc, op, others, answer, told, write)
+        let next = NextOperation::new(alloc, op, others, answer, told, write)?;
+        match self.make_room() {
+            Ok(()) => Ok(next),
+            Err(e) => Err(e),
+        }
     }
 
     /// Does the operation that was prepared, and answers what it is answered. It takes no memory.
@@ -375,9 +381,9 @@ impl WorkContent {
     {
         let answer = self.next_answer(&op, &others)?;
         let told = answer_again(*self.operations.allocator(), &answer)?;
-        let write = write_of(&op, &told)?;
+        let written = write_of(&op, &told)?;
         self.make_room()?;
-        self.add(op, others, told, write);
+        self.add(op, others, told, written);
         Ok(answer)
     }
 }

@@ -64,9 +64,10 @@ impl Works {
     }
 
     /// The operation of the transaction with its answer where others show these rows in its entry,
-    /// and room for it, so that telling it takes no memory. Until it is told, nothing is done.
+    /// and room for it, so that telling it takes no memory. Until it is told, nothing is done. Of
+    /// `By` see `WorkContent::prepare`.
     #[inline(always)]
-    pub fn prepare(
+    pub fn prepare<By>(
         &mut self,
         id: TxId,
         op: Op,
@@ -76,12 +77,9 @@ impl Works {
         ensures same { HaveSameWorks self.old self.new }
         ensures next { IfOk result (IsPreparedAt self.new id.0 op (rows_in others)) }
     {
-        if let Some(content) = self.held.get_mut(&id.0) {
-            return content.prepare(op, others);
-        }
-        self.make_work(id)?;
+        self.see_to_work(id)?;
         match self.held.get_mut(&id.0) {
-            Some(content) => content.prepare(op, others),
+            Some(content) => content.prepare::<By>(op, others),
             None => unreachable!(),
         }
     }
@@ -115,10 +113,10 @@ impl Works {
         ensures same { HaveSameWorks self.old self.new }
         ensures there { OnOk result (IsSome (done_at self.new id.0)) }
     {
-        if self.held.contains_key(&id.0) {
-            return Ok(());
+        match self.held.contains_key(&id.0) {
+            true => Ok(()),
+            false => self.make_work(id),
         }
-        self.make_work(id)
     }
 
     /// A work in which nothing is done lies there, unless one does.
@@ -202,7 +200,8 @@ impl Works {
         ensures { HasWorkFor self.old self.new id.0 empty_work }
     {
         self.keep(taken.into_content());
-        if self.held.contains_key(&id.0) {
+        let is_left = self.held.contains_key(&id.0);
+        if is_left {
             let content = self.take(id);
             self.keep(content);
         }

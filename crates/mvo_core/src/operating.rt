@@ -17,7 +17,7 @@ use crate::collecting::{has_open_end, owe_end};
 use crate::depending::{depend, make_room, write};
 use crate::event_core::Core;
 use crate::kept_transaction::Table;
-use crate::preparing::{do_at_key, prepare, prepare_insert, prepare_update};
+use crate::preparing::{Deleting, do_at_key, prepare, prepare_insert, prepare_update};
 use crate::refusing::{not_looked, not_put, not_removed};
 use mvo_chain::VersionNo;
 use mvo_txn::Located;
@@ -156,7 +156,7 @@ impl Core {
             return Err(self.give_up(tx, Refusal::WriteConflict(cause)));
         }
         let versions = &self.versions;
-        let next = prepare(
+        let next = prepare::<Deleting>(
             &mut self.works,
             versions,
             tx.id,

@@ -1,5 +1,5 @@
 //! An operation on a key, prepared for the work of its transaction.
-ghost use Rattle.std.specs.Prelude.{◌≡◌, IfOk, OnOk, OnErr};
+ghost use Rattle.std.specs.Prelude.{◌≡◌, ◌∷◌, [], IfOk, OnOk, OnErr};
 ghost use Rattle.std.specs.Option.{option_to_list};
 ghost use Rattle.mvo_types.specs.declared.entry.Entry.TheVariants.{Key};
 ghost use Rattle.mvo_theory.specs.Entries.{entry_of};
@@ -21,10 +21,25 @@ use mvo_types::{Answer, Op, Row, TxId};
 use mvo_versions::Versions;
 use std::alloc::AllocError;
 
+/// Who prepares an insert.
+struct Inserting {}
+
+/// An update.
+struct Updating {}
+
+/// A delete.
+pub struct Deleting {}
+
+/// A scan.
+pub struct Scanning {}
+
+/// One that depends on another.
+struct Waiting {}
+
 /// The operation on a key, with its answer where others show the row of this version there, and
 /// room for it. Until it is told, nothing is done.
 #[inline(always)]
-pub fn prepare(
+pub fn prepare<By>(
     works: &mut Works,
     versions: &Versions,
     id: TxId,
@@ -37,7 +52,7 @@ pub fn prepare(
         (option_to_list (row_shown versions.now.slots number))) }
 {
     let others = rows_of(row_at(versions, number)?);
-    works.prepare(id, op, others)
+    works.prepare::<By>(id, op, others)
 }
 
 /// Does an operation on a key where others show the row of this version there, and lets the
@@ -65,11 +80,36 @@ pub fn do_at_key(
     ensures same { OnErr result (HaveSameWorks works.old works.new) }
     ensures alone { OnErr result (table.new ≡ table.old) }
 {
-    let others = rows_of(row_at(versions, number)?);
+    let row = row_at(versions, number)?;
+    let others = rows_of(row);
     let Some(on) = on else {
         return Ok(works.do_operation(tx.id, op, others)?);
     };
-    let next = works.prepare(tx.id, op, others)?;
+    do_depending(works, table, tx, op, others, on)
+}
+
+/// The same of one that depends on the other. That is seldom, so it lies apart.
+#[inline(never)]
+fn do_depending(
+    works: &mut Works,
+    table: &mut Table,
+    tx: Located,
+    op: Op,
+    others: RowsShown,
+    on: TxId,
+) -> Result<Answer, AllocError>
+    requires unfinished { IsUnfinished table.old tx.id }
+    requires work { MayBeKept works.old tx.id.0 op (rows_in others) }
+    ensures told { OnOk result (HasWorkFor works.old works.new tx.id.0
+        (after_op (works_in works.old tx.id.0) op (rows_in others))) }
+    ensures answer { IfOk result (λ a. answer_data a
+        ≡ answer_of_work (works_in works.old tx.id.0) op (rows_in others)) }
+    ensures depends { OnOk result
+        (table.new ≡ after_register_all table.old tx.id (on ∷ [])) }
+    ensures same { OnErr result (HaveSameWorks works.old works.new) }
+    ensures alone { OnErr result (table.new ≡ table.old) }
+{
+    let next = works.prepare::<Waiting>(tx.id, op, others)?;
     register(table, tx, on)?;
     Ok(works.tell(tx.id, next))
 }
@@ -89,7 +129,7 @@ pub fn prepare_insert(
         (option_to_list (row_shown versions.now.slots number))) }
 {
     let op = Op::Insert(row.copy()?);
-    prepare(works, versions, id, op, number)
+    prepare::<Inserting>(works, versions, id, op, number)
 }
 
 /// The same of an update to the row.
@@ -107,7 +147,7 @@ pub fn prepare_update(
         (option_to_list (row_shown versions.now.slots number))) }
 {
     let op = Op::Update(row.copy()?);
-    prepare(works, versions, id, op, number)
+    prepare::<Updating>(works, versions, id, op, number)
 }
 
 /// The row of a key, if there is one, as the rows of its entry.

@@ -11,6 +11,7 @@ ghost use Rattle.mvo_core.specs.Scanning.{is_met_at_place, with_named, IsScanned
 use crate::event_core::Core;
 use crate::kept_transaction::Table;
 use crate::others::others_shown;
+use crate::preparing::Scanning;
 use crate::refusing::not_looked;
 use mvo_chain::VersionNo;
 use mvo_content::RowsShown;
@@ -76,7 +77,9 @@ impl Core {
             rows,
         )?;
         let op = Op::Scan(table, lo, hi);
-        let next = self.works.prepare(tx.id, op, RowsShown::Many(others))?;
+        let next = self
+            .works
+            .prepare::<Scanning>(tx.id, op, RowsShown::Many(others))?;
         register_all(&mut self.table, tx, &on)?;
         Ok(self.works.tell(tx.id, next))
     }
