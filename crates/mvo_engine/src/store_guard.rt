@@ -118,11 +118,11 @@ impl<'e, L: Run, D: Disk> StoreGuard<'e, L, D> {
     }
 
     /// The next slice of a data file, of the places, of two pairs that are to be merged, of a
-    /// segment that a checkpoint is made of, or of a long file that nobody names, as
+    /// segment that a checkpoint is made of, or of a long file that nobody names: as
     /// `Store::checkpoint_slice`, `Store::merge_slice`, `Store::place_slice`,
-    /// `Store::merge_read_slice`, `Store::checkpoint_read_slice` and `Store::shorten_slice`: whether
-    /// more are left. More comes with `Store::merge_begin` and `Store::checkpoint_begin`, and Ready
-    /// with `Store::merge_forget` and `Store::checkpoint_forget`.
+    /// `Store::merge_read_slice`, `Store::checkpoint_read_slice` and `Store::shorten_slice`. It
+    /// answers whether more are left. More comes with `Store::merge_begin` and
+    /// `Store::checkpoint_begin`, Ready with `Store::merge_forget` and `Store::checkpoint_forget`.
     pub fn slice(&mut self, slice: Slice) -> Result<Progress, Refusal>
         ensures { IsLockedSlice D.Disk self.old slice result self.new }
     {

@@ -5,7 +5,7 @@ ghost use Rattle.mvo_disk.specs.Disk.{IsHonest};
 ghost use Rattle.mvo_disk.specs.Disk.{Only, AllOf, AllStay, OthersStay, LeavesOnly, Touched, Counts};
 ghost use Rattle.mvo_store.specs.Calls.StoreStep.{Shorten};
 ghost use Rattle.mvo_store.specs.Calls.{IsStoreStep};
-ghost use Rattle.mvo_store.specs.Reclaiming.{IsUnused, IsShort, IsLeastLong, HasShortened};
+ghost use Rattle.mvo_store.specs.Reclaiming.{IsUnused, IsNoLonger, IsLeastLong, HasShortened};
 
 use crate::files::is_named;
 use crate::jobs::jobs::Jobs;
@@ -27,10 +27,11 @@ fn long_len<D: Disk>(
     requires first { FIRST_FILE ≤ file }
     requires last { file ≤ MAX_FILE }
     requires room { D.fault_count disk.old + 1 < 2 ^ 64 }
-    ensures unused { IfOk result (λ found. IfSome found (λ _. IsUnused manifest.now jobs.now file)) }
+    ensures unused { IfOk result (λ found. IfSome found (λ _.
+        IsUnused manifest.now jobs.now file)) }
     ensures more { IfOk result (λ found. IfSome found (λ len. CUT_A_SLICE < len)) }
     ensures long { IfOk result (λ found. IsHonest (D.moment disk.new) → MatchOption found
-        (IsShort (D.content disk.old) manifest.now jobs.now file)
+        (IsNoLonger (D.content disk.old) manifest.now jobs.now file)
         (λ len. len ≡ length (D.content disk.old file))) }
     ensures rest { AllStay (D.content disk.old) (D.content disk.new) (D.may_leave disk.old)
         (D.may_leave disk.new) }
@@ -59,7 +60,7 @@ fn least_long<D: Disk>(
         IsUnused manifest.now jobs.now x.0)) }
     ensures more { IfOk result (λ found. IfSome found (λ x. CUT_A_SLICE < x.1)) }
     ensures least { IfOk result (λ found. IsHonest (D.moment disk.new) → MatchOption found
-        ((n : ℕ) → IsShort (D.content disk.old) manifest.now jobs.now n)
+        ((n : ℕ) → IsNoLonger (D.content disk.old) manifest.now jobs.now n)
         (λ x. IsLeastLong (D.content disk.old) manifest.now jobs.now x.0 x.1)) }
     ensures rest { AllStay (D.content disk.old) (D.content disk.new) (D.may_leave disk.old)
         (D.may_leave disk.new) }

@@ -120,7 +120,7 @@ pub fn do_jobs<L: Run, D: Disk, G: Gate + Drop, R: Abort + Wait>(
     Ok(())
 }
 
-// A rotation takes the lock of the store six times: once for each step, once for the long files that
+// A rotation takes the lock of the store six times: once for each step, once for long files that
 // nobody names, of which there is none, and once for the places, of which it puts none.
 fn rotate_by_six<L: Run, D: Disk, G: Gate + Drop, R: Abort + Wait>(
     rt: &R,

@@ -32,7 +32,7 @@ returns-clause-refused g c = λ honest upto mark h.
     let content = g.D.Disk.content in
     let file = c.args.reader.now.file in
     let told = reads_only upto mark _ _ (content c.args.disk.now file) c.deref.result.now c.read_near.new.reader (near.on upto mark h) (λ honest. c.in-Ok.ensures.read.any_moment.later.honest honest)
-        (λ honest. c.deref.ensures.value ∙ c.in-Ok.ensures.bytes honest ∙ ap (λ (n : ℕ). take MAX_FRAME_LEN (drop c.gate-gate.result (content c.read_near.new.disk n))) (c.file-file.ensures ∙ near.file) ∙ ap (λ (l : List ℕ). take MAX_FRAME_LEN (drop c.gate-gate.result l)) (near.read.rest.content file) ∙ ap (λ (n : ℕ). take MAX_FRAME_LEN (drop n (content c.args.disk.now file))) c.gate-gate.ensures.value)
-        c.read_near.new.reader.file c.in-Err-more.e (λ all is w. c.in-Err-more.ensures.refused upto mark all is w) honest
+    (λ honest. c.deref.ensures.value ∙ c.in-Ok.ensures.bytes honest ∙ ap (λ (n : ℕ). take MAX_FRAME_LEN (drop c.gate-gate.result (content c.read_near.new.disk n))) (c.file-file.ensures ∙ near.file) ∙ ap (λ (l : List ℕ). take MAX_FRAME_LEN (drop c.gate-gate.result l)) (near.read.rest.content file) ∙ ap (λ (n : ℕ). take MAX_FRAME_LEN (drop n (content c.args.disk.now file))) c.gate-gate.ensures.value)
+    c.read_near.new.reader.file c.in-Err-more.e (λ all is w. c.in-Err-more.ensures.refused upto mark all is w) honest
     in
     subst (λ (n : ℕ). IsStopOrOnly upto n mark (content c.args.disk.now file) c.in-Err-more.e) near.file told

@@ -1,6 +1,6 @@
 use Rattle.std.proofs.Common.{◌-◌, ◌≡◌, ◌<◌, ◌≤◌, ℕ}
 use Rattle.mvo_disk.specs.Disk.{AllOf, AllStay, LeavesOnly, IsHonest}
-use Rattle.mvo_store.specs.Reclaiming.{IsShort}
+use Rattle.mvo_store.specs.Reclaiming.{IsNoLonger}
 use Rattle.mvo_store.proofs.shortening.least_long.Given as goal
 
 abbrev pub invariant-loop-file : goal.invariant-loop-file
@@ -13,7 +13,7 @@ invariant-loop-file g l =
       rest : AllStay (d.content old) (d.content l.disk) (d.may_leave old) (d.may_leave l.disk);
       any_moment : LeavesOnly d.moment d.left_since old l.disk (AllOf (d.may_leave old));
       count : d.fault_count l.disk ≡ d.fault_count old;
-      none : IsHonest (d.moment l.disk) → (k : ℕ) → k < l.file → IsShort (d.content old) l.fn.manifest l.fn.jobs k;
+      none : IsHonest (d.moment l.disk) → (k : ℕ) → k < l.file → IsNoLonger (d.content old) l.fn.manifest l.fn.jobs k;
     }
 
 abbrev pub decreases-loop-file : goal.decreases-loop-file
