@@ -66,7 +66,7 @@ fn slices_are_read_as_the_file(rt: HostRuntime) -> Result<(), Fail> {
     let data = disk.bytes(4);
     for (records, bytes) in SLICES {
         let found = count_by(alloc, pair(COUNT, 1), data, &THIRD, records, bytes);
-        same(&rt, &found, &Ok(1_019));
+        same(&rt, &found, &Ok(65));
     }
     Ok(())
 }
