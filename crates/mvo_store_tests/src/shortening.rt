@@ -27,9 +27,10 @@ const THEN_EMPTIED: [(Step, Reply); 3] = [
 
 #[test]
 fn long_files_are_cut_by_slices(rt: HostRuntime) -> Result<(), Fail> {
-    let bytes = vec![in rt.alloc(); 0x61u8; LONG]?;
-    let disk = written(new_disk(rt.alloc())?, 5, &bytes[..SLICE])?;
-    let disk = written(disk, 7, &bytes)?;
+    let short = vec![in rt.alloc(); 0x61u8; SLICE]?;
+    let long = vec![in rt.alloc(); 0x61u8; LONG]?;
+    let disk = written(new_disk(rt.alloc())?, 5, &short)?;
+    let disk = written(disk, 7, &long)?;
     let mut store = store_on(&rt, rt.alloc(), disk)?;
     follow(&rt, rt.alloc(), &mut store, &CUT_IN_TWO)?;
     let disk = store.into_disk();
